@@ -1,0 +1,9 @@
+pub mod Laws
+pub mod Ring
+pub mod Square
+pub mod Sum
+pub mod Minkowski
+pub mod Pair
+pub mod Dot
+pub mod Range
+pub mod Word

@@ -1,0 +1,44 @@
+-- Signed numbers of 64 bits: a number below 2^63 in size is held, and is read back from its bits.
+use mathlib.Core.Path.{_≡_, sym, ap, _∙_}
+use Prim.Native.Nat.{ℕ, _<_, _≤_, _^_}
+use native.Mathlib.Nat.{not-suc-le-zero}
+use native.Mathlib.Omega.{arith}
+use lib.IntN.{ℤ, pos, negsuc, natAbs, negℤ, _-ℤ_, +ℤ-idl}
+use lib.Dec.{T}
+use lib.Signed.{mag, ltZ, nonNeg}
+use mathlib.Core.Bool.{Bool, true, false, true≢false}
+use borrow.Author.Tests.{ltb-true}
+use mir.Syntax.{w64}
+use mir.Val.{SFits, toZ, ofZ}
+use mir.Facts.{toZ-ofZ}
+use Rattle.integer.specs.Laws.{natAbs-negℤ}
+
+pub mag-le : (z : ℤ) → mag z ≤ natAbs z
+mag-le (pos n) = omega arith
+mag-le (negsuc n) = omega arith
+
+pub held : (z : ℤ) → natAbs z < 2 ^ 63 → SFits w64 z
+held z h = record { sfits = omega (arith, mag-le z) }
+
+pub read-back : (z : ℤ) → natAbs z < 2 ^ 63 → toZ w64 (ofZ w64 z) ≡ z
+read-back z h = toZ-ofZ (held z h)
+
+-- 0 − z, as the machine negates
+pub negated-held : (z : ℤ) → natAbs z < 2 ^ 63 → SFits w64 (pos 0 -ℤ z)
+negated-held z h = rw +ℤ-idl (held (negℤ z) (rw natAbs-negℤ h))
+
+pub negated : (z : ℤ) → natAbs z < 2 ^ 63 → toZ w64 (ofZ w64 (pos 0 -ℤ z)) ≡ negℤ z
+negated z h = toZ-ofZ (negated-held z h) ∙ +ℤ-idl (negℤ z)
+
+-- What the test z < 0 tells of the sign
+pub negative-flips : (z : ℤ) → ltZ z (pos 0) ≡ true → T (nonNeg (negℤ z))
+negative-flips (pos n) e = absurd (not-suc-le-zero (ltb-true n 0 e))
+negative-flips (negsuc n) e = tt
+
+pub not-negative : (z : ℤ) → ltZ z (pos 0) ≡ false → T (nonNeg z)
+not-negative (pos n) e = tt
+not-negative (negsuc n) e = absurd (true≢false e)
+
+-- a number whose bits are 0 is 0
+pub zero-bits : (z : ℤ) → SFits w64 z → ofZ w64 z ≡ 0 → z ≡ pos 0
+zero-bits z f e = sym (toZ-ofZ f) ∙ ap (toZ w64) e

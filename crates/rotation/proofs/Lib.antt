@@ -1,0 +1,4 @@
+mod Chosen
+mod Combination
+mod Power
+mod Search

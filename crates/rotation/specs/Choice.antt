@@ -1,0 +1,31 @@
+-- Document 01, 'Choosing a turn': which turn a pair p < q gets, from a_pp, a_qq and a_pq.
+use Prim.Native.Nat.{ℕ, zero, suc, _*_, _^_}
+use mathlib.Core.Bool.{Bool, true, false, cond, Bool·beq}
+use lib.Dec.{leb, eqb}
+use lib.IntN.{ℤ, pos, negsuc, natAbs, _-ℤ_}
+use Rattle.rotation.specs.Threshold.{threshold}
+use Rattle.rotation.specs.declared.choice.Choice.{Choice}
+use Rattle.rotation.specs.declared.choice.Choice.the-variants.{NoTurn, Turn}
+
+-- y × 2^24 ≥ T_l × g
+unfoldable pub fits : ℕ → ℕ → ℕ → Bool
+fits y g l = leb (threshold l * g) (y * 2 ^ 24)
+
+-- the smallest l that fits, of `left` ones from `l` on; if none fits, no turn
+unfoldable pub smallest : ℕ → ℕ → Bool → ℕ → ℕ → Choice
+smallest y g minus l zero = NoTurn
+smallest y g minus l (suc left) = cond (fits y g l) (Turn l minus) (smallest y g minus (suc l) left)
+
+unfoldable pub negative : ℤ → Bool
+negative (pos z) = false
+negative (negsuc z) = true
+
+-- The sign f is +1 if exactly one of a_pq and a_qq − a_pp is negative, else −1: whether f is −1
+unfoldable pub minusSign : ℤ → ℤ → Bool
+minusSign apq difference = Bool·beq (negative apq) (negative difference)
+
+-- a_pq = 0: no turn. Otherwise the smallest l from 1 to 14, with y = 2×|a_pq| and g = |a_qq − a_pp|
+unfoldable pub choose : ℤ → ℤ → ℤ → Choice
+choose app aqq apq =
+    cond (eqb (natAbs apq) 0) NoTurn
+    (smallest (2 * natAbs apq) (natAbs (aqq -ℤ app)) (minusSign apq (aqq -ℤ app)) 1 14)

@@ -1,0 +1,5 @@
+pub mod Size
+pub mod Threshold
+pub mod Choice
+pub mod Rotation
+pub mod Turn
