@@ -5,5 +5,6 @@ pub mod Sum
 pub mod Minkowski
 pub mod Pair
 pub mod Dot
+pub mod Matrix
 pub mod Range
 pub mod Word

@@ -23,6 +23,9 @@ held z h = record { sfits = omega (arith, mag-le z) }
 pub read-back : (z : ℤ) → natAbs z < 2 ^ 63 → toZ w64 (ofZ w64 z) ≡ z
 read-back z h = toZ-ofZ (held z h)
 
+pub word : {x y : ℤ} → SFits w64 x → x ≡ y → toZ w64 (ofZ w64 x) ≡ y
+word f e = toZ-ofZ f ∙ e
+
 -- 0 − z, as the machine negates
 pub negated-held : (z : ℤ) → natAbs z < 2 ^ 63 → SFits w64 (pos 0 -ℤ z)
 negated-held z h = rw +ℤ-idl (held (negℤ z) (rw natAbs-negℤ h))

@@ -1,4 +1,9 @@
+mod Block
 mod Chosen
 mod Combination
+mod Pass
+mod Placed
 mod Power
+mod Rows
 mod Search
+mod Whole

@@ -1,5 +1,14 @@
-pub mod Size
 pub mod Threshold
 pub mod Choice
 pub mod Rotation
 pub mod Turn
+pub mod Place
+pub mod Eight
+pub mod Shape
+pub mod Size
+pub mod Rows
+pub mod Exact
+pub mod Symmetry
+pub mod Rounded
+pub mod Error
+pub mod Norm

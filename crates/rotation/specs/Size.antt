@@ -1,7 +1,57 @@
 -- The sizes for which the choice and the turn are proved not to wrap.
-use Prim.Native.Nat.{ℕ, _+_, _^_}
+use mathlib.Core.Path.{_≡_}
+use Prim.Native.Nat.{ℕ, _+_, _*_, _/_, _<_, _≤_, _^_}
+use mathlib.Core.Bool.{Bool, true, false, _&&_}
+use mathlib.Core.List.{List}
+use lib.IntN.{ℤ, natAbs}
+use lib.Dec.{T, ltb, ltb→lt}
+use mir.Facts.{and-yes}
+use Rattle.rotation.specs.Rotation.{rotationOf, signed}
+use Rattle.rotation.specs.Threshold.{from-1-to-14}
+use Rattle.rotation.specs.Turn.{at}
+use Rattle.rotation.specs.declared.pair.Rotation.{Rotation}
 
--- The largest entry: of a matrix of 8 by 8 entries of up to 2^31 units, after 448 turns that each move it by less than 4 units. Document 01's entries
--- are at most 2^30 units; the room above is for a limit twice as large.
+-- The largest entry: 8 × 2^31 for a matrix of 8 by 8 entries of up to 2^31 units, and 4 for each of 448 turns. Document 01's entries are at most
+-- 2^30 units; the room above is for a limit twice as large.
 abbrev pub widest : ℕ
 widest = 2 ^ 34 + 1792
+
+pub record Small (a : List (List ℤ)) : Type 0 where
+  pub small : (i j : ℕ) → natAbs (at a i j) ≤ widest
+
+pub record Symmetric (a : List (List ℤ)) : Type 0 where
+  pub mirror : (i j : ℕ) → at a i j ≡ at a j i
+
+-- |c| + |s|
+abbrev pub weight : Rotation → ℕ
+weight r = natAbs (r .c) + natAbs (r .s)
+
+-- the largest entry after a pass over entries of size k
+unfoldable pub passed : Rotation → ℕ → ℕ
+passed r k = (weight r * k + r .n / 2) / r .n
+
+-- two passes over entries of up to `widest` don't wrap
+pub record Turns (r : Rotation) : Type 0 where
+  pub positive : 0 < r .n
+  pub first-pass : weight r * widest + r .n < 2 ^ 63
+  pub second-pass : weight r * passed r widest + r .n < 2 ^ 63
+
+-- Document 01's rotations are of that kind: one computed test for each l and sign
+turns? : Rotation → Bool
+turns? r = ltb 0 (r .n) && (ltb (weight r * widest + r .n) (2 ^ 63) && ltb (weight r * passed r widest + r .n) (2 ^ 63))
+
+turns : (r : Rotation) → T (turns? r) → Turns r
+unfolding turns?
+turns r t =
+    let rest = and-yes (ltb 0 (r .n)) _ t in
+    let passes = and-yes (ltb (weight r * widest + r .n) (2 ^ 63)) _ (rest .1) in
+    record {
+      positive = ltb→lt _ _ (rest .0);
+      first-pass = ltb→lt _ _ (passes .0);
+      second-pass = ltb→lt _ _ (passes .1);
+    }
+
+pub rotationOf-turns : (l : ℕ) (minus : Bool) → 1 ≤ l → l ≤ 14 → Turns (rotationOf l minus)
+unfolding turns? rotationOf signed passed
+rotationOf-turns l true h k = turns _ (from-1-to-14 (λ m. turns? (rotationOf m true)) tt l h k)
+rotationOf-turns l false h k = turns _ (from-1-to-14 (λ m. turns? (rotationOf m false)) tt l h k)

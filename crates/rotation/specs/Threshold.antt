@@ -1,8 +1,8 @@
 -- Document 01, 'Choosing a turn': the thresholds T_l.
 use mathlib.Core.Path.{_≡_, subst}
 use mathlib.Core.Bool.{Bool}
-use Prim.Native.Nat.{ℕ, suc, _+_, _-_, _*_, _/_, _<_, _≤_, _^_, suc-le-suc}
-use native.Mathlib.Nat.{div-le-of-le-mul, lt-div-mul-add, div-lt-iff-lt-mul}
+use Prim.Native.Nat.{ℕ, suc, _+_, _-_, _*_, _/_, _<_, _≤_, _^_}
+use native.Mathlib.Nat.{lt-div-mul-add, div-lt-iff-lt-mul}
 use native.Mathlib.Omega.{arith}
 use lib.Dec.{T, leb, ltb, leb→le, ltb→lt}
 use Rattle.integer.specs.Range.{all, below}

@@ -1,6 +1,6 @@
 -- Document 01, 'Making a turn': the whole new matrix and the whole new axes. Indices count from 0 here.
 use Prim.Native.Nat.{ℕ}
-use mathlib.Core.Bool.{Bool, cond, _&&_}
+use mathlib.Core.Bool.{cond, _&&_}
 use mathlib.Core.List.{List, [], _∷_}
 use lib.Dec.{eqb, ltb}
 use lib.ListN.{getD}

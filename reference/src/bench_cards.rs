@@ -1,0 +1,358 @@
+//! Document 01's bench cards 1 to 12 and its printed example, and the orders of its refusals.
+
+use crate::calls::play;
+use crate::choice::{choose, Choice};
+use crate::generate;
+use crate::job;
+use crate::matrix::Matrix;
+use crate::record::{Record, AXIS_ONE, REFUSED_LIMIT};
+use crate::report::{axes_program, report_into, run, table_program, Denied, Outcome};
+use crate::rounding::rnd;
+use crate::scatter::{shift, table, Sample};
+use crate::thresholds::threshold;
+use crate::turn::{rotation, turn};
+
+/// A text written with blanks for tabs.
+fn tabs(text: &str) -> String {
+    text.replace(' ', "\t")
+}
+
+fn axes(text: &str) -> String {
+    axes_program(tabs(text).as_bytes())
+}
+
+/// The number and the line of a refusal of job text.
+fn refused(text: &str) -> (i128, i128) {
+    let refusal = job::read(tabs(text).as_bytes()).unwrap_err();
+    (refusal.number, refusal.line)
+}
+
+fn sample(dilution: i128, counts: &[i128]) -> Sample {
+    Sample {
+        dilution,
+        counts: counts.to_vec(),
+    }
+}
+
+const EXAMPLE: &str = "P 2 1 0\nS 1 0 0\nS 5 1 0\nS 1 5 5\nE 3\n";
+const EXAMPLE_REPORT: &str =
+    "R 2 3 0 1 1 spent\nA 1 26624 7172 644245094 -858993459\nA 2 75776 7172 858993459 644245094\n";
+
+#[test]
+fn card_1() {
+    assert_eq!(
+        [1, 2, 3].map(threshold),
+        [108_406_627, 15_278_151, 6_575_832]
+    );
+}
+
+#[test]
+fn card_2() {
+    assert_eq!(
+        [(7, 5), (-7, 5), (8, 5), (3, 2), (-3, 2)].map(|(u, w)| rnd(u, w)),
+        [1, -1, 2, 2, -2]
+    );
+}
+
+#[test]
+fn card_3() {
+    assert_eq!(choose(2, 2, 1), Some(Choice { l: 1, f: -1 }));
+}
+
+#[test]
+fn card_4() {
+    assert_eq!(choose(5, 900, 0), None);
+    assert_eq!(choose(7, 7, 0), None);
+}
+
+#[test]
+fn card_5() {
+    assert_eq!(choose(0, 1_073_741_824, 1024), None);
+    let run = run(&Matrix::of_rows(2, &[0, 1, 1, 1_048_576]), 16, 0);
+    assert_eq!((run.outcome, run.sweeps, run.m), (Outcome::Still, 1, 0));
+}
+
+#[test]
+fn card_6() {
+    assert_eq!([42, 43].map(|a_pq| choose(0, 13, a_pq).unwrap().l), [2, 1]);
+}
+
+#[test]
+fn card_7() {
+    let a = Matrix::of_rows(2, &[50, 25, 25, 50]);
+    let (a, _) = turn(&a, &a, 1, 2, choose(50, 50, 25).unwrap());
+    assert_eq!(a.numbers(), [26, -7, -7, 74]);
+}
+
+#[test]
+fn card_8() {
+    let table = table(
+        2,
+        &[sample(1, &[0, 0]), sample(5, &[1, 0]), sample(1, &[5, 5])],
+    );
+    assert_eq!((table.sums.numbers(), table.e), (&[50, 25, 25, 50][..], 0));
+    assert_eq!(
+        table_program(tabs(EXAMPLE).as_bytes()),
+        tabs("T 2 3 0\nS 1 50 25\nS 2 25 50\n")
+    );
+}
+
+#[test]
+fn card_9() {
+    let report = axes("P 3 5 0\nS 2 7 8 9\nS 2 7 8 9\nS 2 7 8 9\nE 3\n");
+    assert!(
+        report.starts_with(&tabs("R 3 3 0 0 0 settled\n")),
+        "{report}"
+    );
+}
+
+#[test]
+fn card_10() {
+    for (sum, e, entry) in [
+        (1_048_576, 0, 1_048_576),
+        (1_048_577, 1, 524_289),
+        (-1_048_577, 1, -524_289),
+    ] {
+        let sums = Matrix::of_rows(2, &[1, sum, sum, 0]);
+        assert_eq!(shift(&sums), e);
+        assert_eq!(rnd(sum, 1 << e), entry);
+    }
+    let pair = table(2, &[sample(1, &[1024, 1]), sample(1, &[0, 0])]);
+    assert_eq!(
+        (pair.sums.at(1, 1), pair.e, pair.entries.at(1, 1)),
+        (1_048_576, 0, 1_048_576)
+    );
+}
+
+#[test]
+fn card_11() {
+    let table = table(2, &[sample(100, &[65_535, 65_535]), sample(100, &[0, 0])]);
+    assert_eq!(table.sums.numbers(), [42_948_362_250_000; 4]);
+    assert_eq!((table.e, table.entries.numbers()), (26, &[639_980; 4][..]));
+}
+
+#[test]
+fn card_12_and_the_printed_example() {
+    assert_eq!(axes(EXAMPLE), tabs(EXAMPLE_REPORT));
+}
+
+#[test]
+fn rotations_are_exact() {
+    for l in 1..=14 {
+        for f in [-1, 1] {
+            let (big_n, c, s) = rotation(Choice { l, f });
+            assert_eq!(c * c + s * s, big_n * big_n);
+        }
+    }
+}
+
+#[test]
+fn thresholds_fall() {
+    assert!((1..14).all(|l| threshold(l) > threshold(l + 1)));
+}
+
+#[test]
+fn job_lines_are_refused_in_their_order() {
+    assert_eq!(refused(""), (1, 1));
+    assert_eq!(refused("P 2 1 0"), (1, 1));
+    assert_eq!(refused("P 2 1 0\n"), (1, 2));
+    assert_eq!(refused("P 2 1 0\n\n"), (1, 2));
+    assert_eq!(refused("S 1 0 0\n"), (1, 1));
+    assert_eq!(refused("P 9 1\n"), (1, 1));
+    assert_eq!(refused("P 9 01 0\n"), (1, 1));
+    assert_eq!(refused("P 9 1 0"), (1, 1));
+    assert_eq!(refused("P 9 1 0\n"), (2, 1));
+    assert_eq!(refused("P 2 0 0\n"), (2, 1));
+    assert_eq!(refused("P 2 17 0\n"), (2, 1));
+    assert_eq!(refused("P 2 1 1048577\n"), (2, 1));
+    assert_eq!(refused("P 2 1 10485760\n"), (1, 1));
+    assert_eq!(refused("P 2 1 0\nS 0 1 1\n"), (2, 2));
+    assert_eq!(refused("P 2 1 0\nS 101 1 x\n"), (1, 2));
+    assert_eq!(refused("P 2 1 0\nS 1 1 65536\n"), (2, 2));
+    assert_eq!(refused("P 2 1 0\nP 2 1 0\n"), (1, 2));
+    assert_eq!(refused("P 2 1 0\nE 0\n"), (3, 2));
+    assert_eq!(refused("P 2 1 0\nE 0 0\n"), (1, 2));
+    assert_eq!(refused("P 2 1 0\nS 1 1 1\nE 7\nmore"), (3, 3));
+    assert_eq!(refused("P 2 1 0\nS 1 1 1\nS 1 1 1\nE 3\n"), (4, 4));
+    assert_eq!(refused("P 2 1 0\nS 1 1 1\nS 1 1 1\nE 9999999\n"), (4, 4));
+    assert_eq!(refused("P 2 1 0\nS 1 1 1\nS 1 1 1\nE 2"), (1, 4));
+    assert_eq!(refused("P 2 1 0\nS 1 1 1\nS 1 1 1\nE 2\n\n"), (4, 4));
+    assert_eq!(axes("P 2 1 0\nE 0\n"), tabs("X 3 2\n"));
+}
+
+#[test]
+fn a_257th_sample_is_refused_3_after_1_and_2() {
+    let many = |k: usize| "P 2 1 0\n".to_string() + &"S 1 1 1\n".repeat(k);
+    assert!(job::read(tabs(&(many(256) + "E 256\n")).as_bytes()).is_ok());
+    assert_eq!(refused(&many(257)), (3, 258));
+    assert_eq!(refused(&(many(256) + "S 1 1 65536\n")), (2, 258));
+    assert_eq!(refused(&(many(256) + "S 1 1\n")), (1, 258));
+    assert_eq!(refused(&many(256)), (1, 258));
+}
+
+#[test]
+fn a_report_longer_than_the_buffer_is_refused_last_and_the_buffer_stays() {
+    let (text, report) = (tabs(EXAMPLE), tabs(EXAMPLE_REPORT));
+    let mut buffer = vec![7; report.len() + 3];
+    assert_eq!(report_into(text.as_bytes(), &mut buffer), Ok(report.len()));
+    assert_eq!(buffer, [report.as_bytes(), &[7, 7, 7]].concat());
+    let mut short = vec![7; report.len() - 1];
+    assert_eq!(
+        report_into(text.as_bytes(), &mut short),
+        Err(Denied::Buffer)
+    );
+    assert!(short.iter().all(|&byte| byte == 7));
+    assert!(matches!(report_into(b"", &mut []), Err(Denied::Job(_))));
+}
+
+#[test]
+fn calls_are_refused_in_their_order() {
+    let mut record = Record::fresh();
+    assert_eq!(record.turn(0, 0), Err(10));
+    assert_eq!(record.sweep(), Err(10));
+    assert_eq!(record.loose_pair(-1), Err(10));
+    assert_eq!(record.axis(0), Err(10));
+    assert_eq!(record.load(1, &[]), Err(5));
+    assert_eq!(record.load(9, &[]), Err(5));
+    assert_eq!(record.load(2, &[0, 1, 2_000_000]), Err(6));
+    assert_eq!(record.load(2, &[0, 1, 2, 1_048_577]), Err(8));
+    assert_eq!(record.load(2, &[0, 1, 2, -1_048_576]), Err(7));
+    assert_eq!(record.refused(), 9);
+    assert_eq!(record.load(2, &[0, 1, 1, -1_048_576]), Ok(()));
+    assert_eq!(
+        record.kept().unwrap().v.numbers(),
+        [AXIS_ONE, 0, 0, AXIS_ONE]
+    );
+    let before = record.kept().cloned();
+    assert_eq!(record.load(2, &[0, 1, 2, 0]), Err(7));
+    assert_eq!(record.turn(2, 1), Err(9));
+    assert_eq!(record.turn(1, 3), Err(9));
+    assert_eq!(record.turn(0, 2), Err(9));
+    assert_eq!(record.loose_pair(1_048_577), Err(2));
+    assert_eq!(record.loose_pair(-1), Err(2));
+    assert_eq!(record.axis(3), Err(9));
+    assert_eq!((record.kept(), record.refused()), (before.as_ref(), 16));
+    assert_eq!(record.loose_pair(1023), Ok(Some((1, 2))));
+    assert_eq!(record.loose_pair(1024), Ok(None));
+}
+
+#[test]
+fn the_count_of_refused_calls_stops() {
+    let mut record = Record::with_refused(REFUSED_LIMIT - 1);
+    for _ in 0..3 {
+        assert_eq!(record.sweep(), Err(10));
+        assert_eq!(record.refused(), REFUSED_LIMIT);
+    }
+}
+
+/// A matrix on which rounding keeps pairs turning.
+#[rustfmt::skip]
+const KEEPS_TURNING: [i128; 64] = [
+    -1, 0, 1, 0, -1, 0, 0, -1,
+    0, 1, -1, 0, 1, 1, 1, 1,
+    1, -1, 0, 0, 0, 1, -1, -1,
+    0, 0, 0, 1, 1, 1, -1, -1,
+    -1, 1, 0, 1, -1, 0, -1, 0,
+    0, 1, 1, 1, 0, 1, 0, 0,
+    0, 1, -1, -1, -1, 0, 1, -1,
+    -1, 1, -1, -1, 0, 0, -1, 0,
+];
+
+/// Sweeps, then turns, on that matrix: a sweep is refused while fewer turns than its
+/// pairs remain, a turn at 448, and before that an index outside the matrix.
+#[test]
+fn turns_are_used_up_at_448() {
+    let mut record = Record::fresh();
+    record.load(8, &KEEPS_TURNING).unwrap();
+    while record.sweep().is_ok() {}
+    let m = |record: &Record| record.kept().unwrap().m;
+    assert!((421..=448).contains(&m(&record)), "{}", m(&record));
+    let pairs: Vec<(i128, i128)> = (1..=8)
+        .flat_map(|p| (p + 1..=8).map(move |q| (p, q)))
+        .collect();
+    for &(p, q) in pairs.iter().cycle().take(2000) {
+        let before = m(&record);
+        match record.turn(p, q) {
+            Ok(made) => assert_eq!(m(&record), before + i128::from(made)),
+            Err(number) => assert_eq!((number, before), (11, 448)),
+        }
+    }
+    assert_eq!(m(&record), 448);
+    assert_eq!(
+        (record.turn(2, 1), record.turn(1, 2), record.sweep()),
+        (Err(9), Err(11), Err(11))
+    );
+    assert_eq!(record.axis(1).unwrap().row.len(), 8);
+}
+
+/// V A Vᵀ, in units, lies near the kept matrix after any calls.
+#[test]
+fn the_kept_axes_turn_the_loaded_matrix_into_the_kept_one() {
+    for seed in 0..300 {
+        let text = generate::text("job", seed).unwrap();
+        let Ok(job) = job::read(&text) else { continue };
+        let loaded = table(job.n, &job.samples).entries;
+        let mut record = Record::fresh();
+        record.load(job.n as i128, loaded.numbers()).unwrap();
+        for _ in 0..job.sweep_limit {
+            record.sweep().unwrap();
+        }
+        let kept = record.kept().unwrap();
+        let product = |x: &Matrix, y: &Matrix| {
+            Matrix::by_rule(job.n, |i, j| {
+                (1..=job.n)
+                    .map(|between| x.at(i, between) * y.at(between, j))
+                    .sum()
+            })
+        };
+        let mirrored = Matrix::by_rule(job.n, |i, j| kept.v.at(j, i));
+        let turned = product(&product(&kept.v, &loaded), &mirrored);
+        for i in 1..=job.n {
+            for j in 1..=job.n {
+                let difference = rnd(turned.at(i, j), 1 << 50) - kept.a.at(i, j);
+                assert!(
+                    difference.abs() <= 20 * kept.m,
+                    "seed {seed}: {difference} after {} turns",
+                    kept.m
+                );
+            }
+        }
+    }
+}
+
+#[test]
+fn every_generated_text_is_read_to_an_answer() {
+    for seed in 0..3000 {
+        let job = axes_program(&generate::text("job", seed).unwrap());
+        assert!(job.starts_with("R\t") || job.starts_with("X\t"));
+        play(&generate::text("calls", seed).unwrap());
+    }
+}
+
+#[test]
+fn a_text_of_calls_is_played_to_its_first_line_that_is_no_call() {
+    let play = |text: &str| play(tabs(text).as_bytes()).replace('\t', " ");
+    assert_eq!(play(""), "");
+    assert_eq!(
+        play("W\nL 2 50 25 25 50\nQ 0\nT 1 2\nA 1\nA 2\nQ 7168\nT 2 2\nA 0\nL 2\nL 1 -5\nL -2\nW\n"),
+        "X 10 1\nL\nQ 1 2\nT 1\nA 26624 7172 644245094 -858993459\nA 75776 7172 858993459 644245094\nQ none\nX 9 2\nX 9 3\n\
+         X 6 4\nX 5 5\n? 12\n"
+    );
+    for no_call in [
+        "\n",
+        "W",
+        "W \n",
+        "w\n",
+        "L\n",
+        "L 2 -0\n",
+        "L 2 01\n",
+        "T 1\n",
+        "T 1 -2\n",
+        "Q 12345678901\n",
+        "A +1\n",
+    ] {
+        assert_eq!(play(no_call), "? 1\n", "{no_call:?}");
+    }
+    assert_eq!(play(&format!("L 2{}\n", " 0".repeat(100))), "X 6 1\n");
+    assert_eq!(play(&format!("L 2{}\n", " 0".repeat(101))), "? 1\n");
+}

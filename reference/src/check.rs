@@ -1,0 +1,93 @@
+//! Stored expected outputs of a repository, computed anew and compared.
+
+use std::fs;
+use std::path::Path;
+
+/// A program whose folder holds its input in `stdin` and its expected output in `stdout`.
+struct Stored {
+    folder: &'static str,
+    program: fn(&[u8]) -> String,
+}
+
+/// Every stored output that is known; another is another line here.
+const STORED: &[Stored] = &[
+    Stored {
+        folder: "crates/axes",
+        program: crate::report::axes_program,
+    },
+    Stored {
+        folder: "crates/calls",
+        program: crate::calls::play,
+    },
+    Stored {
+        folder: "crates/table",
+        program: crate::report::table_program,
+    },
+];
+
+/// What was compared, a line each, and whether something was compared and nothing differs.
+pub fn check(root: &Path) -> (String, bool) {
+    let found: Vec<(&str, Result<String, String>)> = STORED
+        .iter()
+        .filter(|stored| root.join(stored.folder).is_dir())
+        .map(|stored| {
+            (
+                stored.folder,
+                compare(&root.join(stored.folder), stored.program),
+            )
+        })
+        .collect();
+    let mut text: String = found
+        .iter()
+        .map(|(folder, result)| match result {
+            Ok(size) => format!("{folder}: same, {size}\n"),
+            Err(why) => format!("{folder}: FAILED, {why}\n"),
+        })
+        .collect();
+    text += &format!(
+        "{} folders, {} failed\n",
+        found.len(),
+        found.iter().filter(|(_, result)| result.is_err()).count()
+    );
+    (
+        text,
+        !found.is_empty() && found.iter().all(|(_, result)| result.is_ok()),
+    )
+}
+
+/// A folder that lacks either file is a failure, for then nothing of it was compared.
+fn compare(folder: &Path, program: fn(&[u8]) -> String) -> Result<String, String> {
+    let read = |name: &str| fs::read(folder.join(name)).map_err(|error| format!("{name}: {error}"));
+    let (input, expected) = (read("stdin")?, read("stdout")?);
+    let output = program(&input);
+    if output.as_bytes() == expected {
+        return Ok(format!(
+            "{} bytes in, {} bytes out",
+            input.len(),
+            output.len()
+        ));
+    }
+    let alike = output
+        .bytes()
+        .zip(&expected)
+        .take_while(|(computed, stored)| computed == *stored)
+        .count();
+    let line = 1 + expected[..alike]
+        .iter()
+        .filter(|&&byte| byte == b'\n')
+        .count();
+    Err(format!(
+        "byte {alike} (from 0), line {line} of stdout: computed {:?}, stored {:?}",
+        line_from(output.as_bytes(), line),
+        line_from(&expected, line)
+    ))
+}
+
+fn line_from(text: &[u8], line: usize) -> String {
+    String::from_utf8_lossy(
+        text.split(|&byte| byte == b'\n')
+            .nth(line - 1)
+            .unwrap_or(b""),
+    )
+    .into_owned()
+}
