@@ -1,0 +1,99 @@
+-- Document 01, 'The ledger of demand 3': fed the calls alone, each with its arguments, in order.
+use Prim.Native.Nat.{ℕ, suc, _-_, _*_}
+use mathlib.Core.Bool.{Bool, cond}
+use mathlib.Core.List.{List, [], _∷_}
+use lib.Dec.{eqb}
+use lib.IntN.{ℤ, pos, _*ℤ_}
+use Rattle.integer.specs.Matrix.{Matrix, diagonal, product}
+use Rattle.rotation.specs.Choice.{choose}
+use Rattle.rotation.specs.Exact.{exact}
+use Rattle.rotation.specs.Rotation.{rotationOf}
+use Rattle.rotation.specs.Turn.{turned, turnedAxes}
+use Rattle.rotation.specs.declared.choice.Choice.{Choice}
+use Rattle.rotation.specs.declared.choice.Choice.the-variants.{NoTurn, Turn}
+use Rattle.ledger.specs.Call.{Call, load, turn, sweep, loosePair, axis}
+use Rattle.ledger.specs.Limits.{units, whole}
+use Rattle.ledger.specs.Pairs.{Pair, cyclic}
+use Rattle.ledger.specs.Refusal.{matrixOf, refusalOf}
+
+-- 'Once loaded it has n, A, a matrix B, axes V, m and Q'; V is `axes`, and Q is P / D in whole numbers
+pub record State : Type 0 where
+  pub n : ℕ
+  pub A : Matrix
+  pub B : Matrix
+  pub axes : Matrix
+  pub m : ℕ
+  pub P : Matrix
+  pub D : ℕ
+
+-- 'It starts with no matrix'
+pub data Ledger : Type 0 where
+  empty : Ledger
+  loaded : State → Ledger
+
+-- 'Load: n and A are as given, B is A times 1024, V is 2^30 on the diagonal and 0 elsewhere, m = 0, Q is 1 on the diagonal and 0 elsewhere'
+unfoldable pub loadedOf : ℕ → List ℤ → State
+loadedOf n numbers =
+    record {
+      n = n;
+      A = matrixOf n numbers;
+      B = λ i j. pos units *ℤ matrixOf n numbers i j;
+      axes = diagonal (pos whole);
+      m = 0;
+      P = diagonal (pos 1);
+      D = 1;
+    }
+
+-- 'If a turn is chosen, B and V take it with rounding, Q is multiplied from the left by its exact rotation, and m grows by 1. If none is, nothing changes'
+unfoldable pub take : State → Pair → Choice → State
+take s pair NoTurn = s
+take s pair (Turn l minus) =
+    let r = rotationOf l minus in
+    record {
+      n = s .n;
+      A = s .A;
+      B = turned r (pair .p) (pair .q) (s .B);
+      axes = turnedAxes r (pair .p) (pair .q) (s .axes);
+      m = suc (s .m);
+      P = product (s .n) (exact r (pair .p) (pair .q)) (s .P);
+      D = r .n * s .D;
+    }
+
+-- 'Turn p, q: choose on B'
+unfoldable pub turnPair : State → Pair → State
+turnPair s pair = take s pair (choose (s .B (pair .p) (pair .p)) (s .B (pair .q) (pair .q)) (s .B (pair .p) (pair .q)))
+
+-- 'Sweep: its pairs in its order, each done as under Turn'
+unfoldable pub turnPairs : State → List Pair → State
+turnPairs s [] = s
+turnPairs s (pair ∷ pairs) = turnPairs (turnPair s pair) pairs
+
+-- a call that is not refused; 'Queries: nothing changes'
+unfoldable pub accepted : Ledger → Call → Ledger
+accepted g (load n numbers) = loaded (loadedOf n numbers)
+accepted empty (turn p q) = empty
+accepted (loaded s) (turn p q) = loaded (turnPair s (record { p = p - 1; q = q - 1 }))
+accepted empty sweep = empty
+accepted (loaded s) sweep = loaded (turnPairs s (cyclic (s .n)))
+accepted g (loosePair t) = g
+accepted g (axis i) = g
+
+-- a state's n, 0 where there is no matrix, and m
+unfoldable pub sizeOf : Ledger → ℕ
+sizeOf empty = 0
+sizeOf (loaded s) = s .n
+
+unfoldable pub turnsOf : Ledger → ℕ
+turnsOf empty = 0
+turnsOf (loaded s) = s .m
+
+-- 'A call leaves it as it is when a refusal below applies to that call on the ledger's own state'
+unfoldable pub ledgerStep : Ledger → Call → Ledger
+ledgerStep g call = cond (eqb (refusalOf (sizeOf g) (turnsOf g) call) 0) (accepted g call) g
+
+unfoldable pub ledgerFrom : Ledger → List Call → Ledger
+ledgerFrom g [] = g
+ledgerFrom g (call ∷ calls) = ledgerFrom (ledgerStep g call) calls
+
+unfoldable pub ledger : List Call → Ledger
+ledger calls = ledgerFrom empty calls

@@ -1,0 +1,5 @@
+pub mod Limits
+pub mod Call
+pub mod Refusal
+pub mod Pairs
+pub mod Ledger

@@ -1,0 +1,47 @@
+-- Document 01, 'Caused by the input' and 'Caused by the state': every refusal of a call, and their order.
+use Prim.Native.Nat.{ℕ, _+_, _-_, _*_, _/_}
+use mathlib.Core.Bool.{Bool, true, false, cond, _&&_}
+use mathlib.Core.List.{List, [], _∷_}
+use lib.Dec.{eqb, leb, ltb}
+use lib.IntN.{ℤ, pos, negsuc, natAbs}
+use lib.ListN.{length, getD}
+use Rattle.integer.specs.Matrix.{Matrix}
+use Rattle.integer.specs.Range.{all}
+use Rattle.ledger.specs.Call.{Call, load, turn, sweep, loosePair, axis}
+use Rattle.ledger.specs.Limits.{entryLimit, toleranceLimit, turnLimit}
+
+-- n×n whole numbers, row after row, as a matrix; indices count from 0
+unfoldable pub matrixOf : ℕ → List ℤ → Matrix
+matrixOf n numbers i j = getD numbers (i * n + j) (pos 0)
+
+unfoldable pub equal : ℤ → ℤ → Bool
+equal (pos x) (pos y) = eqb x y
+equal (pos x) (negsuc y) = false
+equal (negsuc x) (pos y) = false
+equal (negsuc x) (negsuc y) = eqb x y
+
+unfoldable pub symmetric : ℕ → Matrix → Bool
+symmetric n a = all (λ i. all (λ j. equal (a i j) (a j i)) n) n
+
+-- no entry is beyond ±1,048,576
+unfoldable pub within : List ℤ → Bool
+within [] = true
+within (x ∷ xs) = leb (natAbs x) entryLimit && within xs
+
+-- refused with this number unless the test holds; else what the later tests say
+abbrev pub unless : Bool → ℕ → ℕ → ℕ
+unless test number later = cond test later number
+
+-- The refusal's number, or 0 for a call that is accepted, on a state with n channels (0: no matrix) and m turns made.
+-- Load: 5, 6, 8, 7. Other calls: 10, then 2 or 9, then 11
+unfoldable pub refusalOf : ℕ → ℕ → Call → ℕ
+refusalOf n m (load k numbers) =
+    unless (leb 2 k && leb k 8) 5
+    (unless (eqb (length numbers) (k * k)) 6
+    (unless (within numbers) 8
+    (unless (symmetric k (matrixOf k numbers)) 7 0)))
+refusalOf n m (turn p q) =
+    unless (ltb 0 n) 10 (unless (leb 1 p && (ltb p q && leb q n)) 9 (unless (ltb m turnLimit) 11 0))
+refusalOf n m sweep = unless (ltb 0 n) 10 (unless (leb (m + n * (n - 1) / 2) turnLimit) 11 0)
+refusalOf n m (loosePair t) = unless (ltb 0 n) 10 (unless (leb t toleranceLimit) 2 0)
+refusalOf n m (axis i) = unless (ltb 0 n) 10 (unless (leb 1 i && leb i n) 9 0)
