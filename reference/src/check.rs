@@ -3,25 +3,36 @@
 use std::fs;
 use std::path::Path;
 
-/// A program whose folder holds its input in `stdin` and its expected output in `stdout`.
+/// A program whose folder holds its expected output in `stdout`.
 struct Stored {
     folder: &'static str,
-    program: fn(&[u8]) -> String,
+    program: Program,
+}
+
+/// How a program's output is computed anew: from its input, which the folder holds in `stdin`, or from nothing.
+#[derive(Clone, Copy)]
+enum Program {
+    Reading(fn(&[u8]) -> String),
+    Alone(fn() -> String),
 }
 
 /// Every stored output that is known; another is another line here.
 const STORED: &[Stored] = &[
     Stored {
         folder: "crates/axes",
-        program: crate::report::axes_program,
+        program: Program::Reading(crate::report::axes_program),
     },
     Stored {
         folder: "crates/calls",
-        program: crate::calls::play,
+        program: Program::Reading(crate::calls::play),
     },
     Stored {
         folder: "crates/table",
-        program: crate::report::table_program,
+        program: Program::Reading(crate::report::table_program),
+    },
+    Stored {
+        folder: "crates/turns",
+        program: Program::Alone(crate::vectors::turns),
     },
 ];
 
@@ -55,17 +66,16 @@ pub fn check(root: &Path) -> (String, bool) {
     )
 }
 
-/// A folder that lacks either file is a failure, for then nothing of it was compared.
-fn compare(folder: &Path, program: fn(&[u8]) -> String) -> Result<String, String> {
+/// A folder that lacks a file is a failure, for then nothing of it was compared.
+fn compare(folder: &Path, program: Program) -> Result<String, String> {
     let read = |name: &str| fs::read(folder.join(name)).map_err(|error| format!("{name}: {error}"));
-    let (input, expected) = (read("stdin")?, read("stdout")?);
-    let output = program(&input);
+    let expected = read("stdout")?;
+    let output = match program {
+        Program::Reading(program) => program(&read("stdin")?),
+        Program::Alone(program) => program(),
+    };
     if output.as_bytes() == expected {
-        return Ok(format!(
-            "{} bytes in, {} bytes out",
-            input.len(),
-            output.len()
-        ));
+        return Ok(format!("{} bytes", output.len()));
     }
     let alike = output
         .bytes()

@@ -15,6 +15,7 @@ mod text;
 mod thresholds;
 mod turn;
 mod units;
+mod vectors;
 
 #[cfg(test)]
 mod bench_cards;
@@ -25,7 +26,7 @@ use std::path::Path;
 use std::process::ExitCode;
 
 const USAGE: &str =
-    "reference axes | calls | table | units KIND SEED COUNT | generate KIND SEED | check DIR";
+    "reference axes | calls | table | units KIND SEED COUNT | generate KIND SEED | vectors turns | check DIR";
 
 fn main() -> ExitCode {
     let arguments: Vec<String> = env::args().skip(1).collect();
@@ -53,6 +54,7 @@ fn output(words: &[&str]) -> Option<(Vec<u8>, bool)> {
             well(units::lines(kind, seed.parse().ok()?, count.parse().ok()?)?)
         }
         ["generate", kind, seed] => Some((generate::text(kind, seed.parse().ok()?)?, true)),
+        ["vectors", "turns"] => well(vectors::turns()),
         ["check", root] => {
             let (text, same) = check::check(Path::new(root));
             Some((text.into_bytes(), same))

@@ -1,8 +1,8 @@
 -- The scalar product of two vectors, bilinear.
 use mathlib.Core.Path.{_≡_, refl, sym, _∙_, ap, ap₂}
 use Prim.Native.Nat.{ℕ, _<_}
-use lib.IntN.{ℤ, pos, negℤ, _+ℤ_, _*ℤ_, *ℤ-comm}
-use Rattle.integer.specs.Laws.{+ℤ-*ℤ, *ℤ-assoc}
+use lib.IntN.{ℤ, pos, negℤ, _+ℤ_, _-ℤ_, _*ℤ_, *ℤ-comm}
+use Rattle.integer.specs.Laws.{+ℤ-*ℤ, *ℤ-assoc, negℤ-*ℤ}
 use Rattle.integer.specs.Square.{sq, pos-sq}
 use Rattle.integer.specs.Sum.{sum, sumℕ, pos-sumℕ, sum-cong, sum-+, sum-*}
 use Rattle.integer.specs.Pair.{Rotated}
@@ -35,6 +35,12 @@ dot-+-right n z x y = dot-comm n z (λ i. x i +ℤ y i) ∙ dot-+-left n x y z �
 
 pub dot-*-right : (n : ℕ) (k : ℤ) (z x : ℕ → ℤ) → dot n z (λ i. k *ℤ x i) ≡ k *ℤ dot n z x
 dot-*-right n k z x = dot-comm n z (λ i. k *ℤ x i) ∙ dot-*-left n k x z ∙ ap (λ y. k *ℤ y) (dot-comm n x z)
+
+-- of a difference of multiples
+pub dot-difference : (n : ℕ) (a b : ℤ) (x y z : ℕ → ℤ) → dot n (λ i. a *ℤ x i -ℤ b *ℤ y i) z ≡ a *ℤ dot n x z -ℤ b *ℤ dot n y z
+dot-difference n a b x y z =
+    dot-cong n (λ i l. ap (λ w. a *ℤ x i +ℤ w) (sym (negℤ-*ℤ b (y i)))) (λ i l. refl) ∙ dot-+-left n (λ i. a *ℤ x i) (λ i. negℤ b *ℤ y i) z
+    ∙ ap₂ _+ℤ_ (dot-*-left n a x z) (dot-*-left n (negℤ b) y z ∙ negℤ-*ℤ b (dot n y z))
 
 -- the products of u with the rows of a matrix whose columns are rotated are rotated too
 pub dot-rotated : {n p q N : ℕ} {c s : ℤ} (m : ℕ) (u : ℕ → ℤ) (X Y : ℕ → ℕ → ℤ) → ((k : ℕ) → k < m → Rotated n p q N c s (λ i. X i k) (λ i. Y i k)) →

@@ -3,12 +3,14 @@ use mathlib.Core.Path.{_≡_, refl, sym, _∙_, ap, ap₂}
 use mathlib.Core.Bool.{Bool, true, false, cond}
 use mathlib.Core.Logic.{_≢_}
 use Prim.Native.Nat.{ℕ, _+_, _*_, _≤_, _<_}
+use native.Mathlib.Nat.{le-trans}
 use native.Mathlib.Decide.{ℕ-discrete}
+use native.Mathlib.Omega.{arith}
 use lib.Dec.{eqb}
-use lib.IntN.{ℤ, pos, negℤ, _+ℤ_, _-ℤ_, _*ℤ_, *ℤ-comm, *ℤ-zero, zero-*ℤ, +ℤ-idl, +ℤ-idr}
+use lib.IntN.{ℤ, pos, negℤ, natAbs, _+ℤ_, _-ℤ_, _*ℤ_, *ℤ-comm, *ℤ-zero, zero-*ℤ, +ℤ-idl, +ℤ-idr}
 use Rattle.integer.specs.Laws.{*ℤ-assoc, negℤ-*ℤ}
-use Rattle.integer.specs.Square.{sq, sq-*ℤ}
-use Rattle.integer.specs.Sum.{sum, sumℕ, sum-cong, sum-*, sum-zero, sum-exchange, sum-delta, sum-but-two, sumℕ-cong, sumℕ-*, sumℕ-exchange, update-same, update-other}
+use Rattle.integer.specs.Square.{sq, sq-pos, sq-*ℤ, sq-≤, natAbs-≤}
+use Rattle.integer.specs.Sum.{sum, sumℕ, sum-cong, sum-*, sum-zero, sum-exchange, sum-delta, sum-but-two, sumℕ-cong, sumℕ-*, sumℕ-exchange, sumℕ-but-one, sumℕ-const, sumℕ-≤, term-≤-sumℕ, update-same, update-other}
 use Rattle.integer.specs.Dot.{dot, dot-cong, dot-comm, dot-+-left, dot-*-left, dot-+-right, dot-*-right}
 use Rattle.integer.specs.Minkowski.{minkowski₂}
 
@@ -38,6 +40,10 @@ squares n X = sumℕ n (λ i. sumℕ n (λ j. sq (X i j)))
 -- equal in the n by n entries
 abbrev pub Same : ℕ → Matrix → Matrix → Type 0
 Same n X Y = (i j : ℕ) → i < n → j < n → X i j ≡ Y i j
+
+-- symmetric in the n by n entries
+abbrev pub Symmetric : ℕ → Matrix → Type 0
+Symmetric n X = (i j : ℕ) → i < n → j < n → X i j ≡ X j i
 
 -- products
 pub product-cong : (n : ℕ) {X X′ Y Y′ : Matrix} → Same n X X′ → Same n Y Y′ → Same n (product n X Y) (product n X′ Y′)
@@ -99,8 +105,8 @@ pub conjugate-transpose : (n : ℕ) (R X : Matrix) → transpose (conjugate n R 
 unfolding conjugate
 conjugate-transpose n R X = product-transpose n (product n R X) (transpose R) ∙ ap (product n R) (product-transpose n R X) ∙ sym (product-assoc n R (transpose X) (transpose R))
 
-pub conjugate-symmetric : (n : ℕ) (R X : Matrix) → ((i j : ℕ) → X i j ≡ X j i) → (i j : ℕ) → conjugate n R X i j ≡ conjugate n R X j i
-conjugate-symmetric n R X h i j = sym (λ t. (conjugate-transpose n R X ∙ ap (conjugate n R) (λ t i j. h j i t)) t i j)
+pub conjugate-symmetric : (n : ℕ) (R X : Matrix) → Symmetric n X → Symmetric n (conjugate n R X)
+conjugate-symmetric n R X h i j o m = conjugate-cong n (λ i j o m. refl) h i j o m ∙ sym (λ t. conjugate-transpose n R X t i j)
 
 pub conjugate-+ : (n : ℕ) (R X Y : Matrix) → conjugate n R (λ i j. X i j +ℤ Y i j) ≡ (λ i j. conjugate n R X i j +ℤ conjugate n R Y i j)
 unfolding conjugate
@@ -152,6 +158,10 @@ pub diagonal-product : (n : ℕ) (k : ℤ) (X : Matrix) (i j : ℕ) → i < n �
 unfolding product
 diagonal-product n k X i j = dot-diagonal n k (λ m. X m j) i
 
+pub product-diagonal : (n : ℕ) (k : ℤ) (X : Matrix) (i j : ℕ) → j < n → product n X (transpose (diagonal k)) i j ≡ k *ℤ X i j
+unfolding product
+product-diagonal n k X i j l = dot-comm n (X i) (diagonal k j) ∙ dot-diagonal n k (X i) j l
+
 pub conjugate-diagonal : (n : ℕ) (k : ℤ) (R : Matrix) (i j : ℕ) → conjugate n R (diagonal k) i j ≡ k *ℤ product n R (transpose R) i j
 unfolding conjugate product
 conjugate-diagonal n k R i j = dot-cong n (λ m l. dot-comm n (R i) (λ o. diagonal k o m) ∙ dot-cong n (λ o b. diagonal-transpose k m o) (λ o b. refl) ∙ dot-diagonal n k (R i) m l) (λ m l. refl) ∙ dot-*-left n k (R i) (R j)
@@ -180,3 +190,26 @@ squares-* n k X = sumℕ-cong n (λ i l. sumℕ-cong n (λ j o. sq-*ℤ k (X i j
 pub squares-+ : (n α β : ℕ) (X Y : Matrix) → squares n X ≤ α * α → squares n Y ≤ β * β → squares n (λ i j. X i j +ℤ Y i j) ≤ (α + β) * (α + β)
 unfolding squares
 squares-+ n = minkowski₂ n n
+
+-- one row, and one entry
+pub row-≤-squares : (n : ℕ) (X : Matrix) (i : ℕ) → i < n → sumℕ n (λ j. sq (X i j)) ≤ squares n X
+unfolding squares
+row-≤-squares n X i = term-≤-sumℕ n i (λ i. sumℕ n (λ j. sq (X i j)))
+
+pub entry-≤ : (n k : ℕ) (X : Matrix) → squares n X ≤ k * k → (i j : ℕ) → i < n → j < n → natAbs (X i j) ≤ k
+entry-≤ n k X h i j l o = natAbs-≤ (X i j) k (le-trans (term-≤-sumℕ n j (λ j. sq (X i j)) o) (le-trans (row-≤-squares n X i l) h))
+
+-- entries of size at most k
+pub squares-≤ : (n k : ℕ) (X : Matrix) → ((i j : ℕ) → i < n → j < n → natAbs (X i j) ≤ k) → squares n X ≤ n * k * (n * k)
+unfolding squares
+squares-≤ n k X h = omega (arith, sumℕ-≤ n {g = λ i. n * (k * k)} rows, sumℕ-const n (n * (k * k)))
+  where
+    rows : (i : ℕ) → i < n → sumℕ n (λ j. sq (X i j)) ≤ n * (k * k)
+    rows i l = omega (arith, sumℕ-≤ n {f = λ j. sq (X i j)} {g = λ j. k * k} (λ j o. sq-≤ (X i j) k (h i j l o)), sumℕ-const n (k * k))
+
+-- a column of the diagonal
+pub diagonal-squares : (n : ℕ) (k : ℤ) (j : ℕ) → j < n → sumℕ n (λ i. sq (diagonal k i j)) ≡ sq k
+diagonal-squares n k j l = omega (arith, sumℕ-but-one n j (λ i. sq (diagonal k i j)) (λ i. 0) l elsewhere, sumℕ-const n 0, ap sq (diagonal-same k j))
+  where
+    elsewhere : (i : ℕ) → i < n → i ≢ j → sq (diagonal k i j) ≡ 0
+    elsewhere i o d = ap sq (diagonal-other k i j d) ∙ sq-pos 0

@@ -5,7 +5,7 @@ use Prim.Native.Nat.{ℕ, zero, suc, _+_, _*_, _≤_, _<_}
 use native.Mathlib.Nat.{mul-le-mul-left, le-of-mul-le-mul-left, lt-of-mul-lt-mul-left, le-trans, add-le-add, zero-add, add-zero, le-of-suc-le-suc}
 use lib.Arith.{le-zero}
 use native.Mathlib.Omega.{arith}
-use lib.IntN.{ℤ, pos, _+ℤ_, _-ℤ_, _*ℤ_}
+use lib.IntN.{ℤ, pos, natAbs, _+ℤ_, _-ℤ_, _*ℤ_}
 use Rattle.integer.specs.Ring.{ringℕ}
 use Rattle.integer.specs.Square.{sq, squares}
 use Rattle.integer.specs.Sum.{sumℕ}
@@ -54,3 +54,9 @@ cauchy₂ a b x y = omega (arith, identity)
   where
     identity : sq (a *ℤ x +ℤ b *ℤ y) + sq (a *ℤ y -ℤ b *ℤ x) ≡ (sq a + sq b) * (sq x + sq y)
     identity = ringℕ (a ∷ b ∷ x ∷ y ∷ []) (search squares depth 20) tt
+
+-- a sum of squares is at most the square of the sum of the sizes
+pub squares-≤-sizes : (n : ℕ) (x : ℕ → ℤ) → sumℕ n (λ i. sq (x i)) ≤ sumℕ n (λ i. natAbs (x i)) * sumℕ n (λ i. natAbs (x i))
+unfolding sumℕ sq
+squares-≤-sizes zero x = omega arith
+squares-≤-sizes (suc n) x = omega (arith, squares-≤-sizes n x)

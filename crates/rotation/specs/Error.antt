@@ -11,7 +11,7 @@ use Rattle.integer.specs.Ring.{linear-combination, reading}
 use Rattle.integer.specs.Square.{sq}
 use Rattle.integer.specs.Sum.{sumℕ, sumℕ-*, sumℕ-+, sumℕ-cong, sumℕ-const, sumℕ-exchange}
 use Rattle.integer.specs.Pair.{Rotated}
-use Rattle.integer.specs.Matrix.{Matrix, product, conjugate, conjugate-symmetric, squares}
+use Rattle.integer.specs.Matrix.{Matrix, product, conjugate, conjugate-symmetric, squares, Symmetric}
 use Rattle.rounding.specs.Rounding.{rnd}
 use Rattle.rotation.specs.Rotation.{first, second}
 use Rattle.rotation.specs.Turn.{turned, turnedAxes, hpp, hpq, hqp, hqq, newpp, newpq, newqq, newp, newq}
@@ -52,7 +52,7 @@ weight-total n p q l k =
 
 module _ (r : Rotation) (n p q : ℕ) (l : p < q) (k : q < n) (whole : Whole r) where
   -- one entry of the new matrix
-  entry-error : (a : Matrix) → ((i j : ℕ) → a i j ≡ a j i) → (i j : ℕ) → i < n → j < n → 4 * sq (matrixError n r p q a i j) ≤ weight p q i j * (r .n * r .n * (r .n * r .n))
+  entry-error : (a : Matrix) → Symmetric n a → (i j : ℕ) → i < n → j < n → 4 * sq (matrixError n r p q a i j) ≤ weight p q i j * (r .n * r .n * (r .n * r .n))
   unfolding weight inPair turned newp newq newpp newpq newqq hpp hpq hqp hqq first second conjugate
   entry-error a h i j = cases (place p q i) (place p q j)
     where
@@ -62,8 +62,8 @@ module _ (r : Rotation) (n p q : ℕ) (l : p < q) (k : q < n) (whole : Whole r) 
       Bounded : ℕ → ℕ → Type 0
       Bounded i j = 4 * sq (matrixError n r p q a i j) ≤ weight p q i j * (N * N * (N * N))
 
-      mirror : (i j : ℕ) → Bounded j i → Bounded i j
-      mirror i j b = rw (turned-symmetric r p q a l h i j, conjugate-symmetric n (exact r p q) a h i j) (omega (arith, b))
+      mirror : (i j : ℕ) → i < n → j < n → Bounded j i → Bounded i j
+      mirror i j o m b = rw (turned-symmetric r p q a l i j (h i j o m), conjugate-symmetric n (exact r p q) a h i j o m) (omega (arith, b))
 
       -- the first pass, and the second one, without rounding
       H : Matrix
@@ -86,7 +86,7 @@ module _ (r : Rotation) (n p q : ℕ) (l : p < q) (k : q < n) (whole : Whole r) 
       second-norm = linear-combination (r .c ∷ r .s ∷ pos N ∷ []) (pos 1) (whole .norm) (search reading depth 20) tt
 
       pq : Bounded p q
-      pq = twice p q (negℤ (r .s)) (r .c) second-norm (simp places) (rw (rows p .first, rows q .first, h q p) (simp places)) (columns p .second)
+      pq = twice p q (negℤ (r .s)) (r .c) second-norm (simp places) (rw (rows p .first, rows q .first, h q p k (omega arith)) (simp places)) (columns p .second)
 
       pj : {j : ℕ} → j ≢ p → j ≢ q → j < n → Bounded p j
       pj {j} d e o = once p j (simp places) (rw (rows j .first) (simp places)) (columns p .other j o d e)
@@ -98,19 +98,19 @@ module _ (r : Rotation) (n p q : ℕ) (l : p < q) (k : q < n) (whole : Whole r) 
       ij d e f g = simp places
 
       cases : {i j : ℕ} → Place p q i → Place p q j → i < n → j < n → Bounded i j
-      cases at-p at-p o m = twice p p (r .c) (r .s) (whole .norm) (simp places) (rw (rows p .first, rows q .first, h q p) (simp places)) (columns p .first)
+      cases at-p at-p o m = twice p p (r .c) (r .s) (whole .norm) (simp places) (rw (rows p .first, rows q .first, h q p k (omega arith)) (simp places)) (columns p .first)
       cases at-p at-q o m = pq
-      cases at-q at-p o m = mirror q p pq
-      cases at-q at-q o m = twice q q (negℤ (r .s)) (r .c) second-norm (simp places) (rw (rows p .second, rows q .second, h q p) (simp places)) (columns q .second)
+      cases at-q at-p o m = mirror q p o m pq
+      cases at-q at-q o m = twice q q (negℤ (r .s)) (r .c) second-norm (simp places) (rw (rows p .second, rows q .second, h q p k (omega arith)) (simp places)) (columns q .second)
       cases at-p (neither d e) o m = pj d e m
       cases at-q (neither d e) o m = qj d e m
-      cases (neither {i} d e) at-p o m = mirror i p (pj d e o)
-      cases (neither {i} d e) at-q o m = mirror i q (qj d e o)
+      cases (neither {i} d e) at-p o m = mirror i p o m (pj d e o)
+      cases (neither {i} d e) at-q o m = mirror i q o m (qj d e o)
       cases (neither {i} d e) (neither {i = j} f g) o m =
           unmoved _ _ _ (ap (λ z. pos (N * N) *ℤ z) (ij d e f g) ∙ *ℤ-assoc (pos N) (pos N) (a i j) ∙ sym (columns i .other j m f g ∙ ap (λ z. pos N *ℤ z) (rows j .other i o d e)))
 
   -- The matrix is moved by at most 7/2 in norm
-  pub matrix-error : n ≤ 8 → (a : Matrix) → ((i j : ℕ) → a i j ≡ a j i) → 4 * squares n (matrixError n r p q a) ≤ 49 * (r .n * r .n * (r .n * r .n))
+  pub matrix-error : n ≤ 8 → (a : Matrix) → Symmetric n a → 4 * squares n (matrixError n r p q a) ≤ 49 * (r .n * r .n * (r .n * r .n))
   unfolding squares
   matrix-error b a h = le-trans sums (mul-le-mul-right (r .n * r .n * (r .n * r .n)) (omega (arith, weight-total n p q l k)))
     where

@@ -1,5 +1,6 @@
 pub mod Threshold
 pub mod Choice
+pub mod Chosen
 pub mod Rotation
 pub mod Turn
 pub mod Place
@@ -12,3 +13,5 @@ pub mod Symmetry
 pub mod Rounded
 pub mod Error
 pub mod Norm
+pub mod Congruence
+pub mod Cards

@@ -9,7 +9,7 @@ use Rattle.integer.specs.Ring.{ring, reading}
 use Rattle.integer.specs.Square.{sq, sq-pos, sq-*ℤ}
 use Rattle.integer.specs.Sum.{sumℕ, sumℕ-*, sumℕ-cong}
 use Rattle.integer.specs.Minkowski.{minkowski}
-use Rattle.integer.specs.Matrix.{Matrix, product, conjugate, squares, squares-cong, squares-*, squares-+}
+use Rattle.integer.specs.Matrix.{Matrix, Symmetric, product, conjugate, squares, squares-cong, squares-*, squares-+}
 use Rattle.rotation.specs.Turn.{turned, turnedAxes}
 use Rattle.rotation.specs.Exact.{Whole, exact, exact-column-squares, conjugate-squares}
 use Rattle.rotation.specs.Error.{matrixError, axesError, matrix-error, axes-column-error}
@@ -21,7 +21,7 @@ kept K S t b o h g = le-of-mul-le-mul-left {k = K * K} (le-trans h (omega (arith
 
 module _ (r : Rotation) (n p q : ℕ) (l : p < q) (k : q < n) (whole : Whole r) where
   -- The norm of the matrix grows by less than 4 in a turn
-  pub turned-squares : n ≤ 8 → (a : Matrix) → ((i j : ℕ) → a i j ≡ a j i) → (α : ℕ) → squares n a ≤ α * α → squares n (turned r p q a) ≤ (α + 4) * (α + 4)
+  pub turned-squares : n ≤ 8 → (a : Matrix) → Symmetric n a → (α : ℕ) → squares n a ≤ α * α → squares n (turned r p q a) ≤ (α + 4) * (α + 4)
   turned-squares b a h α g =
       kept (2 * K) _ (α + 4) (2 * K * α + 7 * K) (omega (arith, mul-le-mul (whole .positive) (whole .positive)))
       (rw multiplied (squares-+ n (2 * K * α) (7 * K) (λ i j. pos 2 *ℤ C i j) (λ i j. pos 2 *ℤ matrixError n r p q a i j) exactly error)) (omega arith)

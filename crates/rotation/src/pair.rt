@@ -12,7 +12,7 @@ pub struct Rotation {
 }
 
 // f × x, where f is −1 or +1.
-fn with_sign(minus: bool, x: u64) -> i64
+pub fn with_sign(minus: bool, x: u64) -> i64
     requires { ⌜ x < 2 ^ 63 ⌝ }
     ensures { λ r. ⌜ r ≡ signed minus x ⌝ }
 {

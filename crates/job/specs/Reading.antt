@@ -1,0 +1,31 @@
+-- An answer of `jobOf` as the reader gives it: the job in arrays, or the refusal.
+use Prim.Native.Nat.{ℕ, _-_}
+use mathlib.Core.List.{List, [], _++_}
+use lib.ListN.{length, replicate}
+use Rattle.job.specs.Job.{Job, Answer, refused, accepted}
+use Rattle.job.specs.declared.Job as Arrays
+use Rattle.job.specs.declared.Reading.{Reading}
+use Rattle.job.specs.declared.Outcome.the-variants.{Accepted, Refused}
+
+-- The list, and 0 after it up to the length m.
+unfoldable pub padded : ℕ → List ℕ → List ℕ
+padded m xs = xs ++ replicate (m - length xs) 0
+
+unfoldable pub inArrays : Job → Arrays.Job
+inArrays j =
+    record {
+      n = j .n;
+      limit = j .limit;
+      tolerance = j .tolerance;
+      k = length (j .dilutions);
+      dilutions = padded 256 (j .dilutions);
+      counts = padded 2048 (j .counts);
+    }
+
+unfoldable pub readingOf : Answer → Reading
+readingOf (refused number line) =
+    record {
+      outcome = Refused number line;
+      job = inArrays (record { n = 0; limit = 0; tolerance = 0; dilutions = []; counts = [] });
+    }
+readingOf (accepted j) = record { outcome = Accepted; job = inArrays j }

@@ -1,0 +1,6 @@
+mod Axes
+mod Checks
+mod Outcome
+mod Search
+mod Sweep
+mod Worked

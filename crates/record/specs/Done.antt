@@ -1,0 +1,31 @@
+-- What a call ensures: its answer, the record that it leaves, and that this record is kept.
+use mathlib.Core.Path.{_≡_}
+use Prim.Native.Nat.{ℕ}
+use lib.IntN.{ℤ}
+use Rattle.ledger.specs.Call.{Call, axis}
+use Rattle.record.specs.Kept.{Kept}
+use Rattle.record.specs.Record.{afterOf, answerOf, axisOf, fresh}
+use Rattle.record.specs.declared.Answer.{Answer}
+use Rattle.record.specs.declared.AxisStep.{AxisStep}
+use Rattle.record.specs.declared.Record.{Record}
+use Rattle.record.specs.declared.work.Worked.{Worked}
+
+pub record Fresh (r : Record) : Type 0 where
+  pub is : r ≡ fresh
+  pub keeps : Kept r
+
+pub record Done (r : Record) (call : Call) (answer : Answer) (next : Record) : Type 0 where
+  pub answers : answer ≡ answerOf r call
+  pub leaves : next ≡ afterOf r call
+  pub keeps : Kept next
+
+-- an axis call answers row i of v too
+pub record AxisDone (r : Record) (i : ℕ) (z : AxisStep) : Type 0 where
+  pub answers : z .answer .value ≡ answerOf r (axis i)
+  pub row : z .answer .row ≡ axisOf r i
+  pub leaves : z .next ≡ afterOf r (axis i)
+  pub keeps : Kept (z .next)
+
+-- the record with the matrix, axes and m of some work
+unfoldable pub withWork : Record → Worked → Record
+withWork r w = record { n = r .n; m = w .m; refused = r .refused; a = w .a; v = w .v }

@@ -1,0 +1,103 @@
+-- Document 01, 'The record and its calls': what each call answers, and the record that it leaves.
+use Prim.Native.Nat.{ℕ, zero, suc, _+_, _-_, _*_}
+use mathlib.Core.Bool.{Bool, true, false, cond, _&&_}
+use mathlib.Core.List.{List, [], _∷_}
+use lib.Dec.{eqb, ltb}
+use lib.IntN.{ℤ, pos, natAbs, _*ℤ_}
+use lib.ListN.{replicate}
+use Rattle.integer.specs.Matrix.{Matrix, diagonal}
+use Rattle.ledger.specs.Axis.{errorOf}
+use Rattle.ledger.specs.Call.{Call, load, turn, sweep, loosePair, axis}
+use Rattle.ledger.specs.Limits.{units, whole}
+use Rattle.ledger.specs.Pairs.{Pair, cyclic}
+use Rattle.ledger.specs.Refusal.{matrixOf, refusalOf}
+use Rattle.rotation.specs.Turn.{at}
+use Rattle.record.specs.Flat.{kept, entriesOf, rowsOf, flatOf}
+use Rattle.record.specs.Work.{Work, chosen, isTurn, workPair, workPairs}
+use Rattle.record.specs.declared.Record.{Record}
+use Rattle.record.specs.declared.Answer.{Answer}
+use Rattle.record.specs.declared.Answer.the-variants.{Loaded, Turned, Swept, Pair as PairIs, NoPair, Axis, Refused}
+
+-- A fresh record holds no matrix and a count of 0 refused calls
+unfoldable pub fresh : Record
+fresh = record { n = 0; m = 0; refused = 0; a = replicate 64 (pos 0); v = replicate 64 (pos 0) }
+
+-- The count stops at 4,294,967,295
+unfoldable pub counted : ℕ → ℕ
+counted refused = cond (ltb refused 4294967295) (refused + 1) refused
+
+-- A refusal: the record changes only in its refused-call count
+unfoldable pub refusedOf : Record → Record
+refusedOf r = record { n = r .n; m = r .m; refused = counted (r .refused); a = r .a; v = r .v }
+
+-- x in the n by n entries in use, and 0 elsewhere
+unfoldable pub inUse : ℕ → Matrix → Matrix
+inUse n x i j = cond (ltb i n && ltb j n) (x i j) (pos 0)
+
+-- Kept entries are these times 1024, v is 2^30 on the diagonal and 0 elsewhere, m = 0
+unfoldable pub loadedOf : Record → ℕ → List ℤ → Record
+loadedOf r n numbers =
+    record {
+      n = n;
+      m = 0;
+      refused = r .refused;
+      a = flatOf (inUse n (λ i j. pos units *ℤ matrixOf n numbers i j));
+      v = flatOf (inUse n (diagonal (pos whole)));
+    }
+
+-- the matrix and axes at work, and back in the record
+unfoldable pub workOf : Record → Work
+workOf r = record { a = rowsOf (r .a); v = rowsOf (r .v); m = r .m }
+
+unfoldable pub workedOf : Record → Work → Record
+workedOf r w = record { n = r .n; m = w .m; refused = r .refused; a = flatOf (at (w .a)); v = flatOf (at (w .v)) }
+
+-- Turn p, q: choose, then turn if one was chosen
+unfoldable pub turnedOf : Record → ℕ → ℕ → Record
+turnedOf r p q = workedOf r (workPair (r .n) (workOf r) (record { p = p - 1; q = q - 1 }))
+
+-- Sweep: the pairs in their order, each chosen on the matrix as it then stands
+unfoldable pub sweptOf : Record → Record
+sweptOf r = workedOf r (workPairs (r .n) (workOf r) (cyclic (r .n)))
+
+-- Loose pair t: some pair p < q with |a_pq| > t units, and none only if none exists; here the first of the given pairs
+unfoldable pub looseOf : Matrix → ℕ → List Pair → Answer
+looseOf a t [] = NoPair
+looseOf a t (pair ∷ pairs) =
+    cond (ltb t (natAbs (a (pair .p) (pair .q)))) (PairIs (suc (pair .p)) (suc (pair .q))) (looseOf a t pairs)
+
+-- the record after a call
+unfoldable pub acceptedOf : Record → Call → Record
+acceptedOf r (load n numbers) = loadedOf r n numbers
+acceptedOf r (turn p q) = turnedOf r p q
+acceptedOf r sweep = sweptOf r
+acceptedOf r (loosePair t) = r
+acceptedOf r (axis i) = r
+
+unfoldable pub afterOf : Record → Call → Record
+afterOf r call = cond (eqb (refusalOf (r .n) (r .m) call) 0) (acceptedOf r call) (refusedOf r)
+
+-- The answer: whether a turn was made, how many a sweep made, a pair or none, a_ii and its error r_i
+unfoldable pub valueOf : Record → Call → Answer
+valueOf r (load n numbers) = Loaded
+valueOf r (turn p q) = Turned (isTurn (chosen (workOf r) (record { p = p - 1; q = q - 1 })))
+valueOf r sweep = Swept (sweptOf r .m - r .m)
+valueOf r (loosePair t) = looseOf (kept (r .a)) t (cyclic (r .n))
+valueOf r (axis i) = Axis (kept (r .a) (i - 1) (i - 1)) (errorOf (r .n) (kept (r .a)) (r .m) (i - 1))
+
+unfoldable pub answerOf : Record → Call → Answer
+answerOf r call =
+    let number = refusalOf (r .n) (r .m) call in
+    cond (eqb number 0) (valueOf r call) (Refused number)
+
+-- row i of v, with the answer of an axis call
+unfoldable pub axisOf : Record → ℕ → List ℤ
+axisOf r i = cond (eqb (refusalOf (r .n) (r .m) (axis i)) 0) (entriesOf (r .v) (i - 1)) (replicate 8 (pos 0))
+
+-- the record after a list of calls, from any record and from a fresh one
+unfoldable pub afterFrom : Record → List Call → Record
+afterFrom r [] = r
+afterFrom r (call ∷ calls) = afterFrom (afterOf r call) calls
+
+unfoldable pub after : List Call → Record
+after calls = afterFrom fresh calls

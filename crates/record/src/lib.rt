@@ -1,0 +1,232 @@
+// The record and its calls: one matrix with its axes, the turns made of it, and the count of refused calls.
+ghost use Rattle.ledger.specs.Call.{axis, load, loosePair, sweep, turn};
+ghost use Rattle.record.specs.Done.{AxisDone, Done, Fresh, withWork};
+ghost use Rattle.record.specs.Kept.{Kept};
+ghost use Rattle.record.specs.Record.{counted, fresh, refusedOf};
+ghost use mathlib.Core.Path.{_≡_};
+
+mod load;
+mod query;
+mod rows;
+mod work;
+
+// Channels n, 0 where there is no matrix; turns made m; refused calls; the kept matrix and axes, row after row, 8 to a row.
+pub struct Record {
+    n: usize,
+    m: u64,
+    refused: u32,
+    a: [i64; 64],
+    v: [i64; 64],
+}
+
+// What a call answers.
+pub enum Answer {
+    Loaded,
+    Turned(bool),
+    Swept(u64),
+    Pair { p: usize, q: usize },
+    NoPair,
+    Axis { entry: i64, error: u64 },
+    Refused(u32),
+}
+
+// A call's answer, and the record that it leaves.
+pub struct Step {
+    pub answer: Answer,
+    pub next: Record,
+}
+
+// The answer of an axis call, with row i of v; the row of a refused call is 0.
+pub struct AxisAnswer {
+    pub value: Answer,
+    pub row: [i64; 8],
+}
+
+pub struct AxisStep {
+    pub answer: AxisAnswer,
+    pub next: Record,
+}
+
+// One refused call more; the count stops at its limit.
+fn one_more(refused: u32) -> u32
+    ensures { λ r. ⌜ r ≡ counted refused ⌝ }
+{
+    if refused < Record::COUNT_LIMIT {
+        refused + 1
+    } else {
+        refused
+    }
+}
+
+impl Record {
+    pub const ENTRY_LIMIT: i64 = 1048576;
+
+    pub const TOLERANCE_LIMIT: u64 = 1048576;
+
+    pub const TURN_LIMIT: u64 = 448;
+
+    pub const UNITS: i64 = 1024;
+
+    pub const WHOLE: i64 = 1073741824;
+
+    pub const COUNT_LIMIT: u32 = 4294967295;
+
+    // A fresh record holds no matrix and a count of 0 refused calls.
+    pub fn new() -> Self
+        ensures { λ r. ⌜ Fresh r ⌝ }
+    {
+        Record {
+            n: 0,
+            m: 0,
+            refused: 0,
+            a: [0; 64],
+            v: [0; 64],
+        }
+    }
+
+    // How many calls were refused.
+    pub fn refused_calls(self) -> u32
+        ensures { λ r. ⌜ r ≡ self .refused ⌝ }
+    {
+        self.refused
+    }
+
+    fn after_refusal(mut self) -> Self
+        ensures { λ r. ⌜ r ≡ refusedOf self ⌝ }
+    {
+        let refused = self.refused;
+        self.refused = one_more(refused);
+        self
+    }
+
+    pub fn load(self, n: usize, numbers: &[i64]) -> Step
+        requires { ⌜ Kept self ⌝ }
+        ensures { λ z. ⌜ Done self (load n (now (numbers .entry))) (z .answer) (z .next) ⌝ }
+    {
+        let number = load::load_refusal(n, numbers);
+        if number != 0 {
+            return Step {
+                answer: Answer::Refused(number),
+                next: self.after_refusal(),
+            };
+        }
+        let refused = self.refused;
+        Step {
+            answer: Answer::Loaded,
+            next: Record {
+                n,
+                m: 0,
+                refused,
+                a: load::loaded_matrix(n, numbers),
+                v: load::loaded_axes(n),
+            },
+        }
+    }
+
+    pub fn turn(self, p: usize, q: usize) -> Step
+        requires { ⌜ Kept self ⌝ }
+        ensures { λ z. ⌜ Done self (turn p q) (z .answer) (z .next) ⌝ }
+    {
+        let n = self.n;
+        let m = self.m;
+        let number = work::turn_refusal(n, m, p, q);
+        if number != 0 {
+            return Step {
+                answer: Answer::Refused(number),
+                next: self.after_refusal(),
+            };
+        }
+        let a = self.a;
+        let v = self.v;
+        let done = work::turn_pair(a, v, n, m, p - 1, q - 1);
+        let made = done.m;
+        Step {
+            answer: Answer::Turned(m < made),
+            next: self.with_work(done),
+        }
+    }
+
+    pub fn sweep(self) -> Step
+        requires { ⌜ Kept self ⌝ }
+        ensures { λ z. ⌜ Done self sweep (z .answer) (z .next) ⌝ }
+    {
+        let n = self.n;
+        let m = self.m;
+        let number = work::sweep_refusal(n, m);
+        if number != 0 {
+            return Step {
+                answer: Answer::Refused(number),
+                next: self.after_refusal(),
+            };
+        }
+        let a = self.a;
+        let v = self.v;
+        let done = work::sweep_pairs(a, v, n, m);
+        let made = done.m;
+        Step {
+            answer: Answer::Swept(made - m),
+            next: self.with_work(done),
+        }
+    }
+
+    pub fn loose_pair(self, t: u64) -> Step
+        requires { ⌜ Kept self ⌝ }
+        ensures { λ z. ⌜ Done self (loosePair t) (z .answer) (z .next) ⌝ }
+    {
+        let n = self.n;
+        let number = query::loose_pair_refusal(n, t);
+        if number != 0 {
+            return Step {
+                answer: Answer::Refused(number),
+                next: self.after_refusal(),
+            };
+        }
+        let a = self.a;
+        Step {
+            answer: query::loose_pair_of(&a, n, t),
+            next: self,
+        }
+    }
+
+    pub fn axis(self, i: usize) -> AxisStep
+        requires { ⌜ Kept self ⌝ }
+        ensures { λ z. ⌜ AxisDone self i z ⌝ }
+    {
+        let n = self.n;
+        let number = query::axis_refusal(n, i);
+        if number != 0 {
+            return AxisStep {
+                answer: AxisAnswer {
+                    value: Answer::Refused(number),
+                    row: [0; 8],
+                },
+                next: self.after_refusal(),
+            };
+        }
+        let a = self.a;
+        let v = self.v;
+        let entry = a[9 * (i - 1)];
+        let error = query::error_of(&a, n, self.m, i - 1);
+        AxisStep {
+            answer: AxisAnswer {
+                value: Answer::Axis { entry, error },
+                row: rows::row(&v, i - 1),
+            },
+            next: self,
+        }
+    }
+
+    fn with_work(self, done: work::Worked) -> Self
+        ensures { λ r. ⌜ r ≡ withWork self done ⌝ }
+    {
+        let a = done.a;
+        let v = done.v;
+        Record {
+            n: self.n,
+            m: done.m,
+            refused: self.refused,
+            a,
+            v,
+        }
+    }
+}

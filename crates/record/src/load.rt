@@ -1,0 +1,131 @@
+// What a load checks and makes.
+ghost use mathlib.Core.Path.{_≡_};
+ghost use mathlib.Core.Bool.{true};
+ghost use Prim.Native.Nat.{_*_, _/_, _%_, _<_, _≤_};
+ghost use Rattle.integer.specs.Matrix.{diagonal};
+ghost use Rattle.integer.specs.Range.{all};
+ghost use Rattle.ledger.specs.Call.{load};
+ghost use Rattle.ledger.specs.Limits.{entryLimit, units, whole};
+ghost use Rattle.ledger.specs.Refusal.{equal, matrixOf, refusalOf, symmetric, within};
+ghost use Rattle.record.specs.Flat.{flatOf};
+ghost use Rattle.record.specs.Record.{inUse};
+ghost use lib.Dec.{leb};
+ghost use lib.IntN.{pos, natAbs, _*ℤ_};
+ghost use lib.ListN.{length};
+use crate::Record;
+
+// Whether x is not beyond ±1,048,576.
+fn is_within(x: i64) -> bool
+    ensures { λ r. ⌜ r ≡ leb (natAbs x) entryLimit ⌝ }
+{
+    if x < 0 - Record::ENTRY_LIMIT {
+        return false;
+    }
+    x <= Record::ENTRY_LIMIT
+}
+
+fn all_within(numbers: &[i64]) -> bool
+    ensures { λ r. ⌜ r ≡ within (now (numbers .entry)) ⌝ }
+{
+    let mut k = 0;
+    while k < numbers.len() {
+        if !is_within(numbers[k]) {
+            return false;
+        }
+        k += 1;
+    }
+    true
+}
+
+// Whether row i of the n×n numbers is the mirror of column i, left of the diagonal.
+fn row_mirrored(n: usize, numbers: &[i64], i: usize) -> bool
+    requires { ⌜ (i < n) × (n ≤ 8) × (length (now numbers) ≡ n * n) ⌝ }
+    ensures { λ r. ⌜ r ≡ all (λ j. equal (matrixOf n (now (numbers .entry)) i j) (matrixOf n (now (numbers .entry)) j i)) i ⌝ }
+{
+    let mut j = 0;
+    while j < i {
+        if numbers[i * n + j] != numbers[j * n + i] {
+            return false;
+        }
+        j += 1;
+    }
+    true
+}
+
+fn is_symmetric(n: usize, numbers: &[i64]) -> bool
+    requires { ⌜ (n ≤ 8) × (length (now numbers) ≡ n * n) ⌝ }
+    ensures { λ r. ⌜ r ≡ symmetric n (matrixOf n (now (numbers .entry))) ⌝ }
+{
+    let mut i = 0;
+    while i < n {
+        if !row_mirrored(n, numbers, i) {
+            return false;
+        }
+        i += 1;
+    }
+    true
+}
+
+// The refusal's number, or 0.
+pub fn load_refusal(n: usize, numbers: &[i64]) -> u32
+    ensures { λ r. ⌜ r ≡ refusalOf 0 0 (load n (now (numbers .entry))) ⌝ }
+{
+    if n < 2 {
+        return 5;
+    }
+    if 8 < n {
+        return 5;
+    }
+    if numbers.len() != n * n {
+        return 6;
+    }
+    if !all_within(numbers) {
+        return 8;
+    }
+    if !is_symmetric(n, numbers) {
+        return 7;
+    }
+    0
+}
+
+// The kept entry at place k of the flat matrix.
+fn loaded_entry(n: usize, numbers: &[i64], k: usize) -> i64
+    requires { ⌜ (k < 64) × (n ≤ 8) × (length (now numbers) ≡ n * n) × (within (now numbers) ≡ true) ⌝ }
+    ensures { λ r. ⌜ r ≡ inUse n (λ i j. pos units *ℤ matrixOf n (now (numbers .entry)) i j) (k / 8) (k % 8) ⌝ }
+{
+    let i = k / 8;
+    let j = k % 8;
+    if n <= i {
+        return 0;
+    }
+    if n <= j {
+        return 0;
+    }
+    Record::UNITS * numbers[i * n + j]
+}
+
+pub fn loaded_matrix(n: usize, numbers: &[i64]) -> [i64; 64]
+    requires { ⌜ (n ≤ 8) × (length (now numbers) ≡ n * n) × (within (now numbers) ≡ true) ⌝ }
+    ensures { λ r. ⌜ r ≡ flatOf (inUse n (λ i j. pos units *ℤ matrixOf n (now (numbers .entry)) i j)) ⌝ }
+{
+    let mut a = [0i64; 64];
+    let mut k = 0;
+    while k < 64 {
+        a[k] = loaded_entry(n, numbers, k);
+        k += 1;
+    }
+    a
+}
+
+pub fn loaded_axes(n: usize) -> [i64; 64]
+    requires { ⌜ n ≤ 8 ⌝ }
+    ensures { λ r. ⌜ r ≡ flatOf (inUse n (diagonal (pos whole))) ⌝ }
+{
+    let mut v = [0i64; 64];
+    let mut i = 0;
+    while i < n {
+        v[9 * i] = Record::WHOLE;
+        i += 1;
+    }
+    v
+}

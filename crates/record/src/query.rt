@@ -1,0 +1,96 @@
+// What the queries find: a loose pair, and the error of an axis.
+ghost use mathlib.Core.Path.{_≡_};
+ghost use mathlib.Core.Bool.{cond};
+ghost use Prim.Native.Nat.{_<_, _≤_};
+ghost use lib.Dec.{eqb};
+ghost use lib.IntN.{natAbs};
+ghost use Rattle.ledger.specs.Axis.{errorOf};
+ghost use Rattle.ledger.specs.Call.{loosePair, axis};
+ghost use Rattle.ledger.specs.Pairs.{cyclic};
+ghost use Rattle.ledger.specs.Refusal.{refusalOf};
+ghost use Rattle.record.specs.Flat.{kept};
+ghost use Rattle.record.specs.Record.{looseOf};
+ghost use Rattle.record.specs.Query.{Modest};
+use crate::Answer;
+use crate::Record;
+use crate::work::FIRST;
+use crate::work::SECOND;
+
+pub fn loose_pair_refusal(n: usize, t: u64) -> u32
+    ensures { λ r. ⌜ r ≡ refusalOf n 0 (loosePair t) ⌝ }
+{
+    if n == 0 {
+        return 10;
+    }
+    if Record::TOLERANCE_LIMIT < t {
+        return 2;
+    }
+    0
+}
+
+pub fn axis_refusal(n: usize, i: usize) -> u32
+    ensures { λ r. ⌜ r ≡ refusalOf n 0 (axis i) ⌝ }
+{
+    if n == 0 {
+        return 10;
+    }
+    if i < 1 {
+        return 9;
+    }
+    if n < i {
+        return 9;
+    }
+    0
+}
+
+// |a_ij| of the kept matrix, i and j from 0.
+fn magnitude_at(a: &[i64; 64], i: usize, j: usize) -> u64
+    requires { ⌜ (i < 8) × (j < 8) × Modest (now a) ⌝ }
+    ensures { λ r. ⌜ r ≡ natAbs (kept (now (a .entry)) i j) ⌝ }
+{
+    rotation::choice::magnitude(a[8 * i + j])
+}
+
+// The first pair in row order whose entry is above t in size.
+pub fn loose_pair_of(a: &[i64; 64], n: usize, t: u64) -> Answer
+    requires { ⌜ (n ≤ 8) × Modest (now a) ⌝ }
+    ensures { λ r. ⌜ r ≡ looseOf (kept (now (a .entry))) t (cyclic n) ⌝ }
+{
+    let mut k = 0;
+    while k < 28 {
+        let p = FIRST[k];
+        let q = SECOND[k];
+        if q < n {
+            if t < magnitude_at(a, p, q) {
+                return Answer::Pair { p: p + 1, q: q + 1 };
+            }
+        }
+        k += 1;
+    }
+    Answer::NoPair
+}
+
+// What column j adds to the error of the axis in row i.
+fn off_diagonal(a: &[i64; 64], i: usize, j: usize) -> u64
+    requires { ⌜ (i < 8) × (j < 8) × Modest (now a) ⌝ }
+    ensures { λ r. ⌜ r ≡ cond (eqb j i) 0 (natAbs (kept (now (a .entry)) i j)) ⌝ }
+{
+    if j == i {
+        return 0;
+    }
+    magnitude_at(a, i, j)
+}
+
+// The error of the axis in row i (from 0) of the kept matrix.
+pub fn error_of(a: &[i64; 64], n: usize, m: u64, i: usize) -> u64
+    requires { ⌜ (i < n) × (n ≤ 8) × (m ≤ 448) × Modest (now a) ⌝ }
+    ensures { λ r. ⌜ r ≡ errorOf n (kept (now (a .entry))) m i ⌝ }
+{
+    let mut sum = 0;
+    let mut j = 0;
+    while j < n {
+        sum += off_diagonal(a, i, j);
+        j += 1;
+    }
+    sum + (7 * m + 1) / 2
+}

@@ -1,0 +1,49 @@
+// Flat arrays of 64 entries, 8 to a row, and the same entries as 8 rows of 8.
+ghost use mathlib.Core.Path.{_≡_};
+ghost use Prim.Native.Nat.{_<_};
+ghost use Rattle.record.specs.Flat.{flatOf, rowsOf, entriesOf};
+ghost use Rattle.rotation.specs.Turn.{at};
+
+pub fn row(a: &[i64; 64], i: usize) -> [i64; 8]
+    requires { ⌜ i < 8 ⌝ }
+    ensures { λ r. ⌜ r ≡ entriesOf (now (a .entry)) i ⌝ }
+{
+    let start = 8 * i;
+    [
+        a[start],
+        a[start + 1],
+        a[start + 2],
+        a[start + 3],
+        a[start + 4],
+        a[start + 5],
+        a[start + 6],
+        a[start + 7],
+    ]
+}
+
+pub fn unpacked(a: &[i64; 64]) -> [[i64; 8]; 8]
+    ensures { λ r. ⌜ r ≡ rowsOf (now (a .entry)) ⌝ }
+{
+    [
+        row(a, 0),
+        row(a, 1),
+        row(a, 2),
+        row(a, 3),
+        row(a, 4),
+        row(a, 5),
+        row(a, 6),
+        row(a, 7),
+    ]
+}
+
+pub fn packed(b: [[i64; 8]; 8]) -> [i64; 64]
+    ensures { λ r. ⌜ r ≡ flatOf (at b) ⌝ }
+{
+    let mut a = [0i64; 64];
+    let mut k = 0;
+    while k < 64 {
+        a[k] = b[k / 8][k % 8];
+        k += 1;
+    }
+    a
+}

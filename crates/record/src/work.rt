@@ -1,0 +1,179 @@
+// Turning pairs of the kept matrix and axes.
+ghost use mathlib.Core.Path.{_≡_};
+ghost use Prim.Native.Nat.{_<_, _≤_, _+_};
+ghost use Rattle.ledger.specs.Call.{turn, sweep};
+ghost use Rattle.ledger.specs.Pairs.{cyclic};
+ghost use Rattle.ledger.specs.Refusal.{refusalOf};
+ghost use Rattle.record.specs.Kept.{KeptWork};
+ghost use Rattle.record.specs.Worked.{flatWork, startOf};
+ghost use Rattle.record.specs.Work.{workPair, workPairs};
+ghost use Rattle.rotation.specs.Choice.{choose};
+ghost use Rattle.rotation.specs.Size.{Small};
+ghost use Rattle.rotation.specs.Turn.{at};
+use crate::Record;
+use crate::rows;
+use rotation::choice;
+use rotation::choice::Choice;
+use rotation::pair::Rotation;
+use rotation::turn;
+
+// The pairs p < q of eight channels in row order, from 0. Those of n channels are the ones with q < n, in the same order.
+pub const FIRST: [usize; 28] = [
+    0,
+    0,
+    0,
+    0,
+    0,
+    0,
+    0,
+    1,
+    1,
+    1,
+    1,
+    1,
+    1,
+    2,
+    2,
+    2,
+    2,
+    2,
+    3,
+    3,
+    3,
+    3,
+    4,
+    4,
+    4,
+    5,
+    5,
+    6,
+];
+
+pub const SECOND: [usize; 28] = [
+    1,
+    2,
+    3,
+    4,
+    5,
+    6,
+    7,
+    2,
+    3,
+    4,
+    5,
+    6,
+    7,
+    3,
+    4,
+    5,
+    6,
+    7,
+    4,
+    5,
+    6,
+    7,
+    5,
+    6,
+    7,
+    6,
+    7,
+    7,
+];
+
+// The kept matrix and axes after some turns, and m.
+pub struct Worked {
+    pub a: [i64; 64],
+    pub v: [i64; 64],
+    pub m: u64,
+}
+
+pub fn turn_refusal(n: usize, m: u64, p: usize, q: usize) -> u32
+    ensures { λ r. ⌜ r ≡ refusalOf n m (turn p q) ⌝ }
+{
+    if n == 0 {
+        return 10;
+    }
+    if p < 1 {
+        return 9;
+    }
+    if q <= p {
+        return 9;
+    }
+    if n < q {
+        return 9;
+    }
+    if Record::TURN_LIMIT <= m {
+        return 11;
+    }
+    0
+}
+
+pub fn sweep_refusal(n: usize, m: u64) -> u32
+    requires { ⌜ (n ≤ 8) × (m ≤ 448) ⌝ }
+    ensures { λ r. ⌜ r ≡ refusalOf n m sweep ⌝ }
+{
+    if n == 0 {
+        return 10;
+    }
+    if Record::TURN_LIMIT < m + (n * (n - 1) / 2) as u64 {
+        return 11;
+    }
+    0
+}
+
+// The choice for the pair p < q, in rows and columns from 0.
+fn choice_at(a: &[[i64; 8]; 8], p: usize, q: usize) -> Choice
+    requires { ⌜ (p < 8) × (q < 8) × Small (now a) ⌝ }
+    ensures { λ r. ⌜ r ≡ choose (at (now (a .entry)) p p) (at (now (a .entry)) q q) (at (now (a .entry)) p q) ⌝ }
+{
+    choice::choose_turn(a[p][p], a[q][q], a[p][q])
+}
+
+// The pair p < q chosen, and turned if a turn was chosen.
+pub fn turn_pair(a: [i64; 64], v: [i64; 64], n: usize, m: u64, p: usize, q: usize) -> Worked
+    requires { ⌜ (p < q) × (q < n) × (n ≤ 8) × (m ≤ 448) × KeptWork n (startOf a v m) ⌝ }
+    ensures { λ z. ⌜ z ≡ flatWork (workPair n (startOf a v m) (record { p = p; q = q })) ⌝ }
+{
+    let matrix = rows::unpacked(&a);
+    let Choice::Turn { l, minus } = choice_at(&matrix, p, q) else {
+        return Worked { a, v, m };
+    };
+    let r = Rotation::of(l, minus);
+    let axes = rows::unpacked(&v);
+    Worked {
+        a: rows::packed(turn::turn_matrix(matrix, n, r, p, q)),
+        v: rows::packed(turn::turn_axes(axes, n, r, p, q)),
+        m: m + 1,
+    }
+}
+
+// The pairs of a sweep over n channels, each chosen on the matrix as it then stands.
+pub fn sweep_pairs(a: [i64; 64], v: [i64; 64], n: usize, m: u64) -> Worked
+    requires { ⌜ (n ≤ 8) × (m ≤ 448) × KeptWork n (startOf a v m) ⌝ }
+    ensures { λ z. ⌜ z ≡ flatWork (workPairs n (startOf a v m) (cyclic n)) ⌝ }
+{
+    let mut matrix = rows::unpacked(&a);
+    let mut axes = rows::unpacked(&v);
+    let mut made = m;
+    let mut k = 0;
+    while k < 28 {
+        let p = FIRST[k];
+        let q = SECOND[k];
+        k += 1;
+        if q < n {
+            if let Choice::Turn { l, minus } = choice_at(&matrix, p, q) {
+                let r = Rotation::of(l, minus);
+                let turned = turn::turn_matrix(matrix, n, r, p, q);
+                let turned_axes = turn::turn_axes(axes, n, r, p, q);
+                matrix = turned;
+                axes = turned_axes;
+                made += 1;
+            }
+        }
+    }
+    Worked {
+        a: rows::packed(matrix),
+        v: rows::packed(axes),
+        m: made,
+    }
+}

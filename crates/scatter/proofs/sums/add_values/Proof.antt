@@ -1,0 +1,63 @@
+-- `scatter::sums::add_values` meets its contract: channel after channel the value is added, and a channel that the sample lacks keeps its sum.
+use mathlib.Core.Path.{refl}
+use Prim.Native.Nat.{_≤_, _-_, _+_}
+use native.Mathlib.Nat.{mul-le-mul, le-refl}
+use native.Mathlib.Omega.{arith}
+use borrow.Author.Needs.{needs}
+use lib.ListN.{length}
+use Rattle.scatter.specs.Samples.{sample, raised, z}
+use Rattle.scatter.proofs.Filled.{Filled, filled-none}
+use Rattle.scatter.proofs.Raised.{raised-more, raised-skip, raised-all, no-value}
+use Rattle.scatter.proofs.sums.add_values.Statement.{statement}
+use Rattle.scatter.proofs.sums.add_values.Tie as tie
+
+abbrev Inv-loop : tie.InvT-loop
+Inv-loop dilution counts channel₀ i₀ channel i =
+    (i ≤ length counts) × Filled 0 (raised 8 (z (sample dilution counts)) channel₀) channel₀ channel i
+
+abbrev μ-loop : tie.MeasureT-loop
+μ-loop dilution counts channel₀ i₀ channel i = length counts - i
+
+mul-channel-2 : tie.Need-mul-channel-2 Inv-loop μ-loop
+mul-channel-2 c =
+    let i = c .before .before .loop .i in
+    record { fits = omega (arith, mul-le-mul (c .before .before .before .pre .0 .count i) (c .before .before .before .pre .0 .dilution)) }
+
+add-channel : tie.Need-add-channel Inv-loop μ-loop
+add-channel c =
+    let s = c .before .before .before .before in
+    let i = c .before .before .before .loop .i in
+    record { fits = omega (arith, mul-le-mul (s .pre .0 .count i) (s .pre .0 .dilution), s .pre .1 .most i, c .before .before .before .loop .inv .1 .after i (le-refl i)) }
+
+loop-again : tie.Need-loop-again Inv-loop μ-loop
+unfolding z
+loop-again c =
+    let s = c .before .before .before .before in
+    let l = c .before .before .before .loop in
+    (search needs, raised-more 8 (z (sample (s .args .dilution) (s .args .counts .now))) (s .args .channel .now) (s .pre .1 .size) (l .inv .1) (l .i) (l .i + 1) _ refl (omega arith) (omega arith) refl)
+
+returns : tie.Need-returns Inv-loop μ-loop
+returns c =
+    let s = c .before .before in
+    let f = z (sample (s .args .dilution) (s .args .counts .now)) in
+    raised-all 8 f (s .args .channel .now) (s .pre .1 .size)
+    (raised-skip 8 f (s .args .channel .now) (s .pre .1 .size) (c .before .loop .inv .1) 8 (omega arith) (λ p a b. no-value (sample (s .args .dilution) (s .args .counts .now)) p (omega arith))) (omega arith)
+
+pub add-values-spec : {M : Type 1} → statement M
+add-values-spec =
+    tie.close
+    (tie.spec
+    Inv-loop
+    μ-loop
+    (λ c. (search needs, filled-none))
+    (λ c. search needs)
+    (λ c. search needs)
+    mul-channel-2
+    (λ c. search needs)
+    (λ c. search needs)
+    add-channel
+    (λ c. search needs)
+    (λ c. search needs)
+    (λ c. search needs)
+    loop-again
+    returns)

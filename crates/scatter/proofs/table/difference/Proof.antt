@@ -1,0 +1,24 @@
+-- `scatter::table::difference` meets its contract: both products are below 2^63, so their difference fits.
+use borrow.Author.Needs.{needs}
+use mir.Syntax.{w64}
+use mir.Facts.{toZ-ofZ, toZ-pos}
+use Rattle.scatter.proofs.Signed.{difference-fits}
+use Rattle.scatter.proofs.table.difference.Statement.{statement}
+use Rattle.scatter.proofs.table.difference.Tie as tie
+
+sub-result : tie.Need-sub-result
+sub-result c = rw (toZ-pos w64 (c .pre .0), toZ-pos w64 (c .pre .1)) (difference-fits _ _ (c .pre .0) (c .pre .1))
+
+returns : tie.Need-returns
+returns c = rw (toZ-pos w64 (c .pre .0), toZ-pos w64 (c .pre .1)) (toZ-ofZ (difference-fits _ _ (c .pre .0) (c .pre .1)))
+
+pub difference-spec : {M : Type 1} → statement M
+difference-spec =
+    tie.close
+    (tie.spec
+    (λ c. search needs)
+    (λ c. search needs)
+    (λ c. search needs)
+    (λ c. search needs)
+    sub-result
+    returns)

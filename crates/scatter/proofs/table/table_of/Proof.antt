@@ -1,0 +1,34 @@
+-- `scatter::table::table_of` meets its contract: each part is the definition's.
+use borrow.Author.Needs.{needs}
+use Rattle.scatter.proofs.Assembled.{scatter-small, most-small, shift-below, assembled}
+use Rattle.scatter.proofs.table.table_of.Statement.{statement}
+use Rattle.scatter.proofs.table.table_of.Tie as tie
+
+largest-of-requires : tie.Need-largest-of-requires
+largest-of-requires c κs =
+    let a = c .before .before in
+    scatter-small (a .args .n) (a .args .t) (a .pre .0) (a .pre .1) (c .before .scatter-of .ensures)
+
+shift-of-requires : tie.Need-shift-of-requires
+shift-of-requires c κs =
+    let a = c .before .before .before in
+    most-small (a .args .n) (a .args .t) (a .pre .0) (a .pre .1) (c .before .before .scatter-of .ensures) (c .largest-of .ensures)
+
+entries-of-requires : tie.Need-entries-of-requires
+entries-of-requires c κs =
+    let s = c .before .before .before .before in
+    let a = s .before in (
+      scatter-small (a .args .n) (a .args .t) (a .pre .0) (a .pre .1) (s .scatter-of .ensures),
+      shift-below (a .args .n) (a .args .t) (a .pre .0) (a .pre .1) (s .scatter-of .ensures) (c .before .before .largest-of .ensures) (c .before .shift-of .ensures),
+    )
+
+returns : tie.Need-returns
+returns c =
+    let s = c .before .before .before .before .before in
+    let a = s .before in
+    assembled (a .args .n) (a .args .t) (a .pre .0) (a .pre .1) (s .scatter-of .ensures) (c .before .before .before .largest-of .ensures) (c .before .before .shift-of .ensures) _
+    (c .entries-of .ensures)
+
+pub table-of-spec : {M : Type 1} → statement M
+table-of-spec =
+    tie.close (tie.spec (λ c κs. search needs) largest-of-requires shift-of-requires entries-of-requires returns)

@@ -1,0 +1,134 @@
+// The table of sums: S, the shift e, and the entries that are loaded.
+use crate::sums::Sums;
+ghost use mathlib.Core.Path.{_≡_};
+ghost use Prim.Native.Nat.{_+_, _*_, _^_, _<_, _≤_, min, max};
+ghost use lib.IntN.{pos, _-ℤ_, natAbs};
+ghost use lib.ListN.{getD};
+ghost use Rattle.rounding.specs.Rounding.{rnd};
+ghost use Rattle.scatter.specs.Tabulate.{tabulate};
+ghost use Rattle.scatter.specs.Samples.{samples, sumsOf};
+ghost use Rattle.scatter.specs.Table.{scatter, largest, padded, tableOf};
+ghost use Rattle.scatter.specs.Ranges.{Readings, Bounded, Small};
+ghost use Rattle.scatter.specs.Shift.{Smallest};
+
+// The limit of an entry's size, document 01's 1,048,576.
+const ENTRY_LIMIT: u64 = 1_048_576;
+
+// n × n numbers, row after row, and zeros after them: the entries, and the exact S_ij that they are rounded from.
+pub struct Table {
+    pub e: u32,
+    pub entries: [i64; 64],
+    pub scatter: [i64; 64],
+}
+
+// The place of the cross sum of two channels.
+fn place_of(i: usize, j: usize) -> usize
+    requires { ⌜ (i < 8) × (j < 8) ⌝ }
+    ensures { λ r. ⌜ r ≡ 8 * min i j + max i j ⌝ }
+{
+    if i <= j { 8 * i + j } else { 8 * j + i }
+}
+
+// k × c − a × b
+fn difference(k: u64, c: u64, a: u64, b: u64) -> i64
+    requires { ⌜ (k * c < 2 ^ 63) × (a * b < 2 ^ 63) ⌝ }
+    ensures { λ r. ⌜ r ≡ pos (k * c) -ℤ pos (a * b) ⌝ }
+{
+    (k * c) as i64 - (a * b) as i64
+}
+
+// |u|
+pub fn size_of(u: i64) -> u64
+    requires { ⌜ natAbs u < 2 ^ 63 ⌝ }
+    ensures { λ r. ⌜ r ≡ natAbs u ⌝ }
+{
+    if u < 0 { (-u) as u64 } else { u as u64 }
+}
+
+// S_ij, row after row.
+fn scatter_of(n: usize, t: Sums) -> [i64; 64]
+    requires { ⌜ (n ≤ 8) × Bounded t ⌝ }
+    ensures { λ r. ⌜ r ≡ padded (scatter n t) ⌝ }
+{
+    let mut s = [0i64; 64];
+    let mut at = 0;
+    let mut i = 0;
+    while i < n {
+        let mut j = 0;
+        while j < n {
+            let place = place_of(i, j);
+            s[at] = difference(t.k, t.cross[place], t.channel[i], t.channel[j]);
+            at += 1;
+            j += 1;
+        }
+        i += 1;
+    }
+    s
+}
+
+// The greatest |S_ij|.
+fn largest_of(s: &[i64; 64]) -> u64
+    requires { ⌜ Small (now s) ⌝ }
+    ensures { λ r. ⌜ r ≡ largest (now (s .entry)) ⌝ }
+{
+    let mut m = 0;
+    let mut p = 0;
+    while p < 64 {
+        let a = size_of(s[p]);
+        if m < a {
+            m = a;
+        }
+        p += 1;
+    }
+    m
+}
+
+// The shift for the greatest |S_ij|.
+fn shift_of(m: u64) -> u32
+    requires { ⌜ m < 2 ^ 62 ⌝ }
+    ensures { λ r. ⌜ Smallest m r ⌝ }
+{
+    let mut e = 0;
+    let mut bound = ENTRY_LIMIT;
+    while bound < m {
+        bound *= 2;
+        e += 1;
+    }
+    e
+}
+
+// rnd(S_ij / 2^e), place after place.
+fn entries_of(s: &[i64; 64], e: u32) -> [i64; 64]
+    requires { ⌜ Small (now s) × (e < 62) ⌝ }
+    ensures { λ r. ⌜ r ≡ tabulate 64 (λ p. rnd (getD (now (s .entry)) p (pos 0)) (2 ^ e)) ⌝ }
+{
+    let w = 1u64 << e;
+    let mut entries = [0i64; 64];
+    let mut p = 0;
+    while p < 64 {
+        entries[p] = rounding::nearest(s[p], w);
+        p += 1;
+    }
+    entries
+}
+
+pub fn table_of(n: usize, t: Sums) -> Table
+    requires { ⌜ (n ≤ 8) × Bounded t ⌝ }
+    ensures { λ r. ⌜ r ≡ tableOf n t ⌝ }
+{
+    let scatter = scatter_of(n, t);
+    let e = shift_of(largest_of(&scatter));
+    let entries = entries_of(&scatter, e);
+    Table {
+        e,
+        entries,
+        scatter,
+    }
+}
+
+pub fn table_of_readings(n: usize, dilutions: &[u64], counts: &[u64]) -> Table
+    requires { ⌜ Readings n (now dilutions) (now counts) ⌝ }
+    ensures { λ r. ⌜ r ≡ tableOf n (sumsOf (samples n (now (dilutions .entry)) (now (counts .entry)))) ⌝ }
+{
+    table_of(n, crate::sums::sums_of(n, dilutions, counts))
+}

@@ -1,0 +1,2 @@
+mod Gathered
+mod Negative
