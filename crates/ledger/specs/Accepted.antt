@@ -11,7 +11,7 @@ use mir.Facts.{and-yes}
 use Rattle.integer.specs.Matrix.{Matrix, Symmetric}
 use Rattle.integer.specs.Range.{all, below}
 use Rattle.ledger.specs.Call.{load, turn, sweep, axis}
-use Rattle.ledger.specs.Limits.{entryLimit, turnLimit}
+use Rattle.limits.specs.Limits.{entryLimit, turnLimit}
 use Rattle.ledger.specs.Refusal.{matrixOf, equal, symmetric, within, unless, refusalOf}
 
 -- 'Load: 5, 6, 8, 7': none of them

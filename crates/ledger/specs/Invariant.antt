@@ -14,7 +14,7 @@ use Rattle.ledger.specs.Accepted.{load-accepted, turn-accepted, sweep-ac
 use Rattle.ledger.specs.Call.{Call, load, turn, sweep, loosePair, axis}
 use Rattle.ledger.specs.Cyclic.{Each, cyclic-pairs, cyclic-length}
 use Rattle.ledger.specs.Ledger.{State, Ledger, empty, loaded, take, turnPair, turnPairs, accepted, sizeOf, turnsOf, ledgerStep, ledgerFrom, ledger}
-use Rattle.ledger.specs.Limits.{turnLimit}
+use Rattle.limits.specs.Limits.{turnLimit}
 use Rattle.ledger.specs.Loaded.{sound-load}
 use Rattle.ledger.specs.Pairs.{Pair, cyclic}
 use Rattle.ledger.specs.Refusal.{refusalOf}

@@ -12,7 +12,7 @@ use Rattle.rotation.specs.Turn.{turned, turnedAxes}
 use Rattle.rotation.specs.declared.choice.Choice.{Choice}
 use Rattle.rotation.specs.declared.choice.Choice.the-variants.{NoTurn, Turn}
 use Rattle.ledger.specs.Call.{Call, load, turn, sweep, loosePair, axis}
-use Rattle.ledger.specs.Limits.{units, whole}
+use Rattle.limits.specs.Limits.{units, whole}
 use Rattle.ledger.specs.Pairs.{Pair, cyclic}
 use Rattle.ledger.specs.Refusal.{matrixOf, refusalOf}
 

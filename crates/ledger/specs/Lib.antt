@@ -1,4 +1,3 @@
-pub mod Limits
 pub mod Call
 pub mod Refusal
 pub mod Pairs

@@ -13,7 +13,7 @@ use Rattle.integer.specs.Dot.{dot-comm}
 use Rattle.integer.specs.Matrix.{Matrix, product, transpose, conjugate, diagonal, diagonal-*, diagonal-transpose, diagonal-product, product-diagonal, dot-diagonal, diagonal-squares, squares, squares-≤}
 use Rattle.ledger.specs.Accepted.{Loads}
 use Rattle.ledger.specs.Ledger.{loadedOf}
-use Rattle.ledger.specs.Limits.{entryLimit, units, whole}
+use Rattle.limits.specs.Limits.{entryLimit, units, whole}
 use Rattle.ledger.specs.Near.{matrixDifference, axesDifference}
 use Rattle.ledger.specs.Refusal.{matrixOf}
 use Rattle.ledger.specs.Sound.{Sound, matrixBound}

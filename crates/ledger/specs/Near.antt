@@ -13,7 +13,7 @@ use Rattle.rotation.specs.Error.{matrixError, axesError, matrix-error, axes-err
 use Rattle.rotation.specs.Exact.{Whole, exact, exact-squares, conjugate-squares}
 use Rattle.rotation.specs.Turn.{turned, turnedAxes}
 use Rattle.rotation.specs.declared.pair.Rotation.{Rotation}
-use Rattle.ledger.specs.Limits.{units, whole}
+use Rattle.limits.specs.Limits.{units, whole}
 
 -- X = D² × B − 1024 × P A Pᵀ
 abbrev pub matrixDifference : ℕ → ℕ → Matrix → Matrix → Matrix → Matrix

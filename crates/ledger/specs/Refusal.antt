@@ -8,7 +8,7 @@ use lib.ListN.{length, getD}
 use Rattle.integer.specs.Matrix.{Matrix}
 use Rattle.integer.specs.Range.{all}
 use Rattle.ledger.specs.Call.{Call, load, turn, sweep, loosePair, axis}
-use Rattle.ledger.specs.Limits.{entryLimit, toleranceLimit, turnLimit}
+use Rattle.limits.specs.Limits.{entryLimit, toleranceLimit, turnLimit}
 
 -- n×n whole numbers, row after row, as a matrix; indices count from 0
 unfoldable pub matrixOf : ℕ → List ℤ → Matrix

@@ -16,7 +16,7 @@ use Rattle.integer.specs.Dot.{dot, dot-difference}
 use Rattle.integer.specs.Matrix.{Matrix, product, transpose, conjugate, diagonal, diagonal-same, diagonal-other, row-≤-squares}
 use Rattle.ledger.specs.Axis.{errorOf}
 use Rattle.ledger.specs.Ledger.{State}
-use Rattle.ledger.specs.Limits.{units}
+use Rattle.limits.specs.Limits.{units}
 use Rattle.ledger.specs.Near.{matrixDifference}
 use Rattle.ledger.specs.Sound.{Sound}
 

@@ -7,7 +7,7 @@ use Rattle.integer.specs.Sum.{sumℕ}
 use Rattle.integer.specs.Dot.{dot}
 use Rattle.integer.specs.Matrix.{Same, Symmetric, product, transpose, diagonal, squares}
 use Rattle.ledger.specs.Ledger.{State}
-use Rattle.ledger.specs.Limits.{entryLimit, turnLimit, units, whole}
+use Rattle.limits.specs.Limits.{entryLimit, turnLimit, units, whole}
 use Rattle.ledger.specs.Near.{MatrixNear, AxesNear}
 
 -- the norm of the kept matrix after m turns: 8 × 8 entries of up to 2^30 units at first, and less than 4 more with each turn

@@ -17,7 +17,7 @@ use Rattle.rotation.specs.declared.choice.Choice.the-variants.{NoTurn, Turn}
 use Rattle.rotation.specs.declared.pair.Rotation.{Rotation}
 use Rattle.ledger.specs.Cyclic.{Ordered}
 use Rattle.ledger.specs.Ledger.{State, take, turnPair}
-use Rattle.ledger.specs.Limits.{turnLimit}
+use Rattle.limits.specs.Limits.{turnLimit}
 use Rattle.ledger.specs.Near.{matrix-near-turn, axes-near-turn}
 use Rattle.ledger.specs.Pairs.{Pair}
 use Rattle.ledger.specs.Sound.{Sound, matrixBound, axesBound}

@@ -20,7 +20,7 @@ use Rattle.integer.specs.Matrix.{Matrix}
 use Rattle.integer.specs.Range.{all, below}
 use Rattle.ledger.specs.Accepted.{equal-same}
 use Rattle.ledger.specs.Call.{load}
-use Rattle.ledger.specs.Limits.{entryLimit}
+use Rattle.limits.specs.Limits.{entryLimit}
 use Rattle.ledger.specs.Refusal.{equal, matrixOf, refusalOf, symmetric, unless, within}
 
 -- tests that imply one another are equal

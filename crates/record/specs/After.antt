@@ -16,7 +16,7 @@ use Rattle.integer.specs.Sum.{sumℕ, sumℕ-cong}
 use Rattle.ledger.specs.Accepted.{Turns, turn-accepted, sweep-accepted}
 use Rattle.ledger.specs.Call.{Call, load, turn, sweep, loosePair, axis}
 use Rattle.ledger.specs.Cyclic.{cyclic-length, cyclic-pairs}
-use Rattle.ledger.specs.Limits.{turnLimit}
+use Rattle.limits.specs.Limits.{turnLimit}
 use Rattle.ledger.specs.Pairs.{Pair, cyclic, rowsFrom}
 use Rattle.ledger.specs.Refusal.{refusalOf}
 use Rattle.rotation.specs.Turn.{at}

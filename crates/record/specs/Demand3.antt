@@ -10,7 +10,7 @@ use Rattle.integer.specs.Square.{sq}
 use Rattle.integer.specs.Sum.{sumℕ}
 use Rattle.ledger.specs.Call.{Call, axis}
 use Rattle.ledger.specs.Ledger.{Ledger, State, empty, loaded, ledger}
-use Rattle.ledger.specs.Limits.{units, whole}
+use Rattle.limits.specs.Limits.{units, whole}
 use Rattle.record.specs.Flat.{kept}
 use Rattle.record.specs.Record.{after, answerOf}
 use Rattle.record.specs.declared.Answer.the-variants.{Axis}

@@ -13,7 +13,7 @@ use Rattle.ledger.specs.Axis.{errorOf}
 use Rattle.ledger.specs.Call.{Call, axis}
 use Rattle.ledger.specs.Invariant.{SoundLedger, sound-step}
 use Rattle.ledger.specs.Ledger.{Ledger, State, empty, loaded, ledger, ledgerFrom, ledgerStep}
-use Rattle.ledger.specs.Limits.{units, whole}
+use Rattle.limits.specs.Limits.{units, whole}
 use Rattle.ledger.specs.Near.{matrixDifference, axesDifference}
 use Rattle.ledger.specs.Refusal.{refusalOf}
 use Rattle.ledger.specs.Rows.{row-near}

@@ -8,7 +8,7 @@ use lib.IntN.{pos}
 use Rattle.integer.specs.Matrix.{squares}
 use Rattle.integer.specs.Square.{sq}
 use Rattle.integer.specs.Sum.{sumℕ}
-use Rattle.ledger.specs.Limits.{turnLimit}
+use Rattle.limits.specs.Limits.{turnLimit}
 use Rattle.ledger.specs.Sound.{matrixBound, axesBound}
 use Rattle.rotation.specs.Turn.{at}
 use Rattle.record.specs.Record.{workOf}

@@ -15,7 +15,7 @@ use Rattle.integer.specs.Square.{sq, sq-pos}
 use Rattle.integer.specs.Sum.{sumℕ, sumℕ-cong, sumℕ-const}
 use Rattle.ledger.specs.Accepted.{Loads, load-accepted}
 use Rattle.ledger.specs.Call.{load}
-use Rattle.ledger.specs.Limits.{entryLimit, units, whole}
+use Rattle.limits.specs.Limits.{entryLimit, units, whole}
 use Rattle.ledger.specs.Refusal.{matrixOf, refusalOf, within}
 use Rattle.ledger.specs.Sound.{matrixBound, axesBound}
 use Rattle.rotation.specs.Turn.{at}

@@ -8,7 +8,7 @@ use lib.ListN.{replicate}
 use Rattle.integer.specs.Matrix.{Matrix, diagonal}
 use Rattle.ledger.specs.Axis.{errorOf}
 use Rattle.ledger.specs.Call.{Call, load, turn, sweep, loosePair, axis}
-use Rattle.ledger.specs.Limits.{units, whole}
+use Rattle.limits.specs.Limits.{units, whole}
 use Rattle.ledger.specs.Pairs.{Pair, cyclic}
 use Rattle.ledger.specs.Refusal.{matrixOf, refusalOf}
 use Rattle.rotation.specs.Turn.{at}

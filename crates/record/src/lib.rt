@@ -59,7 +59,7 @@ fn one_more(refused: u32) -> u32
 }
 
 impl Record {
-    pub const ENTRY_LIMIT: i64 = 1048576;
+    pub const ENTRY_LIMIT: i64 = limits::ENTRY_LIMIT as i64;
 
     pub const TOLERANCE_LIMIT: u64 = 1048576;
 

@@ -5,7 +5,7 @@ ghost use Prim.Native.Nat.{_*_, _/_, _%_, _<_, _≤_};
 ghost use Rattle.integer.specs.Matrix.{diagonal};
 ghost use Rattle.integer.specs.Range.{all};
 ghost use Rattle.ledger.specs.Call.{load};
-ghost use Rattle.ledger.specs.Limits.{entryLimit, units, whole};
+ghost use Rattle.limits.specs.Limits.{entryLimit, units, whole};
 ghost use Rattle.ledger.specs.Refusal.{equal, matrixOf, refusalOf, symmetric, within};
 ghost use Rattle.record.specs.Flat.{flatOf};
 ghost use Rattle.record.specs.Record.{inUse};

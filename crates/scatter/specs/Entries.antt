@@ -14,7 +14,8 @@ use Rattle.rounding.specs.Rounding.{rnd}
 use Rattle.rounding.specs.Nearest.{rnd-bound}
 use Rattle.scatter.specs.Tabulate.{length-tabulate, getD-tabulate, tabulate-all}
 use Rattle.scatter.specs.declared.sums.Sums.{Sums}
-use Rattle.scatter.specs.Table.{S, scatter, entryLimit, largest, shift, entries, padded, tableOf}
+use Rattle.limits.specs.Limits.{entryLimit}
+use Rattle.scatter.specs.Table.{S, scatter, largest, shift, entries, padded, tableOf}
 use Rattle.scatter.specs.Shift.{shift-smallest, largest-bounds, largest-least, largest-is}
 
 pub S-symmetric : (t : Sums) (i j : ℕ) → S t i j ≡ S t j i

@@ -12,7 +12,8 @@ use lib.Dec.{leb}
 use lib.IntN.{ℤ, pos, natAbs}
 use lib.ListN.{length, getD, List·getD-eq-default}
 use lib.Pow.{pow-mono}
-use Rattle.scatter.specs.Table.{entryLimit, largest, smallest, shift}
+use Rattle.limits.specs.Limits.{entryLimit}
+use Rattle.scatter.specs.Table.{largest, smallest, shift}
 
 pub largest-bounds : (us : List ℤ) (p : ℕ) → natAbs (getD us p (pos 0)) ≤ largest us
 unfolding largest
@@ -60,7 +61,6 @@ module _ (m : ℕ) where
       (λ d b. below-more (λ d. entryLimit * 2 ^ d < m) e l (leb-false _ _ t) d (omega arith))
 
   pub smallest-found : Smallest m (smallest m (leb m (entryLimit * 2 ^ 0)) m 0)
-  unfolding entryLimit
   smallest-found = searched m 0 _ refl (rw zero-add (omega (arith, below-pow m))) (λ d h. absurd (omega arith))
 
 -- 'the smallest e ≥ 0 with every |S_ij| ≤ 1,048,576 × 2^e'
@@ -90,7 +90,6 @@ shift-unique us e s = shift-is us e (record { enough = largest-least us (entryLi
 
 -- shifts of numbers below 2^62
 pub below-limit : {m e : ℕ} → entryLimit * 2 ^ e < m → m < 2 ^ 62 → e < 61
-unfolding entryLimit
 below-limit {m} {e} g h = go (decLt e 61)
   where
     go : Dec (e < 61) → e < 61

@@ -5,6 +5,7 @@ use Prim.Native.Nat.{ℕ, zero, suc, _+_, _*_, _/_, _%_, _^_, min, max}
 use lib.Dec.{leb}
 use lib.IntN.{ℤ, pos, _-ℤ_, natAbs}
 use lib.ListN.{getD}
+use Rattle.limits.specs.Limits.{entryLimit}
 use Rattle.rounding.specs.Rounding.{rnd}
 use Rattle.scatter.specs.Tabulate.{tabulate}
 use Rattle.scatter.specs.declared.sums.Sums.{Sums}
@@ -18,10 +19,6 @@ S t i j =
 -- Every S_ij of n channels, row after row
 unfoldable pub scatter : ℕ → Sums → List ℤ
 scatter n t = tabulate (n * n) (λ p. S t (p / n) (p % n))
-
--- The limit of an entry's size
-unfoldable pub entryLimit : ℕ
-entryLimit = 1_048_576
 
 -- The greatest |S_ij|
 unfoldable pub largest : List ℤ → ℕ

@@ -11,9 +11,6 @@ ghost use Rattle.scatter.specs.Table.{scatter, largest, padded, tableOf}
 ghost use Rattle.scatter.specs.Ranges.{Readings, Bounded, Small};
 ghost use Rattle.scatter.specs.Shift.{Smallest};
 
-// The limit of an entry's size, document 01's 1,048,576.
-const ENTRY_LIMIT: u64 = 1_048_576;
-
 // n × n numbers, row after row, and zeros after them: the entries, and the exact S_ij that they are rounded from.
 pub struct Table {
     pub e: u32,
@@ -89,7 +86,7 @@ fn shift_of(m: u64) -> u32
     ensures { λ r. ⌜ Smallest m r ⌝ }
 {
     let mut e = 0;
-    let mut bound = ENTRY_LIMIT;
+    let mut bound = limits::ENTRY_LIMIT;
     while bound < m {
         bound *= 2;
         e += 1;

@@ -8,7 +8,8 @@ use lib.ListN.{getD, set, take, replicate, length-replicate, length-set}
 use lib.Seq.{length-take-le, getD-set-same, getD-set-other}
 use Rattle.scatter.specs.declared.sums.Sums.{Sums}
 use Rattle.scatter.specs.declared.table.Table.{Table}
-use Rattle.scatter.specs.Table.{entryLimit, tableOf}
+use Rattle.limits.specs.Limits.{entryLimit}
+use Rattle.scatter.specs.Table.{tableOf}
 use Rattle.scatter.specs.Entries.{table-loadable}
 use Rattle.scatter_vectors.specs.Limit.{Printable}
 use Rattle.scatter.specs.Ranges.{Room, Readings}
@@ -41,5 +42,4 @@ readings n k {dilutions} {counts} r q h g f e =
     }
 
 pub printable : (n : ℕ) (t : Sums) (r : Table) → n ≤ 8 → r ≡ tableOf n t → Printable (r .entries)
-unfolding entryLimit
 printable n t r h e p = rw e (omega (arith, table-loadable n t h .within p))

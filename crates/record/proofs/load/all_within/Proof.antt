@@ -10,7 +10,7 @@ use mir.Val.{SFits}
 use mir.Facts.{toZ-ofZ}
 use borrow.Author.Needs.{needs}
 use borrow.Author.Tests.{not-true, not-false}
-use Rattle.ledger.specs.Limits.{entryLimit}
+use Rattle.limits.specs.Limits.{entryLimit}
 use Rattle.ledger.specs.Refusal.{within}
 use Rattle.record.proofs.Checks.{within-fails, within-more}
 use Rattle.record.proofs.load.all_within.Statement.{statement}

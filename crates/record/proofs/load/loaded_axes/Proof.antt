@@ -4,7 +4,7 @@ use Prim.Native.Nat.{_-_, _≤_}
 use native.Mathlib.Omega.{arith}
 use lib.IntN.{pos}
 use Rattle.integer.specs.Matrix.{diagonal}
-use Rattle.ledger.specs.Limits.{whole}
+use Rattle.limits.specs.Limits.{whole}
 use Rattle.record.specs.Flat.{flatOf, tabulate}
 use Rattle.record.specs.Record.{inUse}
 use Rattle.record.proofs.Axes.{diagonal-more}

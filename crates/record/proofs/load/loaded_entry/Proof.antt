@@ -12,7 +12,7 @@ use borrow.Author.Tests.{lt-ltb, le-ltb}
 use Rattle.integer.specs.Laws.{natAbs-*ℤ}
 use Rattle.integer.specs.Word.{held}
 use Rattle.ledger.specs.Accepted.{within-small}
-use Rattle.ledger.specs.Limits.{units}
+use Rattle.limits.specs.Limits.{units}
 use Rattle.ledger.specs.Refusal.{matrixOf}
 use Rattle.record.specs.Turning.{inUse-inside, inUse-outside}
 use Rattle.record.proofs.Checks.{place-below, places}

@@ -8,7 +8,7 @@ use mir.Syntax.{w64}
 use mir.Val.{SFits}
 use borrow.Author.Needs.{needs}
 use Rattle.integer.specs.Word.{word}
-use Rattle.ledger.specs.Limits.{units}
+use Rattle.limits.specs.Limits.{units}
 use Rattle.ledger.specs.Refusal.{matrixOf}
 use Rattle.record.specs.Fill.{filled-more, filled-all}
 use Rattle.record.specs.Flat.{tabulate, flatOf}

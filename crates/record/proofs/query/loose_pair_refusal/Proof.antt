@@ -1,7 +1,7 @@
 -- `record::query::loose_pair_refusal` meets its contract.
 use native.Mathlib.Omega.{arith}
 use borrow.Author.Tests.{lt-ltb, le-ltb, le-leb, lt-leb}
-use Rattle.ledger.specs.Limits.{toleranceLimit}
+use Rattle.limits.specs.Limits.{toleranceLimit}
 use Rattle.ledger.specs.Refusal.{refusalOf}
 use Rattle.record.proofs.query.loose_pair_refusal.Statement.{statement}
 use Rattle.record.proofs.query.loose_pair_refusal.Tie as tie

@@ -7,7 +7,7 @@ use native.Mathlib.Omega.{arith}
 use borrow.Author.Count.{below-more}
 use borrow.Author.Needs.{needs}
 use lib.Pow.{pow-pos}
-use Rattle.scatter.specs.Table.{entryLimit}
+use Rattle.limits.specs.Limits.{entryLimit}
 use Rattle.scatter.specs.Shift.{below-limit}
 use Rattle.scatter.proofs.table.shift_of.Statement.{statement}
 use Rattle.scatter.proofs.table.shift_of.Tie as tie
@@ -19,7 +19,6 @@ abbrev μ-loop : tie.MeasureT-loop
 μ-loop m e₀ bound₀ e bound = m - bound
 
 loop-holds : tie.Need-loop-holds Inv-loop μ-loop
-unfolding entryLimit
 loop-holds c = (refl, λ d h. absurd (omega arith))
 
 -- in a turn the bound of e is too low
@@ -30,7 +29,6 @@ add-e : tie.Need-add-e Inv-loop μ-loop
 add-e c = record { fits = omega (arith, below-limit (low c) (c .before .before .pre)) }
 
 loop-less : tie.Need-loop-less Inv-loop μ-loop
-unfolding entryLimit
 loop-less c = omega (arith, pow-pos (c .before .loop .e))
 
 doubled : (b e : ℕ) → b ≡ entryLimit * 2 ^ e → b * 2 ≡ entryLimit * 2 ^ (e + 1)
