@@ -91,6 +91,13 @@ impl Record {
         self.refused
     }
 
+    // How many turns were made of the matrix.
+    pub fn turns(self) -> u64
+        ensures { λ r. ⌜ r ≡ self .m ⌝ }
+    {
+        self.m
+    }
+
     fn after_refusal(mut self) -> Self
         ensures { λ r. ⌜ r ≡ refusedOf self ⌝ }
     {

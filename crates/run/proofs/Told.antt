@@ -1,0 +1,43 @@
+-- An answer that is told by its variant.
+use mathlib.Core.Path.{_≡_, refl}
+use mathlib.Core.Bool.{false}
+use mathlib.Core.Logic.{_⊎_, ⊎-elim}
+use Prim.Native.Nat.{ℕ}
+use native.Mathlib.Omega.{arith}
+use denote.Enum.Declared.{tagOf, declared}
+use Rattle.record.proofs.Answer.{enum}
+use Rattle.record.specs.declared.Answer.{Answer}
+use Rattle.record.specs.declared.Answer.the-variants.{Loaded, Turned, Swept, Pair, NoPair, Axis, Refused}
+use Rattle.run.specs.Run.{noPair, noTurn}
+
+-- the number of an answer's variant
+abbrev variant : Answer → ℕ
+variant answer = tagOf (declared enum) answer
+
+neither : {A B : Type 0} → (A → ⊥) → (B → ⊥) → A ⊎ B → ⊥
+neither f g = ⊎-elim f g
+
+abbrev OneOf : ℕ → ℕ → ℕ → ℕ → ℕ → ℕ → ℕ → Type 0
+OneOf v a b c d e f = (v ≡ a) ⊎ ((v ≡ b) ⊎ ((v ≡ c) ⊎ ((v ≡ d) ⊎ ((v ≡ e) ⊎ (v ≡ f)))))
+
+pub not-swept : (answer : Answer) → OneOf (variant answer) 0 1 3 4 5 6 → false ≡ noTurn answer
+unfolding noTurn
+not-swept Loaded v = refl
+not-swept (Turned made) v = refl
+not-swept (Swept made) v =
+    absurd (neither (λ e. omega arith) (neither (λ e. omega arith) (neither (λ e. omega arith) (neither (λ e. omega arith) (neither (λ e. omega arith) (λ e. omega arith))))) v)
+not-swept (Pair p q) v = refl
+not-swept NoPair v = refl
+not-swept (Axis entry error) v = refl
+not-swept (Refused number) v = refl
+
+pub not-none : (answer : Answer) → OneOf (variant answer) 0 1 2 3 5 6 → false ≡ noPair answer
+unfolding noPair
+not-none Loaded v = refl
+not-none (Turned made) v = refl
+not-none (Swept made) v = refl
+not-none (Pair p q) v = refl
+not-none NoPair v =
+    absurd (neither (λ e. omega arith) (neither (λ e. omega arith) (neither (λ e. omega arith) (neither (λ e. omega arith) (neither (λ e. omega arith) (λ e. omega arith))))) v)
+not-none (Axis entry error) v = refl
+not-none (Refused number) v = refl

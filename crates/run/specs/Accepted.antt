@@ -1,0 +1,60 @@
+-- Calls that no refusal applies to, by their arguments and the record's n and m.
+use mathlib.Core.Path.{_≡_, refl, ap}
+use mathlib.Core.Bool.{Bool, true, _&&_}
+use mathlib.Core.List.{List}
+use Prim.Native.Nat.{ℕ, zero, suc, _+_, _-_, _*_, _/_, _<_, _≤_}
+use native.Mathlib.Omega.{arith}
+use lib.IntN.{ℤ, pos, negsuc}
+use borrow.Author.Tests.{eq-eqb, le-leb, lt-ltb}
+use Rattle.integer.specs.Matrix.{Matrix, Symmetric}
+use Rattle.integer.specs.Range.{all}
+use Rattle.ledger.specs.Accepted.{Loads}
+use Rattle.ledger.specs.Call.{Call, axis, load, loosePair, sweep}
+use Rattle.limits.specs.Limits.{toleranceLimit, turnLimit}
+use Rattle.ledger.specs.Refusal.{equal, matrixOf, refusalOf, symmetric, within}
+use Rattle.record.specs.Loading.{loads-within}
+use Rattle.record.specs.Record.{acceptedOf, afterOf}
+use Rattle.record.specs.declared.Record.{Record}
+
+-- the record after such a call
+pub after-accepted : (r : Record) (call : Call) → refusalOf (r .n) (r .m) call ≡ 0 → afterOf r call ≡ acceptedOf r call
+unfolding afterOf
+after-accepted r call e = rw (eq-eqb (refusalOf (r .n) (r .m) call) 0 e)
+
+-- a state with n channels and m turns made
+module _ (n m : ℕ) (h : 1 ≤ n) where
+  pub loose-pair-accepted : (t : ℕ) → t ≤ toleranceLimit → refusalOf n m (loosePair t) ≡ 0
+  unfolding refusalOf
+  loose-pair-accepted t l = rw (lt-ltb 0 n h, le-leb t toleranceLimit l)
+
+  pub sweep-accepted : m + n * (n - 1) / 2 ≤ turnLimit → refusalOf n m sweep ≡ 0
+  unfolding refusalOf
+  sweep-accepted l = rw (lt-ltb 0 n h, le-leb (m + n * (n - 1) / 2) turnLimit l)
+
+  pub axis-accepted : (i : ℕ) → 1 ≤ i → i ≤ n → refusalOf n m (axis i) ≡ 0
+  unfolding refusalOf
+  axis-accepted i k l = rw (lt-ltb 0 n h, le-leb 1 i k, le-leb i n l)
+
+all-true : (f : ℕ → Bool) (n : ℕ) → ((k : ℕ) → k < n → f k ≡ true) → all f n ≡ true
+all-true f zero h = refl
+all-true f (suc n) h = rw (all-true f n (λ k l. h k (omega arith)), h n (omega arith))
+
+equal-itself : (z : ℤ) → equal z z ≡ true
+unfolding equal
+equal-itself (pos n) = eq-eqb n n refl
+equal-itself (negsuc n) = eq-eqb n n refl
+
+symmetric-true : (n : ℕ) (a : Matrix) → Symmetric n a → symmetric n a ≡ true
+unfolding symmetric
+symmetric-true n a s = all-true _ n (λ i h. all-true _ n (λ j k. rw (s i j h k) (equal-itself (a j i))))
+
+pub load-accepted : (n m k : ℕ) (numbers : List ℤ) → Loads k numbers → refusalOf n m (load k numbers) ≡ 0
+unfolding refusalOf
+load-accepted n m k numbers l =
+    rw (
+      le-leb 2 k (l .low),
+      le-leb k 8 (l .high),
+      eq-eqb _ (k * k) (l .count),
+      loads-within l,
+      symmetric-true k (matrixOf k numbers) (l .same),
+    )

@@ -1,0 +1,27 @@
+-- A table made from readings is a matrix that a run may load.
+use mathlib.Core.Path.{_≡_, refl, sym, ap, _∙_}
+use Prim.Native.Nat.{ℕ, _+_, _*_, _<_, _≤_}
+use native.Mathlib.Omega.{arith}
+use lib.ListN.{take, length-map}
+use Rattle.ledger.specs.Accepted.{Loads}
+use Rattle.ledger.specs.Call.{load}
+use Rattle.ledger.specs.Refusal.{matrixOf, refusalOf}
+use Rattle.scatter.specs.Entries.{entries-symmetric, entries-within, length-scatter, table-entries}
+use Rattle.scatter.specs.Table.{entries, scatter, tableOf}
+use Rattle.scatter.specs.declared.sums.Sums.{Sums}
+use Rattle.run.specs.Accepted.{load-accepted}
+
+module _ (n : ℕ) (t : Sums) (low : 2 ≤ n) (high : n ≤ 8) where
+  entries-load : Loads n (entries (scatter n t))
+  unfolding entries matrixOf
+  entries-load =
+      record {
+        low = low;
+        high = high;
+        count = length-map (scatter n t) _ ∙ length-scatter n t;
+        small = entries-within (scatter n t);
+        same = entries-symmetric n t;
+      }
+
+  pub table-accepted : refusalOf 0 0 (load n (take (n * n) (tableOf n t .entries))) ≡ 0
+  table-accepted = rw (table-entries n t high) (load-accepted 0 0 n _ entries-load)
