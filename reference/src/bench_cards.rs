@@ -2,15 +2,15 @@
 
 use crate::calls::play;
 use crate::choice::{choose, Choice};
-use crate::generate;
 use crate::job;
 use crate::matrix::Matrix;
 use crate::record::{Record, AXIS_ONE, REFUSED_LIMIT};
-use crate::report::{axes_program, report_into, run, table_program, Denied, Outcome};
+use crate::report::{axes_program, report_into, table_program, Denied, Outcome};
 use crate::rounding::rnd;
 use crate::scatter::{shift, table, Sample};
 use crate::thresholds::threshold;
 use crate::turn::{rotation, turn};
+use crate::{generate_calls, generate_job, solve};
 
 /// A text written with blanks for tabs.
 fn tabs(text: &str) -> String {
@@ -68,7 +68,7 @@ fn card_4() {
 #[test]
 fn card_5() {
     assert_eq!(choose(0, 1_073_741_824, 1024), None);
-    let run = run(&Matrix::of_rows(2, &[0, 1, 1, 1_048_576]), 16, 0);
+    let run = solve(2, &[0, 1, 1, 1_048_576], 16, 0).unwrap();
     assert_eq!((run.outcome, run.sweeps, run.m), (Outcome::Still, 1, 0));
 }
 
@@ -289,7 +289,7 @@ fn turns_are_used_up_at_448() {
 #[test]
 fn the_kept_axes_turn_the_loaded_matrix_into_the_kept_one() {
     for seed in 0..300 {
-        let text = generate::text("job", seed).unwrap();
+        let text = generate_job(seed);
         let Ok(job) = job::read(&text) else { continue };
         let loaded = table(job.n, &job.samples).entries;
         let mut record = Record::fresh();
@@ -323,9 +323,9 @@ fn the_kept_axes_turn_the_loaded_matrix_into_the_kept_one() {
 #[test]
 fn every_generated_text_is_read_to_an_answer() {
     for seed in 0..3000 {
-        let job = axes_program(&generate::text("job", seed).unwrap());
+        let job = axes_program(&generate_job(seed));
         assert!(job.starts_with("R\t") || job.starts_with("X\t"));
-        play(&generate::text("calls", seed).unwrap());
+        play(&generate_calls(seed));
     }
 }
 

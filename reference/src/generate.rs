@@ -9,14 +9,12 @@ use crate::units::samples;
 /// A text as its lines' fields.
 type Lines = Vec<Vec<String>>;
 
-/// One input of a kind; none if there is no such kind.
-pub fn text(kind: &str, seed: u64) -> Option<Vec<u8>> {
-    let mut random = Random::new(seed);
-    match kind {
-        "job" => Some(job(&mut random)),
-        "calls" => Some(calls(&mut random)),
-        _ => None,
-    }
+pub fn job_text(seed: u64) -> Vec<u8> {
+    job(&mut Random::new(seed))
+}
+
+pub fn calls_text(seed: u64) -> Vec<u8> {
+    calls(&mut Random::new(seed))
 }
 
 /// Job text, about half of it good.

@@ -18,6 +18,17 @@ pub struct Job {
     pub samples: Vec<Sample>,
 }
 
+impl Job {
+    /// The text that reads as this job, if every number is in its range.
+    pub fn text(&self) -> String {
+        let mut text = tagged("P", &[self.n as i128, self.sweep_limit, self.tolerance]);
+        for sample in &self.samples {
+            text += &tagged("S", &[&[sample.dilution], &sample.counts[..]].concat());
+        }
+        text + &tagged("E", &[self.samples.len() as i128])
+    }
+}
+
 /// A refusal of job text: its number and the line, from 1.
 #[derive(Clone, Copy, Debug, PartialEq, Eq)]
 pub struct Refusal {

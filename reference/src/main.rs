@@ -1,32 +1,19 @@
 //! The reference implementation of Field Axes: its commands.
 
-mod calls;
-mod check;
-mod choice;
-mod generate;
-mod job;
-mod matrix;
-mod random;
-mod record;
-mod report;
-mod rounding;
-mod scatter;
-mod text;
-mod thresholds;
-mod turn;
-mod units;
-mod vectors;
-
-#[cfg(test)]
-mod bench_cards;
-
+use reference::{
+    calls, check, examples, generate, job, jobs, report, scatter_vectors, turn_vectors, units,
+};
 use std::env;
 use std::io::{self, Read, Write};
 use std::path::Path;
 use std::process::ExitCode;
 
-const USAGE: &str =
-    "reference axes | calls | table | units KIND SEED COUNT | generate KIND SEED | vectors turns | check DIR";
+const USAGE: &str = "\
+reference axes | calls | table
+reference units KIND SEED COUNT | generate job SEED | generate calls SEED
+reference jobs | jobs names | example small | example field | example full
+reference vectors turns | vectors scatter | vectors jobs
+reference check DIR";
 
 fn main() -> ExitCode {
     let arguments: Vec<String> = env::args().skip(1).collect();
@@ -45,22 +32,30 @@ fn main() -> ExitCode {
 
 /// What a command writes, and whether it ends well; none for words that are no command.
 fn output(words: &[&str]) -> Option<(Vec<u8>, bool)> {
-    let well = |text: String| Some((text.into_bytes(), true));
-    match words {
-        ["axes"] => well(report::axes_program(&input(job::TEXT_LIMIT)?)),
-        ["calls"] => well(calls::play(&input(calls::TEXT_LIMIT)?)),
-        ["table"] => well(report::table_program(&input(job::TEXT_LIMIT)?)),
+    let bytes = match words {
+        ["axes"] => report::axes_program(&input(job::TEXT_LIMIT)?).into_bytes(),
+        ["calls"] => calls::play(&input(calls::TEXT_LIMIT)?).into_bytes(),
+        ["table"] => report::table_program(&input(job::TEXT_LIMIT)?).into_bytes(),
         ["units", kind, seed, count] => {
-            well(units::lines(kind, seed.parse().ok()?, count.parse().ok()?)?)
+            units::lines(kind, seed.parse().ok()?, count.parse().ok()?)?.into_bytes()
         }
-        ["generate", kind, seed] => Some((generate::text(kind, seed.parse().ok()?)?, true)),
-        ["vectors", "turns"] => well(vectors::turns()),
+        ["generate", "job", seed] => generate::job_text(seed.parse().ok()?),
+        ["generate", "calls", seed] => generate::calls_text(seed.parse().ok()?),
+        ["jobs"] => jobs::container(),
+        ["jobs", "names"] => jobs::names().into_bytes(),
+        ["example", "small"] => examples::small(),
+        ["example", "field"] => examples::field(),
+        ["example", "full"] => examples::full(),
+        ["vectors", "turns"] => turn_vectors::turns().into_bytes(),
+        ["vectors", "scatter"] => scatter_vectors::scatter().into_bytes(),
+        ["vectors", "jobs"] => jobs::outputs(),
         ["check", root] => {
             let (text, same) = check::check(Path::new(root));
-            Some((text.into_bytes(), same))
+            return Some((text.into_bytes(), same));
         }
-        _ => None,
-    }
+        _ => return None,
+    };
+    Some((bytes, true))
 }
 
 /// At most the first `limit` bytes of standard input.

@@ -1,0 +1,180 @@
+//! Stored jobs that are accepted: the bench cards, every outcome, small shifts, 2 to 8 channels.
+
+use super::{greatest_root, raw, written, Stored, GREATEST_VALUE};
+use crate::examples;
+use crate::job::Job;
+use crate::random::Random;
+use crate::scatter::Sample;
+
+pub fn jobs() -> Vec<Stored> {
+    [cards(), outcomes(), small_shifts(), channels()]
+        .into_iter()
+        .flatten()
+        .collect()
+}
+
+/// Cards 1 and 2 have no job; cards 7, 8 and 12 are the printed example.
+fn cards() -> Vec<Stored> {
+    vec![
+        written("printed example", examples::PRINTED),
+        written(
+            "card 3: block 2, 1, 2",
+            "P 2 16 0\nS 1 1 1\nS 1 0 1\nS 1 0 0\nE 3\n",
+        ),
+        written(
+            "card 3 with a negative a_pq",
+            "P 2 16 0\nS 1 1 0\nS 1 0 1\nS 1 0 0\nE 3\n",
+        ),
+        written(
+            "card 4: a_pq 0",
+            "P 2 16 0\nS 1 0 0\nS 1 3 0\nS 1 0 1\nS 1 3 1\nE 4\n",
+        ),
+        written(
+            "card 5: block 0, 1, 1048576",
+            "P 2 16 0\nS 64 1 16384\nS 1 63 0\nE 2\n",
+        ),
+        written(
+            "card 5 with a negative a_pq",
+            "P 2 16 0\nS 64 0 16384\nS 1 1 0\nE 2\n",
+        ),
+        written(
+            "card 5, channels exchanged",
+            "P 2 16 0\nS 64 16384 1\nS 1 0 63\nE 2\n",
+        ),
+        written(
+            "card 6: block 36, 42, 49",
+            "P 2 1 0\nS 1 0 0\nS 1 6 7\nE 2\n",
+        ),
+        written(
+            "card 6: block 148, 172, 200",
+            "P 2 1 0\nS 1 0 0\nS 1 1 1\nS 1 6 7\nS 1 7 8\nE 4\n",
+        ),
+        written(
+            "card 9: equal samples",
+            "P 3 5 0\nS 2 7 8 9\nS 2 7 8 9\nS 2 7 8 9\nE 3\n",
+        ),
+        written(
+            "card 9: equal values, other dilutions",
+            "P 2 1 0\nS 6 4 10\nS 4 6 15\nS 12 2 5\nE 3\n",
+        ),
+        written(
+            "card 9: counts of 0 on 8 channels",
+            "P 8 16 0\nS 1 0 0 0 0 0 0 0 0\nS 100 0 0 0 0 0 0 0 0\nE 2\n",
+        ),
+        written(
+            "card 10: S is 1048576",
+            "P 2 2 0\nS 1 1024 1\nS 1 0 0\nE 2\n",
+        ),
+        written(
+            "card 10: S is 1048577",
+            "P 2 2 0\nS 1 303 1\nS 1 61 2\nS 1 429 0\nS 1 0 0\nS 1 0 0\nS 1 0 1\nE 6\n",
+        ),
+        written(
+            "card 11: S is 42948362250000",
+            "P 2 16 0\nS 100 65535 65535\nS 100 0 0\nE 2\n",
+        ),
+    ]
+}
+
+/// The printed example's a_pq is 25600 units, and 7168 after a turn.
+fn outcomes() -> Vec<Stored> {
+    let example =
+        |name: &str, first: &str| written(name, &examples::PRINTED.replace("P 2 1 0", first));
+    vec![
+        example("settled before a sweep: t is |a_pq|", "P 2 1 25600"),
+        example("not settled before a sweep: t is |a_pq| - 1", "P 2 1 25599"),
+        example("settled at the limit: t is the new |a_pq|", "P 2 1 7168"),
+        example("spent: t is the new |a_pq| - 1", "P 2 1 7167"),
+        example("printed example, limit 2", "P 2 2 0"),
+        example("printed example, limit 16", "P 2 16 0"),
+        written(
+            "card 5 within a tolerance of 1024: settled",
+            "P 2 16 1024\nS 64 1 16384\nS 1 63 0\nE 2\n",
+        ),
+        written(
+            "card 5 beyond a tolerance of 1023: still",
+            "P 2 16 1023\nS 64 1 16384\nS 1 63 0\nE 2\n",
+        ),
+        written(
+            "card 5 at limit 1: still before spent",
+            "P 2 1 0\nS 64 1 16384\nS 1 63 0\nE 2\n",
+        ),
+        written(
+            "a diagonal entry below 0",
+            "P 2 16 0\nS 64 2 16384\nS 1 28 0\nE 2\n",
+        ),
+        written(
+            "spent after 16 sweeps on 5 channels",
+            "P 5 16 0\nS 1 1 1 1 1 0\nS 1 1 1 1 1 1\nS 1 1 1 0 0 0\nS 1 0 0 0 1 1\nS 1 1 1 0 0 0\nS 1 1 1 1 1 1\n\
+             S 1 0 1 0 0 1\nE 7\n",
+        ),
+        written(
+            "spent after 16 sweeps and 220 turns on 8 channels",
+            "P 8 16 0\nS 1 1 1 1 1 0 1 2 0\nS 1 0 3 2 3 3 0 0 3\nE 2\n",
+        ),
+        written(
+            "one pair of three is 0",
+            "P 3 16 0\nS 1 0 0 5\nS 1 3 0 0\nS 1 0 1 0\nS 1 3 1 7\nE 4\n",
+        ),
+    ]
+}
+
+/// For the shifts that 2 samples reach: the greatest S that has the shift, and the least that has the next. S is the
+/// square of the difference of two values, 100 × count and another count.
+fn small_shifts() -> Vec<Stored> {
+    (0..)
+        .take_while(|&e| greatest_root(e) < GREATEST_VALUE)
+        .flat_map(|e| {
+            [
+                (format!("shift {e}, greatest S"), greatest_root(e)),
+                (format!("shift {}, least S", e + 1), greatest_root(e) + 1),
+            ]
+        })
+        .map(|(name, difference)| {
+            let count = (difference + 99) / 100;
+            let other = 100 * count - difference;
+            let job = Job {
+                n: 2,
+                sweep_limit: 1 + difference % 16,
+                tolerance: difference % 3 * 1000,
+                samples: vec![
+                    Sample {
+                        dilution: 100,
+                        counts: vec![count, difference % 7],
+                    },
+                    Sample {
+                        dilution: 1,
+                        counts: vec![other, difference % 60_000],
+                    },
+                ],
+            };
+            raw(name, job.text().as_bytes())
+        })
+        .collect()
+}
+
+/// Random samples on every number of channels: any counts, and small ones, which rounding keeps turning.
+fn channels() -> Vec<Stored> {
+    (2..=8usize)
+        .flat_map(|n| [(n, "any", 65_535, 100), (n, "small", 3, 1)])
+        .map(|(n, kind, greatest_count, greatest_dilution)| {
+            let mut random = Random::new(n as u64);
+            let samples = (0..n + 2)
+                .map(|_| Sample {
+                    dilution: random.between(1, greatest_dilution),
+                    counts: (0..n).map(|_| random.between(0, greatest_count)).collect(),
+                })
+                .collect();
+            let job = Job {
+                n,
+                sweep_limit: 16,
+                tolerance: 0,
+                samples,
+            };
+            raw(
+                format!("{n} channels, {kind} counts"),
+                job.text().as_bytes(),
+            )
+        })
+        .collect()
+}
