@@ -1,7 +1,7 @@
 -- An answer that is told by its variant.
 use mathlib.Core.Path.{_≡_, refl}
 use mathlib.Core.Bool.{false}
-use mathlib.Core.Logic.{_⊎_, ⊎-elim}
+use mathlib.Core.Logic.{_≢_, _⊎_, ⊎-elim}
 use Prim.Native.Nat.{ℕ}
 use native.Mathlib.Omega.{arith}
 use denote.Enum.Declared.{tagOf, declared}
@@ -14,18 +14,18 @@ use Rattle.run.specs.Run.{noPair, noTurn}
 abbrev variant : Answer → ℕ
 variant answer = tagOf (declared enum) answer
 
-neither : {A B : Type 0} → (A → ⊥) → (B → ⊥) → A ⊎ B → ⊥
-neither f g = ⊎-elim f g
-
 abbrev OneOf : ℕ → ℕ → ℕ → ℕ → ℕ → ℕ → ℕ → Type 0
 OneOf v a b c d e f = (v ≡ a) ⊎ ((v ≡ b) ⊎ ((v ≡ c) ⊎ ((v ≡ d) ⊎ ((v ≡ e) ⊎ (v ≡ f)))))
+
+none : {v a b c d e f : ℕ} → OneOf v a b c d e f → (v ≢ a) → (v ≢ b) → (v ≢ c) → (v ≢ d) → (v ≢ e) → (v ≢ f) → ⊥
+none o a b c d e f = ⊎-elim a (⊎-elim b (⊎-elim c (⊎-elim d (⊎-elim e f)))) o
 
 pub not-swept : (answer : Answer) → OneOf (variant answer) 0 1 3 4 5 6 → false ≡ noTurn answer
 unfolding noTurn
 not-swept Loaded v = refl
 not-swept (Turned made) v = refl
 not-swept (Swept made) v =
-    absurd (neither (λ e. omega arith) (neither (λ e. omega arith) (neither (λ e. omega arith) (neither (λ e. omega arith) (neither (λ e. omega arith) (λ e. omega arith))))) v)
+    absurd (none v (omega arith) (omega arith) (omega arith) (omega arith) (omega arith) (omega arith))
 not-swept (Pair p q) v = refl
 not-swept NoPair v = refl
 not-swept (Axis entry error) v = refl
@@ -38,6 +38,6 @@ not-none (Turned made) v = refl
 not-none (Swept made) v = refl
 not-none (Pair p q) v = refl
 not-none NoPair v =
-    absurd (neither (λ e. omega arith) (neither (λ e. omega arith) (neither (λ e. omega arith) (neither (λ e. omega arith) (neither (λ e. omega arith) (λ e. omega arith))))) v)
+    absurd (none v (omega arith) (omega arith) (omega arith) (omega arith) (omega arith) (omega arith))
 not-none (Axis entry error) v = refl
 not-none (Refused number) v = refl

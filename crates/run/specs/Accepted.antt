@@ -1,6 +1,6 @@
 -- Calls that no refusal applies to, by their arguments and the record's n and m.
-use mathlib.Core.Path.{_≡_, refl, ap}
-use mathlib.Core.Bool.{Bool, true, _&&_}
+use mathlib.Core.Path.{_≡_, refl}
+use mathlib.Core.Bool.{Bool, true}
 use mathlib.Core.List.{List}
 use Prim.Native.Nat.{ℕ, zero, suc, _+_, _-_, _*_, _/_, _<_, _≤_}
 use native.Mathlib.Omega.{arith}
@@ -11,7 +11,7 @@ use Rattle.integer.specs.Range.{all}
 use Rattle.ledger.specs.Accepted.{Loads}
 use Rattle.ledger.specs.Call.{Call, axis, load, loosePair, sweep}
 use Rattle.limits.specs.Limits.{toleranceLimit, turnLimit}
-use Rattle.ledger.specs.Refusal.{equal, matrixOf, refusalOf, symmetric, within}
+use Rattle.ledger.specs.Refusal.{equal, matrixOf, refusalOf, symmetric}
 use Rattle.record.specs.Loading.{loads-within}
 use Rattle.record.specs.Record.{acceptedOf, afterOf}
 use Rattle.record.specs.declared.Record.{Record}

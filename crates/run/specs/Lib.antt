@@ -4,3 +4,4 @@ pub mod Course
 pub mod Accepted
 pub mod Calls
 pub mod Table
+pub mod Cards

@@ -1,15 +1,16 @@
 -- A table made from readings is a matrix that a run may load.
-use mathlib.Core.Path.{_≡_, refl, sym, ap, _∙_}
-use Prim.Native.Nat.{ℕ, _+_, _*_, _<_, _≤_}
-use native.Mathlib.Omega.{arith}
+use mathlib.Core.Path.{_≡_, _∙_}
+use Prim.Native.Nat.{ℕ, _*_, _≤_}
 use lib.ListN.{take, length-map}
 use Rattle.ledger.specs.Accepted.{Loads}
 use Rattle.ledger.specs.Call.{load}
+use Rattle.limits.specs.Limits.{toleranceLimit}
 use Rattle.ledger.specs.Refusal.{matrixOf, refusalOf}
 use Rattle.scatter.specs.Entries.{entries-symmetric, entries-within, length-scatter, table-entries}
 use Rattle.scatter.specs.Table.{entries, scatter, tableOf}
 use Rattle.scatter.specs.declared.sums.Sums.{Sums}
 use Rattle.run.specs.Accepted.{load-accepted}
+use Rattle.run.specs.Calls.{Allowed}
 
 module _ (n : ℕ) (t : Sums) (low : 2 ≤ n) (high : n ≤ 8) where
   entries-load : Loads n (entries (scatter n t))
@@ -25,3 +26,6 @@ module _ (n : ℕ) (t : Sums) (low : 2 ≤ n) (high : n ≤ 8) where
 
   pub table-accepted : refusalOf 0 0 (load n (take (n * n) (tableOf n t .entries))) ≡ 0
   table-accepted = rw (table-entries n t high) (load-accepted 0 0 n _ entries-load)
+
+  pub table-allowed : (limit tolerance : ℕ) → limit ≤ 16 → tolerance ≤ toleranceLimit → Allowed n (take (n * n) (tableOf n t .entries)) limit tolerance
+  table-allowed limit tolerance l k = record { matrix = table-accepted; sweeps = l; tolerance = k }

@@ -55,7 +55,8 @@ pub fn run(n: usize, numbers: &[i64], limit: u64, tolerance: u64) -> Ran
     let mut sweeps = 0;
     let mut idle = false;
     loop {
-        if is_settled(last, tolerance) {
+        let settled = is_settled(last, tolerance);
+        if settled {
             return Ran {
                 outcome: Outcome::Settled,
                 sweeps,

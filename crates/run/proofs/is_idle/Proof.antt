@@ -1,5 +1,4 @@
 -- `run::is_idle` meets its contract.
-use mathlib.Core.Path.{_≡_}
 use borrow.Author.Needs.{needs}
 use Rattle.run.specs.Run.{noTurn}
 use Rattle.run.proofs.Told.{not-swept}

@@ -1,5 +1,5 @@
 -- `run::is_settled` meets its contract.
-use mathlib.Core.Path.{_≡_, refl, sym, ap, _∙_}
+use mathlib.Core.Path.{sym, ap, _∙_}
 use borrow.Author.Needs.{needs}
 use Rattle.run.specs.Run.{noPair}
 use Rattle.run.proofs.Told.{not-none}

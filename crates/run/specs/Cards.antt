@@ -1,0 +1,65 @@
+-- Document 01, 'Bench cards', what cards 5, 9 and 12 say of a run: theorems about the definitions of the record and the run.
+use mathlib.Core.Path.{_≡_, refl}
+use mathlib.Core.Bool.{false}
+use mathlib.Core.List.{List, [], _∷_}
+use Prim.Native.Nat.{ℕ}
+use lib.IntN.{ℤ, pos, negsuc}
+use Rattle.integer.specs.Matrix.{diagonal}
+use Rattle.integer.specs.Sum.{sumℕ}
+use Rattle.ledger.specs.Axis.{errorOf}
+use Rattle.ledger.specs.Call.{axis, load}
+use Rattle.ledger.specs.Pairs.{cyclic, row, rowsFrom}
+use Rattle.ledger.specs.Refusal.{equal, matrixOf, refusalOf, symmetric, within}
+use Rattle.record.specs.Flat.{entriesOf, flatOf, kept, rowsOf, tabulate}
+use Rattle.record.specs.Record.{acceptedOf, afterOf, answerOf, axisOf, fresh, inUse, loadedOf, looseOf, sweptOf, valueOf, workOf, workedOf}
+use Rattle.record.specs.Work.{chosen, workBy, workPair, workPairs}
+use Rattle.record.specs.declared.Answer.the-variants.{Axis}
+use Rattle.rotation.specs.Choice.{choose, fits, minusSign, negative, smallest}
+use Rattle.rotation.specs.Rotation.{first, rotationOf, second, signed}
+use Rattle.rotation.specs.Threshold.{roundedUp, threshold, u, w}
+use Rattle.rotation.specs.Turn.{array, at, atPair, eight, hpp, hpq, hqp, hqq, newp, newpp, newpq, newq, newqq, turnAxes, turnMatrix, turned, turnedAxes}
+use Rattle.rounding.specs.Rounding.{rnd}
+use Rattle.run.specs.Course.{run-settled}
+use Rattle.run.specs.Run.{noPair, noTurn, runFrom, runOf, stop, tried}
+use Rattle.run.specs.declared.Outcome.the-variants.{Settled, Spent, Still}
+use Rattle.run.specs.declared.Ran.{Ran}
+
+-- a matrix of two channels
+abbrev pub two : ℤ → ℤ → ℤ → List ℤ
+two pp pq qq = pp ∷ pq ∷ pq ∷ qq ∷ []
+
+-- 5. a_pp = 0, a_qq = 1,073,741,824, a_pq = 1024, which are 0, 1,048,576 and 1 times 1024: `still` with t = 0, after the one sweep that tells it.
+pub record Card5 : Type 0 where
+  pub outcome : runOf 2 (two (pos 0) (pos 1) (pos 1048576)) 16 0 .outcome ≡ Still
+  pub sweeps : runOf 2 (two (pos 0) (pos 1) (pos 1048576)) 16 0 .sweeps ≡ 1
+
+-- 9. Zero table, `settled`, 0 sweeps: whatever the limit is.
+abbrev pub Card9 : Type 0
+Card9 = (limit : ℕ) → runOf 2 (two (pos 0) (pos 0) (pos 0)) limit 0 ≡ stop Settled 0 (afterOf fresh (load 2 (two (pos 0) (pos 0) (pos 0))))
+
+-- 12. The table of the three samples, with sweep limit 1 and tolerance 0: `spent`, 1 sweep, m = 1, and the two axes.
+abbrev pub three : Ran
+three = runOf 2 (two (pos 50) (pos 25) (pos 50)) 1 0
+
+pub record Card12 : Type 0 where
+  pub outcome : three .outcome ≡ Spent
+  pub sweeps : three .sweeps ≡ 1
+  pub turns : three .last .m ≡ 1
+  pub axis-1 : answerOf (three .last) (axis 1) ≡ Axis (pos 26624) 7172
+  pub row-1 : axisOf (three .last) 1 ≡ pos 644245094 ∷ negsuc 858993458 ∷ pos 0 ∷ pos 0 ∷ pos 0 ∷ pos 0 ∷ pos 0 ∷ pos 0 ∷ []
+  pub axis-2 : answerOf (three .last) (axis 2) ≡ Axis (pos 75776) 7172
+  pub row-2 : axisOf (three .last) 2 ≡ pos 858993459 ∷ pos 644245094 ∷ pos 0 ∷ pos 0 ∷ pos 0 ∷ pos 0 ∷ pos 0 ∷ pos 0 ∷ []
+
+pub record Cards : Type 0 where
+  pub card5 : Card5
+  pub card9 : Card9
+  pub card12 : Card12
+
+pub cards : Cards
+unfolding runOf runFrom tried noPair noTurn answerOf valueOf afterOf acceptedOf axisOf fresh loadedOf inUse sweptOf workOf workedOf looseOf tabulate kept entriesOf rowsOf flatOf chosen workBy workPair workPairs errorOf cyclic rowsFrom row matrixOf equal symmetric within refusalOf diagonal sumℕ choose smallest fits threshold roundedUp u w minusSign negative rotationOf signed first second turnMatrix turnAxes turnedAxes array eight at turned newp newq newpp newpq newqq hpp hpq hqp hqq atPair rnd
+cards =
+    record {
+      card5 = record { outcome = refl; sweeps = refl };
+      card9 = λ limit. run-settled limit 0 0 false _ refl;
+      card12 = record { outcome = refl; sweeps = refl; turns = refl; axis-1 = refl; row-1 = refl; axis-2 = refl; row-2 = refl };
+    }

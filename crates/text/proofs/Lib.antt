@@ -1,0 +1,2 @@
+mod Writers
+mod Negative

@@ -1,0 +1,70 @@
+-- What a writer does to a lent buffer: the text stands from the place on that it was given, every other byte stays, and the answer is the
+-- place after the text.
+use Prim.Native.Nat.{ℕ, _+_, _-_, _≤_}
+use mathlib.Core.Path.{_≡_, sym, _∙_}
+use mathlib.Core.List.{List, [], _++_, append-assoc, append-nil}
+use native.Mathlib.Nat.{zero-add, add-assoc, add-zero}
+use native.Mathlib.Omega.{arith}
+use lib.ListN.{length, take, drop, length-append, length-drop, take-append-drop, drop-of-length-le}
+use lib.Seq.{take-at, drop-at, drop-drop, length-take-le, take-all}
+
+-- The length of a text, known before its first byte is written, and what it is at most.
+pub record Sized (text : List ℕ) (most r : ℕ) : Type 0 where
+  pub exact : r ≡ length text
+  pub bounded : r ≤ most
+
+-- At the place 0 the exit is text ++ drop (length text) entry.
+pub record Put (text : List ℕ) (at : ℕ) (entry exit : List ℕ) (r : ℕ) : Type 0 where
+  pub bytes : exit ≡ take at entry ++ (text ++ drop (length text) (drop at entry))
+  pub answer : r ≡ at + length text
+  pub within : r ≤ length entry
+
+pub put-nothing : (at : ℕ) (entry : List ℕ) → at ≤ length entry → Put [] at entry entry at
+put-nothing at entry h = record { bytes = sym (take-append-drop at entry); answer = sym (add-zero at); within = h }
+
+module _ {t e x : List ℕ} {a r : ℕ} (p : Put t a e x r) where
+  front : length (take a e ++ t) ≡ r
+  front = rw (length-append, length-take-le a e (let w = p .within in let v = p .answer in omega arith)) (sym (p .answer))
+
+  split : x ≡ (take a e ++ t) ++ drop r e
+  split = p .bytes ∙ rw (drop-drop, append-assoc, p .answer)
+
+  -- The bytes from the answer on are as they were.
+  pub rest-stays : drop r x ≡ drop r e
+  rest-stays = rw split (drop-at (take a e ++ t) _ r front)
+
+  pub written : take r x ≡ take a e ++ t
+  written = rw split (take-at (take a e ++ t) _ r front)
+
+  pub same-size : length x ≡ length e
+  same-size = rw (split, length-append, front, length-drop) (let w = p .within in omega arith)
+
+  -- A text that is written where the last one ended.
+  pub put-then : {u y : List ℕ} {s : ℕ} → Put u r x y s → Put (t ++ u) a e y s
+  put-then {u} q = record {
+    bytes = q .bytes ∙ rw (written, rest-stays) (simp (drop-drop, length-append, append-assoc, add-assoc, p .answer));
+    answer = q .answer ∙ rw (p .answer, length-append, add-assoc);
+    within = rw same-size at (q .within);
+  }
+
+  part : take (length x - r) (drop r x) ≡ drop r x
+  part = take-all (length x - r) (drop r x) (rw length-drop (omega arith))
+
+  pub part-size : r + length (take (length x - r) (drop r x)) ≡ length e
+  part-size = rw (part, length-drop) (let w = p .within in omega (arith, same-size))
+
+  past : drop (length x - r) (drop r x) ≡ []
+  past = drop-of-length-le (drop r x) {i = length x - r} (rw length-drop (omega arith))
+
+  -- A text that is written at the front of the part `&mut buf[r..]`, which comes back after what stands before it.
+  pub put-part : {u y : List ℕ} {s : ℕ} → Put u 0 (take (length x - r) (drop r x)) y s
+      → Put (t ++ u) a e (take r x ++ (y ++ drop (length x - r) (drop r x))) (r + s)
+  put-part {u} {y} {s} q = put-then (record {
+    bytes = rw (past, append-nil, q .bytes, part);
+    answer = rw (q .answer, zero-add);
+    within = omega (arith, q .within, part-size, same-size);
+  })
+
+-- A text at the front of a buffer.
+pub front-length : {t e x : List ℕ} {r : ℕ} → Put t 0 e x r → r ≡ length t
+front-length p = p .answer ∙ zero-add _
