@@ -91,6 +91,13 @@ impl Record {
         self.refused
     }
 
+    // How many channels the matrix has, 0 where none is loaded.
+    pub fn channels(self) -> usize
+        ensures { λ r. ⌜ r ≡ self .n ⌝ }
+    {
+        self.n
+    }
+
     // How many turns were made of the matrix.
     pub fn turns(self) -> u64
         ensures { λ r. ⌜ r ≡ self .m ⌝ }
