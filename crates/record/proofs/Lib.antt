@@ -1,6 +1,11 @@
 mod Axes
 mod Checks
+mod Handed
+mod LentCall
+mod LentContract
 mod Outcome
+mod Parameters
 mod Search
+mod Steps
 mod Sweep
 mod Worked

@@ -6,7 +6,7 @@ use Rattle.ledger.specs.Call.{Call, axis}
 use Rattle.record.specs.Kept.{Kept}
 use Rattle.record.specs.Record.{afterOf, answerOf, axisOf, fresh}
 use Rattle.record.specs.declared.Answer.{Answer}
-use Rattle.record.specs.declared.AxisStep.{AxisStep}
+use Rattle.record.specs.declared.AxisAnswer.{AxisAnswer}
 use Rattle.record.specs.declared.Record.{Record}
 use Rattle.record.specs.declared.work.Worked.{Worked}
 
@@ -20,11 +20,11 @@ pub record Done (r : Record) (call : Call) (answer : Answer) (next : Record) : T
   pub keeps : Kept next
 
 -- an axis call answers row i of v too
-pub record AxisDone (r : Record) (i : ℕ) (z : AxisStep) : Type 0 where
-  pub answers : z .answer .value ≡ answerOf r (axis i)
-  pub row : z .answer .row ≡ axisOf r i
-  pub leaves : z .next ≡ afterOf r (axis i)
-  pub keeps : Kept (z .next)
+pub record AxisDone (r : Record) (i : ℕ) (answer : AxisAnswer) (next : Record) : Type 0 where
+  pub answers : answer .value ≡ answerOf r (axis i)
+  pub row : answer .row ≡ axisOf r i
+  pub leaves : next ≡ afterOf r (axis i)
+  pub keeps : Kept next
 
 -- the record with the matrix, axes and m of some work
 unfoldable pub withWork : Record → Worked → Record

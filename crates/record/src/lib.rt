@@ -5,6 +5,7 @@ ghost use Rattle.record.specs.Kept.{Kept};
 ghost use Rattle.record.specs.Record.{counted, fresh, refusedOf};
 ghost use mathlib.Core.Path.{_≡_};
 
+pub mod lent;
 mod load;
 mod query;
 mod rows;
@@ -204,7 +205,7 @@ impl Record {
 
     pub fn axis(self, i: usize) -> AxisStep
         requires { ⌜ Kept self ⌝ }
-        ensures { λ z. ⌜ AxisDone self i z ⌝ }
+        ensures { λ z. ⌜ AxisDone self i (z .answer) (z .next) ⌝ }
     {
         let n = self.n;
         let number = query::axis_refusal(n, i);
