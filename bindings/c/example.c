@@ -1,0 +1,20 @@
+/* The axes of a matrix of two channels. At the repository's root:
+   rt staticlib field_axes && cc -o target/example bindings/c/example.c target/staticlib/libfield_axes.a && target/example */
+#include "field_axes.h"
+#include <stdio.h>
+
+int main(void) {
+    const int64_t numbers[] = {50, 25, 25, 50};
+    int64_t out[FIELD_AXES_MOST_NUMBERS];
+    int64_t count = field_axes_solve(2, numbers, 4, 16, 0, out, FIELD_AXES_MOST_NUMBERS);
+    if (count < 0) {
+        printf("refused %lld\n", (long long)-count);
+        return 1;
+    }
+    const char *outcomes[] = {"settled", "still", "spent"};
+    printf("%s after %lld sweeps and %lld turns\n", outcomes[out[0]], (long long)out[1], (long long)out[2]);
+    for (int64_t at = 3; at < count; at += 4)
+        printf("axis %lld: %lld within %lld; row %lld %lld\n", (long long)(at / 4 + 1), (long long)out[at],
+               (long long)out[at + 1], (long long)out[at + 2], (long long)out[at + 3]);
+    return 0;
+}

@@ -1,0 +1,101 @@
+//! Field Axes for Rust programs: safe functions over the proved static library.
+//!
+//! A refusal is the number that the customer's document 01 gives it.
+
+/// The declarations of `crates/field_axes/src/lib.rt`, where a `&[T]` is a pointer and a length. Nothing checks them against it:
+/// change them together, with `bindings/c/field_axes.h`.
+mod raw {
+    extern "C" {
+        pub fn field_axes_solve(
+            n: usize,
+            numbers: *const i64,
+            numbers_length: usize,
+            limit: u64,
+            tolerance: u64,
+            out: *mut i64,
+            out_length: usize,
+        ) -> i64;
+    }
+}
+
+/// The number of a refusal.
+#[derive(Clone, Copy, Debug, PartialEq, Eq)]
+pub struct Refused(pub u32);
+
+/// How a run ends.
+#[derive(Clone, Copy, Debug, PartialEq, Eq)]
+pub enum Outcome {
+    Settled,
+    Still,
+    Spent,
+}
+
+/// An axis: its kept diagonal entry and error, both in units of 1/1024, and its row, of which 2^30 stands for 1.
+#[derive(Clone, Debug, PartialEq, Eq)]
+pub struct Axis {
+    pub entry: i64,
+    pub error: i64,
+    pub row: Vec<i64>,
+}
+
+/// What a run ends with.
+#[derive(Clone, Debug, PartialEq, Eq)]
+pub struct Solution {
+    pub outcome: Outcome,
+    pub sweeps: u64,
+    pub turns: u64,
+    pub axes: Vec<Axis>,
+}
+
+/// Of eight channels: the most numbers that a run gives.
+pub const MOST_NUMBERS: usize = 3 + 8 * 10;
+
+/// The run on a symmetric matrix of n×n numbers, row after row, with at most `limit` sweeps, and a tolerance in units.
+/// Refused 5, 6, 8 or 7 for the matrix, then 2 for a limit outside 1 to 16 or a tolerance above 1,048,576.
+pub fn solve(n: usize, numbers: &[i64], limit: u64, tolerance: u64) -> Result<Solution, Refused> {
+    let mut out = [0; MOST_NUMBERS];
+    let count = solve_into(n, numbers, limit, tolerance, &mut out)?;
+    let (head, axes) = out[..count].split_at(3);
+    Ok(Solution {
+        outcome: [Outcome::Settled, Outcome::Still, Outcome::Spent][head[0] as usize],
+        sweeps: head[1] as u64,
+        turns: head[2] as u64,
+        axes: axes
+            .chunks(n + 2)
+            .map(|axis| Axis {
+                entry: axis[0],
+                error: axis[1],
+                row: axis[2..].to_vec(),
+            })
+            .collect(),
+    })
+}
+
+/// The same as numbers, at the front of `out`: the outcome (0 settled, 1 still, 2 spent), the sweeps run, the turns made, then for
+/// each axis its entry, its error and its row. The answer is how many they are. Refused 12, last, where `out` is too short; at a
+/// refusal it stays as it was.
+pub fn solve_into(
+    n: usize,
+    numbers: &[i64],
+    limit: u64,
+    tolerance: u64,
+    out: &mut [i64],
+) -> Result<usize, Refused> {
+    // Safe: both slices are whole, and borrowed for the call; the function has no other requirement.
+    answer(unsafe {
+        raw::field_axes_solve(
+            n,
+            numbers.as_ptr(),
+            numbers.len(),
+            limit,
+            tolerance,
+            out.as_mut_ptr(),
+            out.len(),
+        )
+    })
+}
+
+/// A count, or a refusal's number negated.
+fn answer(count: i64) -> Result<usize, Refused> {
+    usize::try_from(count).map_err(|_| Refused(count.unsigned_abs() as u32))
+}

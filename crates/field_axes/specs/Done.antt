@@ -1,0 +1,12 @@
+-- What the exported functions ensure: the answer, and every number of the lent buffer.
+use mathlib.Core.Path.{_≡_}
+use mathlib.Core.List.{List}
+use Prim.Native.Nat.{ℕ}
+use lib.IntN.{ℤ}
+use lib.ListN.{length}
+use Rattle.field_axes.specs.Put.{answered, lent}
+use Rattle.field_axes.specs.Solution.{solutionOf, solveRefusal}
+
+pub record Solves (n : ℕ) (numbers : List ℤ) (limit t : ℕ) (entry exit : List ℤ) (r : ℤ) : Type 0 where
+  pub answer : r ≡ answered (solveRefusal n numbers limit t (length entry)) (solutionOf n numbers limit t)
+  pub buffer : exit ≡ lent (solveRefusal n numbers limit t (length entry)) (solutionOf n numbers limit t) entry

@@ -1,0 +1,4 @@
+pub mod Put
+pub mod Solution
+pub mod Solvable
+pub mod Done

@@ -1,0 +1,67 @@
+-- A run and its axes as numbers, and the refusals before it.
+use Prim.Native.Nat.{ℕ, zero, suc, _+_, _*_, _^_, _<_}
+use mathlib.Core.Bool.{cond, _&&_}
+use mathlib.Core.List.{List, [], _∷_, _++_}
+use lib.Dec.{eqb, leb}
+use lib.IntN.{ℤ, pos}
+use lib.ListN.{take}
+use Rattle.ledger.specs.Call.{axis, load}
+use Rattle.ledger.specs.Refusal.{refusalOf, unless}
+use Rattle.limits.specs.Limits.{toleranceLimit}
+use Rattle.record.specs.Record.{answerOf, axisOf}
+use Rattle.record.specs.declared.Answer.{Answer}
+use Rattle.record.specs.declared.Answer.the-variants.{Loaded, Turned, Swept, Pair, NoPair, Axis, Refused}
+use Rattle.record.specs.declared.Record.{Record}
+use Rattle.run.specs.Run.{runOf}
+use Rattle.run.specs.declared.Outcome.{Outcome}
+use Rattle.run.specs.declared.Outcome.the-variants.{Settled, Still, Spent}
+use Rattle.run.specs.declared.Ran.{Ran}
+
+unfoldable pub outcomeNumber : Outcome → ℕ
+outcomeNumber Settled = 0
+outcomeNumber Still = 1
+outcomeNumber Spent = 2
+
+-- a_ii and r_i, which an axis call answers; no axis of a run comes to another answer
+unfoldable pub axisValues : Answer → List ℤ
+axisValues Loaded = pos 0 ∷ pos 0 ∷ []
+axisValues (Turned made) = pos 0 ∷ pos 0 ∷ []
+axisValues (Swept made) = pos 0 ∷ pos 0 ∷ []
+axisValues (Pair p q) = pos 0 ∷ pos 0 ∷ []
+axisValues NoPair = pos 0 ∷ pos 0 ∷ []
+axisValues (Axis entry error) = entry ∷ pos error ∷ []
+axisValues (Refused number) = pos 0 ∷ pos 0 ∷ []
+
+-- r_i is below 2^63
+unfoldable pub ErrorFits : Answer → Type 0
+ErrorFits Loaded = Unit
+ErrorFits (Turned made) = Unit
+ErrorFits (Swept made) = Unit
+ErrorFits (Pair p q) = Unit
+ErrorFits NoPair = Unit
+ErrorFits (Axis entry error) = error < 2 ^ 63
+ErrorFits (Refused number) = Unit
+
+-- a_ii, r_i and the n numbers of row i of v
+unfoldable pub axisNumbers : ℕ → Record → ℕ → List ℤ
+axisNumbers n r i = axisValues (answerOf r (axis i)) ++ take n (axisOf r i)
+
+-- for i = 1 to `last`
+unfoldable pub axes : ℕ → Record → ℕ → List ℤ
+axes n r zero = []
+axes n r (suc last) = axes n r last ++ axisNumbers n r (suc last)
+
+-- outcome, sweeps run, m, and the axes 1 to n
+unfoldable pub solution : ℕ → Ran → List ℤ
+solution n z =
+    (pos (outcomeNumber (z .outcome)) ∷ pos (z .sweeps) ∷ pos (z .last .m) ∷ []) ++ axes n (z .last) n
+
+unfoldable pub solutionOf : ℕ → List ℤ → ℕ → ℕ → List ℤ
+solutionOf n numbers limit t = solution n (runOf n numbers limit t)
+
+-- Those of the load, then 2 for a limit outside 1..16 or a tolerance out of its range, then 12 for a buffer of fewer numbers
+unfoldable pub solveRefusal : ℕ → List ℤ → ℕ → ℕ → ℕ → ℕ
+solveRefusal n numbers limit t size =
+    cond (eqb (refusalOf 0 0 (load n numbers)) 0)
+    (unless (leb 1 limit && (leb limit 16 && leb t toleranceLimit)) 2 (unless (leb (3 + n * (n + 2)) size) 12 0))
+    (refusalOf 0 0 (load n numbers))

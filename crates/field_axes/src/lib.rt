@@ -1,0 +1,24 @@
+// The functions of the static library, for Rust and C. bindings/ declares them; nothing checks those declarations against these.
+mod numbers;
+mod solve;
+
+ghost use Rattle.field_axes.specs.Done.{Solves};
+
+// A run on n×n numbers, row after row, and its axes. Into `out`: the outcome (0 settled, 1 still, 2 spent), the sweeps run, m, then for
+// each axis a_ii, r_i and the n numbers of its row. The answer is how many numbers these are, or the refusal's number negated.
+#[no_mangle]
+pub extern "C" fn field_axes_solve(
+    n: usize,
+    numbers: &[i64],
+    limit: u64,
+    tolerance: u64,
+    out: &mut [i64],
+) -> i64
+    ensures { λ r. ⌜ Solves n (now (numbers .entry)) limit tolerance (now (out .entry)) (now (out .exit)) r ⌝ }
+{
+    let number = solve::solve_refusal(n, numbers, limit, tolerance, out.len());
+    if number != 0 {
+        return numbers::refused(number);
+    }
+    solve::put_solution(n, numbers, limit, tolerance, out) as i64
+}

@@ -1,0 +1,96 @@
+// A run and its axes: the refusal, and the numbers.
+use crate::numbers;
+use record::Answer;
+use record::Record;
+use run::Outcome;
+ghost use mathlib.Core.Path.{_≡_};
+ghost use Prim.Native.Nat.{_+_, _*_, _≤_};
+ghost use lib.IntN.{pos};
+ghost use lib.ListN.{length};
+ghost use Rattle.record.specs.Kept.{Kept};
+ghost use Rattle.field_axes.specs.Put.{Put};
+ghost use Rattle.field_axes.specs.Solution.{ErrorFits, axes, axisValues, outcomeNumber, solutionOf, solveRefusal};
+ghost use Rattle.field_axes.specs.Solvable.{Solvable};
+
+// The refusal's number, or 0.
+pub fn solve_refusal(n: usize, numbers: &[i64], limit: u64, tolerance: u64, size: usize) -> u32
+    ensures { λ r. ⌜ r ≡ solveRefusal n (now (numbers .entry)) limit tolerance size ⌝ }
+{
+    let fresh = Record::new();
+    let loaded = fresh.load(n, numbers);
+    let answer = loaded.answer;
+    if let Answer::Refused(number) = answer {
+        return number;
+    }
+    if limit < 1 {
+        return 2;
+    }
+    if 16 < limit {
+        return 2;
+    }
+    if Record::TOLERANCE_LIMIT < tolerance {
+        return 2;
+    }
+    if size < 3 + n * (n + 2) {
+        return 12;
+    }
+    0
+}
+
+fn outcome_number(outcome: Outcome) -> i64
+    ensures { λ r. ⌜ r ≡ pos (outcomeNumber outcome) ⌝ }
+{
+    match outcome {
+        Outcome::Settled => 0,
+        Outcome::Still => 1,
+        Outcome::Spent => 2,
+    }
+}
+
+// a_ii and r_i.
+fn axis_values(value: Answer) -> [i64; 2]
+    requires { ⌜ ErrorFits value ⌝ }
+    ensures { λ r. ⌜ r ≡ axisValues value ⌝ }
+{
+    if let Answer::Axis { entry, error } = value {
+        return [entry, error as i64];
+    }
+    [0, 0]
+}
+
+// The axes 1 to n, each after the one before it.
+fn put_axes(n: usize, last: Record, out: &mut [i64], at: usize) -> usize
+    requires { ⌜ (n ≤ 8) × Kept last × (at + n * (n + 2) ≤ length (now out)) ⌝ }
+    ensures { λ r. ⌜ Put (axes n last n) at (now (out .entry)) (now (out .exit)) r ⌝ }
+{
+    let mut next = at;
+    let mut i = 0;
+    while i < n {
+        i += 1;
+        let asked = last.axis(i);
+        let answer = asked.answer;
+        let value = answer.value;
+        let row = answer.row;
+        let values = axis_values(value);
+        next = numbers::put(out, next, &values);
+        next = numbers::put(out, next, &row[..n]);
+    }
+    next
+}
+
+// The numbers of a run that is not refused.
+pub fn put_solution(n: usize, numbers: &[i64], limit: u64, tolerance: u64, out: &mut [i64]) -> usize
+    requires { ⌜ Solvable n (now numbers) limit tolerance (length (now out)) ⌝ }
+    ensures { λ r. ⌜ Put (solutionOf n (now (numbers .entry)) limit tolerance) 0 (now (out .entry)) (now (out .exit)) r ⌝ }
+{
+    let ran = run::run(n, numbers, limit, tolerance);
+    let outcome = ran.outcome;
+    let last = ran.last;
+    let head = [
+        outcome_number(outcome),
+        ran.sweeps as i64,
+        last.turns() as i64,
+    ];
+    let at = numbers::put(out, 0, &head);
+    put_axes(n, last, out, at)
+}

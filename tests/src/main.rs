@@ -1,0 +1,37 @@
+//! The static library against the reference on seeded random inputs, number for number. At the repository's root:
+//! `rt staticlib field_axes && cargo run --release --offline --manifest-path tests/Cargo.toml`
+
+mod random;
+mod solving;
+
+use std::process::ExitCode;
+
+/// Cases of each kind. A run of another SEED is `.. -- SEED`.
+const CASES: u64 = 20_000;
+const SEED: u64 = 1;
+
+fn main() -> ExitCode {
+    let seed = std::env::args()
+        .nth(1)
+        .map_or(SEED, |word| word.parse().expect("a seed is a number"));
+    let mut failed = false;
+    for (name, case) in [("solve", solving::case as fn(u64) -> Result<&'static str, String>)] {
+        let mut counts = std::collections::BTreeMap::new();
+        for number in 0..CASES {
+            match case(seed.wrapping_mul(1 << 32) + number) {
+                Ok(kind) => *counts.entry(kind).or_insert(0u64) += 1,
+                Err(difference) => {
+                    println!("{name}, seed {seed}, case {number}: {difference}");
+                    failed = true;
+                    break;
+                }
+            }
+        }
+        println!("{name}: {:?}", counts);
+    }
+    if failed {
+        return ExitCode::FAILURE;
+    }
+    println!("no difference");
+    ExitCode::SUCCESS
+}
