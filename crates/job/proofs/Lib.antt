@@ -1,5 +1,5 @@
 pub mod Accepted
-mod Digits
+pub mod Digits
 mod Ends
 mod Fields
 mod Flags

@@ -3,7 +3,7 @@ mod Checks
 mod Handed
 mod LentCall
 mod LentContract
-mod Outcome
+pub mod Outcome
 mod Parameters
 mod Search
 mod Steps

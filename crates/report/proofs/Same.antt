@@ -1,0 +1,85 @@
+-- The text that is written is the report: the R line's numbers and the A lines' are the job's.
+use Prim.Native.Nat.{ℕ, zero, suc, _+_, _-_, _<_, _≤_}
+use mathlib.Core.Path.{_≡_, refl, sym, ap, _∙_}
+use mathlib.Core.Bool.{Bool, true, false, cond}
+use mathlib.Core.List.{List, [], _∷_, _++_}
+use native.Mathlib.Nat.{zero-add}
+use native.Mathlib.Omega.{arith}
+use borrow.Author.Tests.{le-leb, lt-leb}
+use lib.Dec.{eqb}
+use lib.IntN.{ℤ, pos}
+use lib.ListN.{length, take, drop, getD, replicate, length-append}
+use Rattle.job.specs.Job.{Job, accepted}
+use Rattle.ledger.specs.Call.{axis}
+use Rattle.ledger.specs.Refusal.{refusalOf}
+use Rattle.record.specs.Flat.{entriesOf}
+use Rattle.record.specs.Record.{answerOf, axisOf}
+use Rattle.record.specs.declared.Answer.{Answer}
+use Rattle.record.specs.declared.Answer.the-variants.{Loaded, Turned, Swept, Pair, NoPair, Axis, Refused}
+use Rattle.record.specs.declared.Record.{Record}
+use Rattle.rotation.specs.Eight.{getD-eight, length-eight}
+use Rattle.text.specs.Line.{numberLine, wordLine}
+use Rattle.text.specs.Put.{Put}
+use Rattle.report.specs.Done.{Answers}
+use Rattle.report.specs.Lines.{Wide, axesOf, axisLines, headOf, textOf, valuesOf}
+use Rattle.report.specs.Report.{Short, axisValues, bufferBy, lineA, lineR, linesA, outcomeWord, reportOf, reportedBy, runFor, tableFor}
+use Rattle.report.specs.declared.Reported.the-variants as reported
+
+-- Two numbers stand before the row.
+two-before : (a : Answer) (n : ℕ) (row : List ℤ) → (take (suc (suc n)) (axisValues a ++ row) ≡ axisValues a ++ take n row) × (length (axisValues a) ≡ 2)
+unfolding axisValues
+two-before Loaded n row = (refl, refl)
+two-before (Turned made) n row = (refl, refl)
+two-before (Swept made) n row = (refl, refl)
+two-before (Pair p q) n row = (refl, refl)
+two-before NoPair n row = (refl, refl)
+two-before (Axis entry error) n row = (refl, refl)
+two-before (Refused number) n row = (refl, refl)
+
+module _ (r : Record) where
+  row-length : (i : ℕ) → length (axisOf r i) ≡ 8
+  unfolding axisOf entriesOf
+  row-length i = by-refusal (eqb (refusalOf (r .n) (r .m) (axis i)) 0)
+    where
+      by-refusal : (b : Bool) → length (cond b (entriesOf (r .v) (i - 1)) (replicate 8 (pos 0))) ≡ 8
+      by-refusal true = length-eight _
+      by-refusal false = refl
+
+  values-length : (i : ℕ) → length (valuesOf r i) ≡ 11
+  unfolding valuesOf
+  values-length i =
+      omega (arith, length-append (axisValues (answerOf r (axis i))) (axisOf r i), two-before (answerOf r (axis i)) 0 [] .1, row-length i)
+
+  pub axes-wide : Wide (axesOf r)
+  unfolding axesOf
+  axes-wide = record { wide = λ i h. rw (getD-eight (λ i. valuesOf r (suc i)) i [] h) (values-length (suc i)) }
+
+  line-same : (n i : ℕ) → i < 8 → numberLine 65 (take (n + 3) (getD (axesOf r) i [])) ≡ lineA n r (suc i)
+  unfolding axesOf valuesOf lineA
+  line-same n i h =
+      let e : n + 3 ≡ suc (suc (suc n)) = omega arith in
+      rw (getD-eight (λ i. valuesOf r (suc i)) i [] h, e)
+      (ap (λ (l : List ℤ). numberLine 65 (pos (suc i) ∷ l)) (two-before (answerOf r (axis (suc i))) n (axisOf r (suc i)) .0))
+
+  lines-same : (n count : ℕ) → count ≤ 8 → axisLines n (axesOf r) count ≡ linesA n r count
+  unfolding axisLines linesA
+  lines-same n zero h = refl
+  lines-same n (suc count) h = rw (lines-same n count (omega arith), line-same n count (omega arith))
+
+pub text-same : (j : Job) → j .n ≤ 8 → textOf (headOf j) (runFor j .outcome) (axesOf (runFor j .last)) (j .n) ≡ reportOf j
+unfolding textOf headOf reportOf lineR
+text-same j h = rw (lines-same (runFor j .last) (j .n) (j .n) h)
+
+module _ (j : Job) (short : length (reportOf j) ≤ 2048) (entry : List ℕ) where
+  pub too-short : length entry < length (reportOf j) → Answers (accepted j) entry entry (reported.Refused 12 0)
+  unfolding reportedBy bufferBy Short
+  too-short h =
+      let test = lt-leb (length (reportOf j)) (length entry) h in
+      record { answer = rw test; buffer = rw test; short = short }
+
+  pub put-whole : (exit : List ℕ) (r : ℕ) → Put (reportOf j) 0 entry exit r → Answers (accepted j) entry exit (reported.Written r)
+  unfolding reportedBy bufferBy Short
+  put-whole exit r p =
+      let e : r ≡ length (reportOf j) = p .answer ∙ zero-add _ in
+      let test = le-leb (length (reportOf j)) (length entry) (omega (arith, p .within, e)) in
+      record { answer = rw (test, e); buffer = rw test (p .bytes); short = short }

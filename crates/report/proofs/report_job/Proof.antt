@@ -1,0 +1,125 @@
+-- `report::report_job` meets its contract: the text that is written is the report of the job.
+use Prim.Native.Nat.{ℕ, _≤_}
+use mathlib.Core.Path.{_≡_, refl, sym, ap, _∙_}
+use mathlib.Core.List.{List, [], _∷_}
+use native.Mathlib.Omega.{arith}
+use lib.IntN.{ℤ, pos}
+use lib.ListN.{length}
+use lib.Seq.{length-take-le}
+use mir.Syntax.{w64}
+use mir.Val.{toZ, SFits}
+use mir.Facts.{toZ-ofZ}
+use borrow.Author.Needs.{needs}
+use Rattle.job.specs.Job.{Job}
+use Rattle.run.specs.declared.Ran.{Ran}
+use Rattle.text.specs.Put.{Sized}
+use Rattle.report.specs.Done.{jobIn}
+use Rattle.report.specs.Lines.{Wide, textOf, headOf, axesOf}
+use Rattle.report.specs.Report.{reportOf}
+use Rattle.report.proofs.Bounds.{channels, sweeps-most}
+use Rattle.report.proofs.Same.{axes-wide, text-same, too-short, put-whole}
+use Rattle.report.proofs.report_job.Statement.{statement}
+use Rattle.report.proofs.report_job.Tie as tie
+
+high : (s : tie.Start) → s .args .job .n ≤ 8
+unfolding jobIn
+high s = channels (jobIn (s .args .job)) (s .pre .proper) .1
+
+number : (s : tie.Start) → SFits w64 (pos (s .args .job .n))
+number s = record { sfits = omega (arith, high s) }
+
+sweeps : (c : tie.After-solve) → SFits w64 (pos (c .solve .result .ran .sweeps))
+sweeps c =
+    let s = c .before .before in
+    record { sfits = rw (c .solve .ensures .is) (omega (arith, sweeps-most (jobIn (s .args .job)) (s .pre .proper))) }
+
+module _ (c : tie.After-axes-values) where
+  abbrev start : tie.Start
+  start = c .before .before .before .before .before .before .before .before .before
+
+  abbrev solved : tie.After-solve
+  solved = c .before .before .before .before .before .before .before
+
+  abbrev j : Job
+  j = jobIn (start .args .job)
+
+  abbrev head : List ℤ
+  head =
+      toZ w64 (start .args .job .n)
+      ∷ toZ w64 (start .args .job .k)
+      ∷ toZ w64 (solved .solve .result .e)
+      ∷ toZ w64 (solved .solve .result .ran .sweeps)
+      ∷ toZ w64 (c .before .turns .result)
+      ∷ []
+
+  head-same : head ≡ headOf j
+  unfolding headOf jobIn
+  head-same =
+      let s = solved .solve .ensures in
+      let k-fits : SFits w64 (pos (start .args .job .k)) = record { sfits = omega (arith, start .pre .few) } in
+      let e-fits : SFits w64 (pos (solved .solve .result .e)) = search needs in
+      let m-fits : SFits w64 (pos (c .before .turns .result)) = record { sfits = omega (arith, c .before .turns .ensures, s .keeps .turns) } in
+      let k-same = length-take-le (start .args .job .k) (start .args .job .dilutions) (omega (arith, start .pre .few, start .pre .dilutions)) in
+      λ k.
+      toZ-ofZ (number start) k
+      ∷ (toZ-ofZ k-fits ∙ ap pos (sym k-same)) k
+      ∷ (toZ-ofZ e-fits ∙ ap pos (s .shift)) k
+      ∷ (toZ-ofZ (sweeps solved) ∙ ap (λ (z : Ran). pos (z .sweeps)) (s .is)) k
+      ∷ (toZ-ofZ m-fits ∙ ap pos (c .before .turns .ensures) ∙ ap (λ (z : Ran). pos (z .last .m)) (s .is)) k
+      ∷ []
+
+  text : textOf head (solved .solve .result .ran .outcome) (c .axes-values .result) (start .args .job .n) ≡ reportOf j
+  unfolding jobIn
+  text =
+      (λ k. textOf (head-same k) (solved .solve .ensures .is k .outcome) ((c .axes-values .ensures ∙ ap (λ (z : Ran). axesOf (z .last)) (solved .solve .ensures .is)) k) (start .args .job .n))
+      ∙ text-same j (high start)
+
+  axes-are-wide : Wide (c .axes-values .result)
+  axes-are-wide = rw (c .axes-values .ensures) (axes-wide (solved .solve .result .ran .last))
+
+text-length-requires : tie.Need-text-length-requires
+text-length-requires c κs = let a = c .before .before in (refl, high (start a), axes-are-wide a)
+
+sized : (c : tie.After-text-length) → Sized (reportOf (j (c .before .before .before))) 2048 (c .text-length .result)
+sized c = rw (text (c .before .before .before)) at (c .text-length .ensures)
+
+short : (c : tie.After-text-length) → length (reportOf (j (c .before .before .before))) ≤ 2048
+short c = omega (arith, sized c .exact, sized c .bounded)
+
+returns : tie.Need-returns
+returns c =
+    let l = c .before in
+    let a = l .before .before .before in
+    too-short (j a) (short l) (start a .args .buf .now) (omega (arith, c .if1 .taken, sized l .exact))
+
+put-text-requires : tie.Need-put-text-requires
+put-text-requires c κs =
+    let l = c .before .before .before .before in
+    let a = l .before .before .before in
+    (high (start a), axes-are-wide a, omega (arith, c .before .before .before .if1 .left, l .text-length .ensures .exact))
+
+returns-2 : tie.Need-returns-2
+returns-2 c =
+    let l = c .before .before .before .before .before .before .before in
+    let a = l .before .before .before in
+    put-whole (j a) (short l) (start a .args .buf .now) _ _ (rw (text a) at (c .before .before .put-text .ensures))
+
+pub report-job-spec : {M : Type 1} → statement M
+report-job-spec =
+    tie.close
+    (tie.spec
+    (λ c κs. search needs)
+    (λ c. number (c .before .before .before .before))
+    (λ c. search needs)
+    (λ c. search needs)
+    (λ c. sweeps (c .before .before .before .before .before))
+    (λ c κs. search needs)
+    (λ c. search needs)
+    (λ c κs. search needs)
+    (λ c. search needs)
+    text-length-requires
+    returns
+    (λ c. search needs)
+    put-text-requires
+    (λ c. search needs)
+    returns-2)

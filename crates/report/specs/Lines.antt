@@ -1,0 +1,38 @@
+-- The report's lines from their values, as the writer gets them: the numbers of the R line, the outcome, and eleven numbers for each A line.
+use Prim.Native.Nat.{ℕ, zero, suc, _+_, _<_}
+use mathlib.Core.Path.{_≡_}
+use mathlib.Core.List.{List, [], _∷_, _++_, map}
+use lib.IntN.{ℤ, pos}
+use lib.ListN.{length, take, getD}
+use Rattle.job.specs.Job.{Job}
+use Rattle.ledger.specs.Call.{axis}
+use Rattle.record.specs.Record.{answerOf, axisOf}
+use Rattle.record.specs.declared.Record.{Record}
+use Rattle.rotation.specs.Turn.{eight}
+use Rattle.run.specs.declared.Outcome.{Outcome}
+use Rattle.text.specs.Line.{numberLine, wordLine}
+use Rattle.report.specs.Report.{axisValues, outcomeWord, runFor, tableFor}
+
+-- n, k, e, sweeps run and m
+unfoldable pub headOf : Job → List ℤ
+headOf j = map pos (j .n ∷ length (j .dilutions) ∷ tableFor j .e ∷ runFor j .sweeps ∷ runFor j .last .m ∷ [])
+
+-- i, a_ii, r_i and the eight entries of row i of v
+unfoldable pub valuesOf : Record → ℕ → List ℤ
+valuesOf r i = pos i ∷ (axisValues (answerOf r (axis i)) ++ axisOf r i)
+
+-- those of axes 1 to 8
+unfoldable pub axesOf : Record → List (List ℤ)
+axesOf r = eight (λ i. valuesOf r (suc i))
+
+-- the first A lines, `count` of them, of n channels
+unfoldable pub axisLines : ℕ → List (List ℤ) → ℕ → List ℕ
+axisLines n axes zero = []
+axisLines n axes (suc count) = axisLines n axes count ++ numberLine 65 (take (n + 3) (getD axes count []))
+
+unfoldable pub textOf : List ℤ → Outcome → List (List ℤ) → ℕ → List ℕ
+textOf head outcome axes n = wordLine 82 head (outcomeWord outcome) ++ axisLines n axes n
+
+-- eleven numbers for each of eight lines
+pub record Wide (axes : List (List ℤ)) : Type 0 where
+  pub wide : (i : ℕ) → i < 8 → length (getD axes i []) ≡ 11

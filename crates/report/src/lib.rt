@@ -1,0 +1,75 @@
+// Job text in, report or refusal out: document 01, 'Job text and report'.
+mod lines;
+mod printed;
+mod values;
+
+use job::Job;
+pub use printed::answer;
+use run::Ran;
+ghost use Rattle.job.specs.Job.{accepted};
+ghost use Rattle.report.specs.Done.{Answers, Held, Reports, Solves, jobIn};
+
+// The report's length, or the refusal's number and the line.
+pub enum Reported {
+    Written(usize),
+    Refused(u8, usize),
+}
+
+// The table's shift, and the run on the table.
+struct Solved {
+    e: u32,
+    ran: Ran,
+}
+
+fn solve(job: Job) -> Solved
+    requires { ⌜ Held job ⌝ }
+    ensures { λ z. ⌜ Solves (jobIn job) z ⌝ }
+{
+    let n = job.n;
+    let k = job.k;
+    let dilutions = job.dilutions;
+    let counts = job.counts;
+    let counted = k * n;
+    let table = scatter::table::table_of_readings(n, &dilutions[..k], &counts[..counted]);
+    let entries = table.entries;
+    let size = n * n;
+    let ran = run::run(n, &entries[..size], job.limit, job.tolerance);
+    Solved { e: table.e, ran }
+}
+
+// The length is known before the first byte is written, so a buffer that is too short stays as it is.
+fn report_job(job: Job, buf: &mut [u8]) -> Reported
+    requires { ⌜ Held job ⌝ }
+    ensures { λ r. ⌜ Answers (accepted (jobIn job)) (now (buf .entry)) (now (buf .exit)) r ⌝ }
+{
+    let n = job.n;
+    let solved = solve(job);
+    let ran = solved.ran;
+    let outcome = ran.outcome;
+    let last = ran.last;
+    let head = [
+        n as i64,
+        job.k as i64,
+        solved.e as i64,
+        ran.sweeps as i64,
+        last.turns() as i64,
+    ];
+    let axes = values::axes_values(last);
+    let length = lines::text_length(&head, outcome, &axes, n);
+    if buf.len() < length {
+        return Reported::Refused(12, 0);
+    }
+    Reported::Written(lines::put_text(buf, &head, outcome, &axes, n))
+}
+
+pub fn report(text: &[u8], buf: &mut [u8]) -> Reported
+    ensures { λ r. ⌜ Reports (now (text .entry)) (now (buf .entry)) (now (buf .exit)) r ⌝ }
+{
+    let reading = job::read(text);
+    let outcome = reading.outcome;
+    if let job::Outcome::Refused(number, line) = outcome {
+        return Reported::Refused(number, line);
+    }
+    let job = reading.job;
+    report_job(job, buf)
+}
