@@ -1,0 +1,114 @@
+-- Laws of jobs: the ranges of a proper one, its readings, and that the job of an accepted text is held by its arrays.
+use Prim.Native.Nat.{ℕ, _*_, _≤_, _<_}
+use mathlib.Core.Path.{_≡_, refl, sym, ap, subst, _∙_}
+use mathlib.Core.Bool.{Bool, true, false, _&&_, false≢true}
+use mathlib.Core.List.{List}
+use native.Mathlib.Nat.{mul-comm, mul-le-mul}
+use native.Mathlib.Omega.{arith}
+use borrow.Author.Tests.{leb-true}
+use lib.Dec.{leb}
+use lib.ListN.{length, getD, take, length-append}
+use lib.Seq.{length-take-le}
+use Rattle.job.specs.Job.{Job, Answer, refused, accepted, jobOf}
+use Rattle.job.specs.Range.{within, allWithin, parametersInRange}
+use Rattle.job.specs.Reading.{padded, inArrays, readingOf}
+use Rattle.job.specs.Values.{Proper, inRange}
+use Rattle.job.specs.declared.Job as arrays
+use Rattle.job.specs.declared.Outcome.{Outcome}
+use Rattle.job.specs.declared.Outcome.the-variants.{Accepted, Refused}
+use Rattle.job.proofs.Accepted.{accepted-proper}
+use Rattle.job.proofs.Padding.{padded-take, padded-at}
+use Rattle.scatter.specs.Bounds.{take-bound, readings-bounded, shift-bound}
+use Rattle.scatter.specs.Ranges.{Readings}
+use Rattle.scatter.specs.Table.{tableOf}
+use Rattle.job_table.specs.Held.{Held, jobIn, sumsFor, tableFor}
+
+both : (a b : Bool) → a && b ≡ true → (a ≡ true) × (b ≡ true)
+both true b e = (refl, e)
+both false b e = absurd (false≢true e)
+
+within-true : (low high x : ℕ) → within low high x ≡ true → (low ≤ x) × (x ≤ high)
+unfolding within
+within-true low high x e =
+    let b = both (leb low x) (leb x high) e in
+    (leb-true low x (b .0), leb-true x high (b .1))
+
+all-at : (low high : ℕ) (xs : List ℕ) → allWithin low high xs ≡ true → (i : ℕ) → getD xs i 0 ≤ high
+all-at low high xs p i =
+    subst (λ l. getD l i 0 ≤ high) (padded-take 0 xs) (take-bound high (length xs) (padded 0 xs) (padded-at 0 low high xs p) i)
+
+module _ (j : Job) (p : Proper j) where
+  ranges : (parametersInRange (j .n) (j .limit) (j .tolerance) ≡ true) × (allWithin 1 100 (j .dilutions) ≡ true) × (allWithin 0 65535 (j .counts) ≡ true)
+  unfolding inRange
+  ranges =
+      let b = both _ _ (p .ranges) in
+      let d = both _ _ (b .0) in
+      (d .0, d .1, b .1)
+
+  pub channels : (2 ≤ j .n) × (j .n ≤ 8)
+  unfolding parametersInRange
+  channels = within-true 2 8 (j .n) (both _ _ (both _ _ (ranges .0) .0) .0)
+
+  pub number : (2 ≤ length (j .dilutions)) × (length (j .dilutions) ≤ 256)
+  number = within-true 2 256 (length (j .dilutions)) (p .samples)
+
+  pub readings : Readings (j .n) (j .dilutions) (j .counts)
+  readings =
+      record {
+        channels = channels .1;
+        number = number .1;
+        counted = p .counted ∙ mul-comm (length (j .dilutions)) (j .n);
+        dilution = all-at 1 100 (j .dilutions) (ranges .1);
+        count = all-at 0 65535 (j .counts) (ranges .2);
+      }
+
+  pub shift-few : tableFor j .e < 62
+  unfolding tableFor sumsFor tableOf
+  shift-few = shift-bound (sumsFor j) (readings-bounded (j .n) (j .dilutions) (j .counts) readings) (j .n)
+
+-- As many samples as the arrays say
+pub samples-held : (a : arrays.Job) → Held a → length (jobIn a .dilutions) ≡ a .k
+unfolding jobIn
+samples-held a h = length-take-le (a .k) (a .dilutions) (h .dilutions)
+
+module _ (a : arrays.Job) (h : Held a) where
+  pub channels-held : a .n ≤ 8
+  unfolding jobIn
+  channels-held = channels (jobIn a) (h .proper) .1
+
+  pub samples-few : a .k ≤ 256
+  samples-few = rw (samples-held a h) at (number (jobIn a) (h .proper) .1)
+
+  pub counts-few : a .k * a .n ≤ 2048
+  counts-few = mul-le-mul samples-few channels-held
+
+padded-size : (m : ℕ) (xs : List ℕ) → length xs ≤ length (padded m xs)
+unfolding padded
+padded-size m xs = rw length-append (omega arith)
+
+-- The arrays of a proper job hold it.
+pub held-in : (j : Job) → Proper j → jobIn (inArrays j) ≡ j
+unfolding jobIn inArrays
+held-in j p = simp (padded-take, ← p .counted)
+
+-- What a text is read as, when it is accepted: the arrays hold the text's job.
+pub record Read (text : List ℕ) (a : arrays.Job) : Type 0 where
+  pub held : Held a
+  pub is : jobOf text ≡ accepted (jobIn a)
+
+pub accepted-read : (text : List ℕ) → readingOf (jobOf text) .outcome ≡ Accepted → Read text (readingOf (jobOf text) .job)
+accepted-read text e = by (jobOf text) refl e
+  where
+    by : (a : Answer) → jobOf text ≡ a → readingOf a .outcome ≡ Accepted → Read text (readingOf a .job)
+    by (refused number line) q e = unfold readingOf in (let z : _≡_ {A = ℕ} 0 1 = cc in absurd (omega arith))
+    by (accepted j) q e =
+        let p = accepted-proper text j q in
+        unfold readingOf in record {
+          held =
+              record {
+                proper = rw (held-in j p) p;
+                dilutions = unfold inArrays in padded-size 256 (j .dilutions);
+                counts = unfold inArrays in rw (← p .counted) (padded-size 2048 (j .counts));
+              };
+          is = q ∙ ap accepted (sym (held-in j p));
+        }

@@ -1,0 +1,75 @@
+-- The text of a table as it is written, and the answers for a buffer that is long enough and for one that is too short.
+use Prim.Native.Nat.{ℕ, _+_, _*_, _≤_, _<_}
+use mathlib.Core.Path.{_≡_, refl, sym, ap, _∙_}
+use mathlib.Core.List.{List, [], _∷_, _++_, map}
+use native.Mathlib.Nat.{zero-add}
+use native.Mathlib.Omega.{arith}
+use borrow.Author.Tests.{le-leb, lt-leb}
+use lib.IntN.{ℤ, pos}
+use lib.ListN.{length, take, drop}
+use Rattle.job.specs.Job.{Job, Answer, refused, accepted, jobOf}
+use Rattle.job.specs.Reading.{readingOf}
+use Rattle.job.specs.declared.Outcome.the-variants as Outcome
+use Rattle.job.specs.declared.Job as arrays
+use Rattle.job_table.specs.Held.{Held, jobIn, sumsFor, tableFor}
+use Rattle.job_table.specs.Laws.{channels-held, samples-held}
+use Rattle.scatter.specs.Entries.{padded-at, place-below, scatter-at}
+use Rattle.scatter.specs.Table.{scatter, tableOf}
+use Rattle.scatter.specs.declared.table.Table.{Table}
+use Rattle.text.specs.Put.{Put, front-length}
+use Rattle.scatter_text.specs.Done.{numberAt, textOf, Answers, Tables}
+use Rattle.scatter_text.specs.Rows.{lines-ext}
+use Rattle.scatter_text.specs.Table.{lineT, linesS, tableText, tabledBy, tabledOf, bufferBy, bufferOf}
+use Rattle.scatter_text.specs.declared.Tabled.{Tabled}
+use Rattle.scatter_text.specs.declared.Tabled.the-variants.{Written, Refused}
+
+-- What a reading's refusal says of the answer
+pub tables-refused : (text entry : List ℕ) (number line : ℕ) → readingOf (jobOf text) .outcome ≡ Outcome.Refused number line
+    → Tables text entry entry (Refused number line)
+unfolding tabledOf bufferOf
+tables-refused text entry number line e = let p = by (jobOf text) e in record { answer = p .0; buffer = p .1 }
+  where
+    by : (a : Answer) → readingOf a .outcome ≡ Outcome.Refused number line → (Refused number line ≡ tabledBy a (length entry)) × (entry ≡ bufferBy a entry)
+    by (refused n l) e = unfold readingOf tabledBy bufferBy in (cc, refl)
+    by (accepted j) e = unfold readingOf in (let z : _≡_ {A = ℕ} 0 1 = cc in absurd (omega arith))
+
+pub tables-answered : (text entry exit : List ℕ) (a : Answer) (r : Tabled) → jobOf text ≡ a → Answers a entry exit r → Tables text entry exit r
+unfolding tabledOf bufferOf
+tables-answered text entry exit a r e h = record { answer = rw e (h .answer); buffer = rw e (h .buffer) }
+
+-- The numbers of the first line
+unfoldable pub headOf : Job → List ℤ
+headOf j = map pos (j .n ∷ length (j .dilutions) ∷ tableFor j .e ∷ [])
+
+pub text-of-table : (j : Job) → j .n ≤ 8 → textOf (headOf j) (j .n) (tableFor j .scatter) ≡ tableText j
+unfolding textOf headOf tableFor tableOf tableText lineT
+text-of-table j h =
+    ap (λ lines. lineT (j .n) (length (j .dilutions)) (tableFor j .e) ++ lines)
+    (lines-ext (j .n) (j .n) _ _
+    (λ i q a b. padded-at (scatter (j .n) (sumsFor j)) (i * j .n + q) (place-below (j .n) i q h a b) ∙ scatter-at (j .n) (sumsFor j) i q a b))
+
+-- The same with the numbers of a job in arrays
+pub text-of-arrays : (a : arrays.Job) → Held a → (t : Table) → t ≡ tableFor (jobIn a)
+    → textOf (pos (a .n) ∷ pos (a .k) ∷ pos (t .e) ∷ []) (a .n) (t .scatter) ≡ tableText (jobIn a)
+unfolding headOf jobIn
+text-of-arrays a h t e =
+    rw e
+    (ap (λ k. textOf (pos (a .n) ∷ pos k ∷ pos (tableFor (jobIn a) .e) ∷ []) (a .n) (tableFor (jobIn a) .scatter)) (sym (samples-held a h))
+    ∙ text-of-table (jobIn a) (channels-held a h))
+
+module _ (j : Job) {text : List ℕ} (e : text ≡ tableText j) where
+  pub answers-written : {entry exit : List ℕ} {r : ℕ} → Put text 0 entry exit r → Answers (accepted j) entry exit (Written r)
+  unfolding tabledBy bufferBy
+  answers-written {entry} {exit} {r} p =
+      let l : r ≡ length (tableText j) = front-length p ∙ ap length e in
+      let fits = le-leb (length (tableText j)) (length entry) (omega (arith, p .within)) in
+      record {
+        answer = rw (fits, l);
+        buffer = rw fits (p .bytes ∙ rw e);
+      }
+
+  pub answers-short : {entry : List ℕ} → length entry < length text → Answers (accepted j) entry entry (Refused 12 0)
+  unfolding tabledBy bufferBy
+  answers-short {entry} h =
+      let short = lt-leb (length (tableText j)) (length entry) (rw e at h) in
+      record { answer = rw short; buffer = rw short }

@@ -1,0 +1,81 @@
+// The text of a job's table: job text in, the lines of its exact sums or the refusal out.
+mod rows;
+
+use job::Job;
+ghost use mathlib.Core.Path.{_≡_};
+ghost use Prim.Native.Nat.{_≤_};
+ghost use lib.ListN.{length, take};
+ghost use Rattle.job.specs.Job.{accepted};
+ghost use Rattle.job_table.specs.Held.{Held, jobIn};
+ghost use Rattle.job_table.specs.Refusals.{Refusal};
+ghost use Rattle.text.specs.Put.{Put, Sized};
+ghost use Rattle.scatter_text.specs.Done.{Answers, Tables, textOf};
+ghost use Rattle.scatter_text.specs.Table.{lineX, printedOf};
+
+// The text's length, or the refusal's number and the line.
+pub enum Tabled {
+    Written(usize),
+    Refused(u8, usize),
+}
+
+fn text_length(head: &[i64; 3], n: usize, sums: &[i64; 64]) -> usize
+    requires { ⌜ n ≤ 8 ⌝ }
+    ensures { λ r. ⌜ Sized (textOf (take 3 (now (head .entry))) n (now (sums .entry))) 2048 r ⌝ }
+{
+    text::numbers_length(head, 3) + 2 + rows::rows_length(n, sums)
+}
+
+fn put_text(buf: &mut [u8], head: &[i64; 3], n: usize, sums: &[i64; 64]) -> usize
+    requires { ⌜ (n ≤ 8) × (length (textOf (take 3 (now head)) n (now sums)) ≤ length (now buf)) ⌝ }
+    ensures { λ r. ⌜ Put (textOf (take 3 (now (head .entry))) n (now (sums .entry))) 0 (now (buf .entry)) (now (buf .exit)) r ⌝ }
+{
+    let at = text::put_line(buf, b'T', head, 3);
+    rows::put_rows(buf, at, n, sums)
+}
+
+// The length is known before the first byte is written, so a buffer that is too short stays as it is.
+fn table_job(job: Job, buf: &mut [u8]) -> Tabled
+    requires { ⌜ Held job ⌝ }
+    ensures { λ r. ⌜ Answers (accepted (jobIn job)) (now (buf .entry)) (now (buf .exit)) r ⌝ }
+{
+    let n = job.n;
+    let table = job_table::table_of(job);
+    let sums = table.scatter;
+    let head = [n as i64, job.k as i64, table.e as i64];
+    let length = text_length(&head, n, &sums);
+    if buf.len() < length {
+        return Tabled::Refused(12, 0);
+    }
+    Tabled::Written(put_text(buf, &head, n, &sums))
+}
+
+pub fn table_text(text: &[u8], buf: &mut [u8]) -> Tabled
+    ensures { λ r. ⌜ Tables (now (text .entry)) (now (buf .entry)) (now (buf .exit)) r ⌝ }
+{
+    let reading = job::read(text);
+    let outcome = reading.outcome;
+    if let job::Outcome::Refused(number, line) = outcome {
+        return Tabled::Refused(number, line);
+    }
+    let job = reading.job;
+    table_job(job, buf)
+}
+
+fn put_refusal(buf: &mut [u8], number: u8, line: usize) -> usize
+    requires { ⌜ Refusal number line × (2048 ≤ length (now buf)) ⌝ }
+    ensures { λ r. ⌜ Put (lineX number line) 0 (now (buf .entry)) (now (buf .exit)) r ⌝ }
+{
+    let values = [number as i64, line as i64];
+    text::put_line(buf, b'X', &values, 2)
+}
+
+// What the program prints, at the front of the buffer.
+pub fn answer(text: &[u8], out: &mut [u8; 2048]) -> usize
+    ensures { λ r. ⌜ Put (printedOf (now (text .entry))) 0 (now (out .entry)) (now (out .exit)) r ⌝ }
+{
+    let tabled = table_text(text, out);
+    match tabled {
+        Tabled::Written(length) => length,
+        Tabled::Refused(number, line) => put_refusal(out, number, line),
+    }
+}
