@@ -1,0 +1,7 @@
+mod Splitting
+mod Digits
+mod Lines
+mod Playing
+mod Printing
+mod Stepping
+pub mod Whole

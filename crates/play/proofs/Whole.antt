@@ -1,0 +1,116 @@
+-- Steps from the start of a text on print what the text prints.
+use Prim.Native.Nat.{ℕ, zero, suc, _+_, _-_, _≤_, _<_}
+use mathlib.Core.Path.{_≡_, refl, sym, ap, _∙_}
+use mathlib.Core.Bool.{Bool, true, false, cond, false≢true}
+use mathlib.Core.List.{List, [], _∷_, _++_, append-nil}
+use mathlib.Core.Option.{Option, none, some}
+use native.Mathlib.Omega.{arith}
+use borrow.Author.Tests.{ltb-true, ltb-false}
+use lib.Dec.{eqb, ltb}
+use lib.ListN.{length, drop}
+use lib.Seq.{take-append-seam}
+use Rattle.job.specs.Text.{split}
+use Rattle.ledger.specs.Call.{Call}
+use Rattle.record.specs.Record.{fresh}
+use Rattle.record.specs.declared.Record.{Record}
+use Rattle.play.specs.Answers.{linePrinted}
+use Rattle.play.specs.Calls.{callOf}
+use Rattle.play.specs.Parts.{front}
+use Rattle.play.specs.Text.{answered, looped, onward, played, playedFrom, printedBy, stepped, stopped, unknownLine}
+use Rattle.play.specs.declared.Stepped.{Stepped}
+use Rattle.play.proofs.Splitting.{partsAfter, parts-end, parts-more, split-front}
+
+module _ (text : List ℕ) (at : ℕ) (line part : List ℕ) (parts : List (List ℕ)) (q : split 10 (drop at text) ≡ line ∷ part ∷ parts) where
+  both : front 10 (drop at text) ∷ partsAfter 10 text (at + length (front 10 (drop at text))) ≡ line ∷ part ∷ parts
+  both = sym (split-front 10 text at) ∙ q
+
+  after : partsAfter 10 text (at + length line) ≡ part ∷ parts
+  after =
+      let f : front 10 (drop at text) ≡ line = cc both in
+      let p : partsAfter 10 text (at + length (front 10 (drop at text))) ≡ part ∷ parts = cc both in
+      rw f at p
+
+  -- A line that another part follows ends before the text does.
+  within : at + length line < length text
+  within = by (ltb (at + length line) (length text)) refl
+    where
+      by : (t : Bool) → ltb (at + length line) (length text) ≡ t → at + length line < length text
+      by true e = ltb-true (at + length line) (length text) e
+      by false e =
+          let n = parts-end 10 text (at + length line) (ltb-false (at + length line) (length text) e) in
+          absurd (let z : _≡_ {A = ℕ} 0 1 = cc (after, n) in omega arith)
+
+  -- The parts after it start after its line feed.
+  rest : split 10 (drop (at + length line + 1) text) ≡ part ∷ parts
+  rest = sym (parts-more 10 text (at + length line) within) ∙ after
+
+module _ (text : List ℕ) (r : Record) (at k : ℕ) where
+  -- What a step prints, and what follows it, where the parts from its place on are these.
+  abbrev Goes : List (List ℕ) → Type 0
+  Goes parts =
+      let z = stepped r k at parts in
+      playedFrom r k parts ≡ printedBy z ++ cond (z .more) (playedFrom (z .next) (k + 1) (split 10 (drop (z .at) text))) []
+
+  alone : (u : List ℕ) → u ≡ printedBy (stopped r at u) ++ []
+  unfolding printedBy stopped linePrinted
+  alone u = sym (append-nil _ ∙ take-append-seam u _)
+
+  -- the last part, by whether it is empty: t
+  last : (t : Bool) → cond t [] (unknownLine k) ≡ (let z = cond t (stopped r at []) (stopped r at (unknownLine k)) in printedBy z ++ cond (z .more) (playedFrom (z .next) (k + 1) (split 10 (drop (z .at) text))) [])
+  unfolding stopped
+  last true = alone []
+  last false = alone (unknownLine k)
+
+  -- a line, by its call: o
+  called : (line part : List ℕ) (parts : List (List ℕ)) → split 10 (drop at text) ≡ line ∷ part ∷ parts → (o : Option Call)
+      → answered r k o (λ next. playedFrom next (k + 1) (part ∷ parts))
+      ≡ (let z = onward r k at (length line) o in printedBy z ++ cond (z .more) (playedFrom (z .next) (k + 1) (split 10 (drop (z .at) text))) [])
+  unfolding answered onward stopped printedBy linePrinted
+  called line part parts q none = alone (unknownLine k)
+  called line part parts q (some call) = rw (rest text at line part parts q, take-append-seam)
+
+  goes : (parts : List (List ℕ)) → split 10 (drop at text) ≡ parts → Goes parts
+  unfolding playedFrom stepped stopped
+  goes [] q = alone []
+  goes (part ∷ []) q = last (eqb (length part) 0)
+  goes (line ∷ part ∷ parts) q = called line part parts q (callOf line)
+
+  -- Where there is more, it starts later, and within the text.
+  abbrev Moves : Stepped → Type 0
+  Moves z = z .more ≡ true → (at < z .at) × (z .at ≤ length text)
+
+  last-moves : (t : Bool) → Moves (cond t (stopped r at []) (stopped r at (unknownLine k)))
+  unfolding stopped
+  last-moves true e = absurd (false≢true e)
+  last-moves false e = absurd (false≢true e)
+
+  called-moves : (line part : List ℕ) (parts : List (List ℕ)) → split 10 (drop at text) ≡ line ∷ part ∷ parts → (o : Option Call) → Moves (onward r k at (length line) o)
+  unfolding onward stopped
+  called-moves line part parts q none e = absurd (false≢true e)
+  called-moves line part parts q (some call) e = (omega arith, omega (arith, within text at line part parts q))
+
+  moves : (parts : List (List ℕ)) → split 10 (drop at text) ≡ parts → Moves (stepped r k at parts)
+  unfolding stepped stopped
+  moves [] q e = absurd (false≢true e)
+  moves (part ∷ []) q e = last-moves (eqb (length part) 0) e
+  moves (line ∷ part ∷ parts) q e = called-moves line part parts q (callOf line) e
+
+same-if : (t : Bool) (x y : List ℕ) → (t ≡ true → x ≡ y) → cond t x [] ≡ cond t y []
+same-if true x y f = f refl
+same-if false x y f = refl
+
+-- The loop prints what the lines from its place on print.
+loop : (turns : ℕ) (text : List ℕ) (r : Record) (at k : ℕ) → at ≤ length text → length text - at < turns → looped turns r text at k ≡ playedFrom r k (split 10 (drop at text))
+unfolding looped
+loop zero text r at k h g = absurd (omega arith)
+loop (suc turns) text r at k h g =
+    let z = stepped r k at (split 10 (drop at text)) in
+    ap (λ (l : List ℕ). printedBy z ++ l)
+    (same-if (z .more) _ _
+    (λ e. let m = moves text r at k (split 10 (drop at text)) refl e in loop turns text (z .next) (z .at) (k + 1) (m .1) (omega arith)))
+    ∙ sym (goes text r at k (split 10 (drop at text)) refl)
+
+-- The program's loop, from a fresh record at the text's start, prints what the text prints.
+pub prints : (text : List ℕ) → looped (length text + 1) fresh text 0 1 ≡ played text
+unfolding played
+prints text = loop (length text + 1) text fresh 0 1 (omega arith) (omega arith)
