@@ -3,6 +3,7 @@
 
 mod random;
 mod solving;
+mod tabulating;
 
 use std::process::ExitCode;
 
@@ -15,7 +16,9 @@ fn main() -> ExitCode {
         .nth(1)
         .map_or(SEED, |word| word.parse().expect("a seed is a number"));
     let mut failed = false;
-    for (name, case) in [("solve", solving::case as fn(u64) -> Result<&'static str, String>)] {
+    let kinds: [(&str, fn(u64) -> Result<String, String>); 2] =
+        [("solve", solving::case), ("table", tabulating::case)];
+    for (name, case) in kinds {
         let mut counts = std::collections::BTreeMap::new();
         for number in 0..CASES {
             match case(seed.wrapping_mul(1 << 32) + number) {

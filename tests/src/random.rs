@@ -31,6 +31,12 @@ impl Random {
         from[self.between(0, from.len() as i64 - 1) as usize]
     }
 
+    /// A place of a list that is not empty.
+    pub fn place<'a, T>(&mut self, from: &'a mut [T]) -> &'a mut T {
+        let place = self.between(0, from.len() as i64 - 1) as usize;
+        &mut from[place]
+    }
+
     /// A number from 0 to most, each size in bits about as likely as another.
     pub fn sized(&mut self, most: i64) -> i64 {
         let bits = self.between(0, i64::from(64 - most.leading_zeros()));

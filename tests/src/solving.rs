@@ -9,7 +9,7 @@ const TOLERANCE_LIMIT: u64 = 1_048_576;
 const FILL: i64 = -7_777_777;
 
 /// Compares one call; the answer is what kind it came to.
-pub fn case(seed: u64) -> Result<&'static str, String> {
+pub fn case(seed: u64) -> Result<String, String> {
     let random = &mut Random::new(seed);
     let n = random.between(2, 8) as usize;
     let mut numbers = matrix(random, n);
@@ -50,14 +50,8 @@ pub fn case(seed: u64) -> Result<&'static str, String> {
         ));
     }
     Ok(match got {
-        Ok(_) => ["settled", "still", "spent"][out[0] as usize],
-        Err(Refused(2)) => "refused 2",
-        Err(Refused(5)) => "refused 5",
-        Err(Refused(6)) => "refused 6",
-        Err(Refused(7)) => "refused 7",
-        Err(Refused(8)) => "refused 8",
-        Err(Refused(12)) => "refused 12",
-        Err(_) => "refused by another number",
+        Ok(_) => ["settled", "still", "spent"][out[0] as usize].to_string(),
+        Err(Refused(number)) => format!("refused {number}"),
     })
 }
 

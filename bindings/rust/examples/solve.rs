@@ -1,20 +1,27 @@
-//! The axes of a matrix of two channels. At the repository's root:
+//! Three samples of two channels: their table, and its axes. At the repository's root:
 //! `rt staticlib field_axes && cargo run --release --offline --manifest-path bindings/rust/Cargo.toml --example solve`
 
+use field_axes::{solve, table, Refused};
+
 fn main() {
-    match field_axes::solve(2, &[50, 25, 25, 50], 16, 0) {
-        Ok(solution) => {
-            println!(
-                "{:?} after {} sweeps and {} turns",
-                solution.outcome, solution.sweeps, solution.turns
-            );
-            for (number, axis) in (1..).zip(&solution.axes) {
-                println!(
-                    "axis {number}: {} within {}, in 1/1024; row {:?}, in 1/2^30",
-                    axis.entry, axis.error, axis.row
-                );
-            }
-        }
-        Err(refused) => println!("refused {}", refused.0),
+    if let Err(Refused(number)) = show(2, &[1, 5, 1], &[0, 0, 1, 0, 5, 5]) {
+        println!("refused {number}");
     }
+}
+
+fn show(n: usize, dilutions: &[u64], counts: &[u64]) -> Result<(), Refused> {
+    let table = table(n, dilutions, counts)?;
+    println!("sums {:?}, shift {}", table.sums, table.e);
+    let solution = solve(n, &table.entries, 1, 0)?;
+    println!(
+        "{:?} after {} sweeps and {} turns",
+        solution.outcome, solution.sweeps, solution.turns
+    );
+    for (number, axis) in (1..).zip(&solution.axes) {
+        println!(
+            "axis {number}: {} within {}, in 1/1024; row {:?}, in 1/2^30",
+            axis.entry, axis.error, axis.row
+        );
+    }
+    Ok(())
 }

@@ -15,6 +15,16 @@ mod raw {
             out: *mut i64,
             out_length: usize,
         ) -> i64;
+
+        pub fn field_axes_table(
+            n: usize,
+            dilutions: *const u64,
+            dilutions_length: usize,
+            counts: *const u64,
+            counts_length: usize,
+            out: *mut i64,
+            out_length: usize,
+        ) -> i64;
     }
 }
 
@@ -89,6 +99,53 @@ pub fn solve_into(
             numbers.len(),
             limit,
             tolerance,
+            out.as_mut_ptr(),
+            out.len(),
+        )
+    })
+}
+
+/// The table of some samples: the exact sums S and the entries rnd(S/2^e), both n×n, row after row.
+#[derive(Clone, Debug, PartialEq, Eq)]
+pub struct Table {
+    pub e: u32,
+    pub sums: Vec<i64>,
+    pub entries: Vec<i64>,
+}
+
+/// Of eight channels: the most numbers that a table gives.
+pub const MOST_TABLE_NUMBERS: usize = 1 + 2 * 64;
+
+/// The table of samples: a dilution each, and n counts each, sample after sample. Refused 2 where n is outside 2 to 8, a dilution
+/// outside 1 to 100 or a count above 65,535, then 6 where the counts are not n to a sample, then 3 for fewer than 2 or more than 256
+/// samples.
+pub fn table(n: usize, dilutions: &[u64], counts: &[u64]) -> Result<Table, Refused> {
+    let mut out = [0; MOST_TABLE_NUMBERS];
+    let count = table_into(n, dilutions, counts, &mut out)?;
+    let (sums, entries) = out[1..count].split_at(n * n);
+    Ok(Table {
+        e: out[0] as u32,
+        sums: sums.to_vec(),
+        entries: entries.to_vec(),
+    })
+}
+
+/// The same as numbers, at the front of `out`: the shift e, the sums, the entries. The answer is how many they are. Refused 12, last,
+/// where `out` is too short; at a refusal it stays as it was.
+pub fn table_into(
+    n: usize,
+    dilutions: &[u64],
+    counts: &[u64],
+    out: &mut [i64],
+) -> Result<usize, Refused> {
+    // Safe: the slices are whole, and borrowed for the call; the function has no other requirement.
+    answer(unsafe {
+        raw::field_axes_table(
+            n,
+            dilutions.as_ptr(),
+            dilutions.len(),
+            counts.as_ptr(),
+            counts.len(),
             out.as_mut_ptr(),
             out.len(),
         )

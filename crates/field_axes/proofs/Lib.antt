@@ -1,3 +1,5 @@
 mod Told
 mod Following
 mod Answered
+mod Within
+mod Refusals

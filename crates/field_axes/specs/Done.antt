@@ -6,7 +6,12 @@ use lib.IntN.{ℤ}
 use lib.ListN.{length}
 use Rattle.field_axes.specs.Put.{answered, lent}
 use Rattle.field_axes.specs.Solution.{solutionOf, solveRefusal}
+use Rattle.field_axes.specs.Table.{tableNumbersOf, tableRefusal}
 
 pub record Solves (n : ℕ) (numbers : List ℤ) (limit t : ℕ) (entry exit : List ℤ) (r : ℤ) : Type 0 where
   pub answer : r ≡ answered (solveRefusal n numbers limit t (length entry)) (solutionOf n numbers limit t)
   pub buffer : exit ≡ lent (solveRefusal n numbers limit t (length entry)) (solutionOf n numbers limit t) entry
+
+pub record Tabulates (n : ℕ) (dilutions counts : List ℕ) (entry exit : List ℤ) (r : ℤ) : Type 0 where
+  pub answer : r ≡ answered (tableRefusal n dilutions counts (length entry)) (tableNumbersOf n dilutions counts)
+  pub buffer : exit ≡ lent (tableRefusal n dilutions counts (length entry)) (tableNumbersOf n dilutions counts) entry

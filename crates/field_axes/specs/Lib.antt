@@ -1,4 +1,6 @@
 pub mod Put
 pub mod Solution
 pub mod Solvable
+pub mod Table
+pub mod Readable
 pub mod Done

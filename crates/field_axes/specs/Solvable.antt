@@ -36,7 +36,7 @@ pub record Solvable (n : ℕ) (numbers : List ℤ) (limit t size : ℕ) : Type 0
   pub room : 3 + n * (n + 2) ≤ size
 
 -- a test that was passed
-passed : (test : Bool) (number later : ℕ) → unless test number later ≡ 0 → 0 < number → T test × (later ≡ 0)
+pub passed : (test : Bool) (number later : ℕ) → unless test number later ≡ 0 → 0 < number → T test × (later ≡ 0)
 passed true number later e l = (tt, e)
 passed false number later e l = absurd (omega arith)
 

@@ -1,8 +1,9 @@
 // The functions of the static library, for Rust and C. bindings/ declares them; nothing checks those declarations against these.
 mod numbers;
 mod solve;
+mod table;
 
-ghost use Rattle.field_axes.specs.Done.{Solves};
+ghost use Rattle.field_axes.specs.Done.{Solves, Tabulates};
 
 // A run on n×n numbers, row after row, and its axes. Into `out`: the outcome (0 settled, 1 still, 2 spent), the sweeps run, m, then for
 // each axis a_ii, r_i and the n numbers of its row. The answer is how many numbers these are, or the refusal's number negated.
@@ -21,4 +22,22 @@ pub extern "C" fn field_axes_solve(
         return numbers::refused(number);
     }
     solve::put_solution(n, numbers, limit, tolerance, out) as i64
+}
+
+// The table of samples, a dilution each and n counts each, sample after sample. Into `out`: the shift e, the n×n exact S_ij, and the n×n
+// entries, row after row. The answer is how many numbers these are, or the refusal's number negated.
+#[no_mangle]
+pub extern "C" fn field_axes_table(
+    n: usize,
+    dilutions: &[u64],
+    counts: &[u64],
+    out: &mut [i64],
+) -> i64
+    ensures { λ r. ⌜ Tabulates n (now (dilutions .entry)) (now (counts .entry)) (now (out .entry)) (now (out .exit)) r ⌝ }
+{
+    let number = table::table_refusal(n, dilutions, counts, out.len());
+    if number != 0 {
+        return numbers::refused(number);
+    }
+    table::put_table(n, dilutions, counts, out) as i64
 }
