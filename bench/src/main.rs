@@ -41,74 +41,76 @@ fn matrices(n: usize) -> Vec<Vec<i64>> {
         .collect()
 }
 
-/// The least time of each of two pieces of work, run in turn, in nanoseconds: what else the machine does only adds to a time.
-fn least(mut first: impl FnMut(), mut second: impl FnMut()) -> (f64, f64) {
-    let mut times = [f64::INFINITY; 2];
+/// The least time of each piece of work, run in turn, in nanoseconds: what else the machine does only adds to a time.
+fn least<const PIECES: usize>(mut pieces: [&mut dyn FnMut(); PIECES]) -> [f64; PIECES] {
+    let mut times = [f64::INFINITY; PIECES];
     for _ in 0..ROUNDS {
-        for (place, work) in [&mut first as &mut dyn FnMut(), &mut second]
-            .into_iter()
-            .enumerate()
-        {
+        for (time, work) in times.iter_mut().zip(&mut pieces) {
             let start = Instant::now();
             work();
-            times[place] = (start.elapsed().as_secs_f64() * 1e9).min(times[place]);
+            *time = (start.elapsed().as_secs_f64() * 1e9).min(*time);
         }
     }
-    (times[0], times[1])
+    times
 }
 
-/// The times of all runs with a limit, proved and plain, and how many sweeps these are. Many matrices one after the other: on one
-/// alone, again and again, a processor learns the branches by heart.
-fn runs(n: usize, limit: u64) -> (f64, f64, f64) {
+type Solve = fn(usize, &[i64], u64, u64, &mut [i64]) -> usize;
+
+fn proved(n: usize, numbers: &[i64], limit: u64, tolerance: u64, out: &mut [i64]) -> usize {
+    field_axes::solve_into(n, numbers, limit, tolerance, out).expect("a good matrix")
+}
+
+/// The times of all runs with a limit by each solver, and how many sweeps these are. Many matrices one after the other: on one alone,
+/// again and again, a processor learns the branches by heart.
+fn runs(n: usize, limit: u64) -> ([f64; 3], f64) {
+    const SOLVERS: [Solve; 3] = [proved, plain::solve::<false>, plain::solve::<true>];
     let inputs = matrices(n);
-    let mut out = [0; field_axes::MOST_NUMBERS];
-    let mut other = [0; field_axes::MOST_NUMBERS];
     let mut sweeps = 0;
     for numbers in &inputs {
-        let count = field_axes::solve_into(n, numbers, limit, 0, &mut out).expect("a good matrix");
-        assert_eq!(plain::solve(n, numbers, limit, 0, &mut other), count);
-        assert_eq!(out[..count], other[..count]);
-        sweeps += out[1];
+        let outs = SOLVERS.map(|solve| {
+            let mut out = [0; field_axes::MOST_NUMBERS];
+            solve(n, numbers, limit, 0, &mut out);
+            out
+        });
+        assert!(outs.iter().all(|out| *out == outs[0]));
+        sweeps += outs[0][1];
     }
-    let (proved, plain) = least(
-        || {
-            for numbers in &inputs {
-                let _ = black_box(field_axes::solve_into(
-                    n,
-                    black_box(numbers),
-                    limit,
-                    0,
-                    &mut out,
-                ));
+    let all = |solve: Solve| {
+        let inputs = &inputs;
+        move || {
+            let mut out = [0; field_axes::MOST_NUMBERS];
+            for numbers in inputs {
+                black_box(solve(n, black_box(numbers), limit, 0, &mut out));
             }
-        },
-        || {
-            for numbers in &inputs {
-                black_box(plain::solve(n, black_box(numbers), limit, 0, &mut other));
-            }
-        },
-    );
-    (proved, plain, sweeps as f64)
+        }
+    };
+    let [mut first, mut second, mut third] = SOLVERS.map(all);
+    (least([&mut first, &mut second, &mut third]), sweeps as f64)
 }
 
 fn solver(channels: &[usize]) {
-    println!("solver, ns per sweep: whole runs with limit 16; then a further sweep, runs with limit 3 less runs with limit 1");
-    println!("n  proved   plain  ratio   further: proved   plain  ratio");
+    println!("solver, ns a sweep; plain rounds by the sign, plain* without a branch");
+    println!(
+        "whole runs with limit 16; then a further sweep: runs with limit 3 less runs with limit 1"
+    );
+    println!("n  proved   plain  ratio  plain*  ratio    proved   plain  ratio  plain*  ratio");
     for &n in channels {
-        let (proved, plain, sweeps) = runs(n, 16);
-        let one = runs(n, 1);
-        let three = runs(n, 3);
-        let more = three.2 - one.2;
-        let (further, plain_further) = ((three.0 - one.0) / more, (three.1 - one.1) / more);
-        println!(
-            "{n} {:7.0} {:7.0} {:6.2} {:17.0} {:7.0} {:6.2}",
-            proved / sweeps,
-            plain / sweeps,
-            proved / plain,
-            further,
-            plain_further,
-            further / plain_further
-        );
+        let (whole, sweeps) = runs(n, 16);
+        let (one, first) = runs(n, 1);
+        let (three, third) = runs(n, 3);
+        let whole = whole.map(|time| time / sweeps);
+        let further = [0, 1, 2].map(|place| (three[place] - one[place]) / (third - first));
+        let columns = |times: [f64; 3]| {
+            format!(
+                "{:7.0} {:7.0} {:6.2} {:7.0} {:6.2}",
+                times[0],
+                times[1],
+                times[0] / times[1],
+                times[2],
+                times[0] / times[2]
+            )
+        };
+        println!("{n} {}   {}", columns(whole), columns(further));
     }
 }
 
@@ -123,8 +125,8 @@ fn tables(n: usize, k: usize) -> (f64, f64) {
     let count = field_axes::table_into(n, &dilutions, &counts, &mut out).expect("good samples");
     assert_eq!(plain::table(n, &dilutions, &counts, &mut other), count);
     assert_eq!(out[..count], other[..count]);
-    let (proved, plain) = least(
-        || {
+    let [proved, plain] = least([
+        &mut || {
             for _ in 0..AGAIN {
                 let _ = black_box(field_axes::table_into(
                     n,
@@ -134,12 +136,12 @@ fn tables(n: usize, k: usize) -> (f64, f64) {
                 ));
             }
         },
-        || {
+        &mut || {
             for _ in 0..AGAIN {
                 black_box(plain::table(n, black_box(&dilutions), &counts, &mut other));
             }
         },
-    );
+    ]);
     (proved / AGAIN as f64, plain / AGAIN as f64)
 }
 

@@ -7,8 +7,11 @@ const THRESHOLDS: [i64; 14] = [
     12289, 6145, 3073,
 ];
 
-fn rnd(u: i64, w: i64) -> i64 {
-    if u < 0 {
+/// Rounding by the sign of u, as one writes it; or without a branch, as the proved code has it.
+fn rnd<const NO_BRANCH: bool>(u: i64, w: i64) -> i64 {
+    if NO_BRANCH {
+        (u + (2 * (u >> 63) + 1) * (w / 2)) / w
+    } else if u < 0 {
         -((-u + w / 2) / w)
     } else {
         (u + w / 2) / w
@@ -35,30 +38,38 @@ fn choose(a_pp: i64, a_qq: i64, a_pq: i64) -> Option<(u32, i64)> {
     Some((l, f))
 }
 
-fn turn(a: &mut Rows, v: &mut Rows, n: usize, p: usize, q: usize, l: u32, f: i64) {
+fn turn<const NO_BRANCH: bool>(
+    a: &mut Rows,
+    v: &mut Rows,
+    n: usize,
+    p: usize,
+    q: usize,
+    l: u32,
+    f: i64,
+) {
     let power = 1i64 << (2 * l);
     let (w, c, s) = (power + 1, power - 1, f << (l + 1));
     for i in 0..n {
         if i != p && i != q {
             let (x, y) = (a[p][i], a[q][i]);
-            a[p][i] = rnd(c * x + s * y, w);
-            a[q][i] = rnd(c * y - s * x, w);
+            a[p][i] = rnd::<NO_BRANCH>(c * x + s * y, w);
+            a[q][i] = rnd::<NO_BRANCH>(c * y - s * x, w);
             a[i][p] = a[p][i];
             a[i][q] = a[q][i];
         }
     }
-    let h_pp = rnd(c * a[p][p] + s * a[p][q], w);
-    let h_pq = rnd(c * a[p][q] + s * a[q][q], w);
-    let h_qp = rnd(c * a[p][q] - s * a[p][p], w);
-    let h_qq = rnd(c * a[q][q] - s * a[p][q], w);
-    a[p][p] = rnd(c * h_pp + s * h_pq, w);
-    a[p][q] = rnd(c * h_pq - s * h_pp, w);
+    let h_pp = rnd::<NO_BRANCH>(c * a[p][p] + s * a[p][q], w);
+    let h_pq = rnd::<NO_BRANCH>(c * a[p][q] + s * a[q][q], w);
+    let h_qp = rnd::<NO_BRANCH>(c * a[p][q] - s * a[p][p], w);
+    let h_qq = rnd::<NO_BRANCH>(c * a[q][q] - s * a[p][q], w);
+    a[p][p] = rnd::<NO_BRANCH>(c * h_pp + s * h_pq, w);
+    a[p][q] = rnd::<NO_BRANCH>(c * h_pq - s * h_pp, w);
     a[q][p] = a[p][q];
-    a[q][q] = rnd(c * h_qq - s * h_qp, w);
+    a[q][q] = rnd::<NO_BRANCH>(c * h_qq - s * h_qp, w);
     for j in 0..n {
         let (x, y) = (v[p][j], v[q][j]);
-        v[p][j] = rnd(c * x + s * y, w);
-        v[q][j] = rnd(c * y - s * x, w);
+        v[p][j] = rnd::<NO_BRANCH>(c * x + s * y, w);
+        v[q][j] = rnd::<NO_BRANCH>(c * y - s * x, w);
     }
 }
 
@@ -68,7 +79,13 @@ fn is_settled(a: &Rows, n: usize, tolerance: i64) -> bool {
 
 /// What `field_axes_solve` writes, for arguments that nothing refuses.
 #[inline(never)]
-pub fn solve(n: usize, numbers: &[i64], limit: u64, tolerance: u64, out: &mut [i64]) -> usize {
+pub fn solve<const NO_BRANCH: bool>(
+    n: usize,
+    numbers: &[i64],
+    limit: u64,
+    tolerance: u64,
+    out: &mut [i64],
+) -> usize {
     let mut a = [[0; 8]; 8];
     let mut v = [[0; 8]; 8];
     for i in 0..n {
@@ -92,7 +109,7 @@ pub fn solve(n: usize, numbers: &[i64], limit: u64, tolerance: u64, out: &mut [i
         for p in 0..n {
             for q in p + 1..n {
                 if let Some((l, f)) = choose(a[p][p], a[q][q], a[p][q]) {
-                    turn(&mut a, &mut v, n, p, q, l, f);
+                    turn::<NO_BRANCH>(&mut a, &mut v, n, p, q, l, f);
                     m += 1;
                 }
             }
@@ -148,7 +165,7 @@ pub fn table(n: usize, dilutions: &[u64], counts: &[u64], out: &mut [i64]) -> us
     }
     head[0] = e;
     for (entry, &sum) in entries.iter_mut().zip(sums.iter()) {
-        *entry = rnd(sum, 1 << e);
+        *entry = rnd::<false>(sum, 1 << e);
     }
     1 + 2 * n * n
 }
