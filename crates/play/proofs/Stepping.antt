@@ -14,7 +14,8 @@ use Rattle.play.specs.Answers.{answerLine, linePrinted, shown}
 use Rattle.play.specs.Calls.{callOf}
 use Rattle.play.specs.Parts.{front}
 use Rattle.play.specs.Played.{playedBy}
-use Rattle.play.specs.Text.{onward, stepped, stopped, unknownLine}
+use Rattle.play.specs.Steps.{onward, stepped, stopped}
+use Rattle.play.specs.Text.{unknownLine}
 use Rattle.play.specs.declared.answer.Printed.{Printed}
 use Rattle.play.specs.declared.played.Played.{Played}
 use Rattle.play.proofs.Splitting.{partsAfter, parts-end, parts-more, split-front, take-front}

@@ -16,7 +16,8 @@ use Rattle.record.specs.declared.Record.{Record}
 use Rattle.play.specs.Answers.{linePrinted}
 use Rattle.play.specs.Calls.{callOf}
 use Rattle.play.specs.Parts.{front}
-use Rattle.play.specs.Text.{answered, looped, onward, played, playedFrom, printedBy, stepped, stopped, unknownLine}
+use Rattle.play.specs.Steps.{looped, onward, printedBy, stepped, stopped}
+use Rattle.play.specs.Text.{answered, played, playedFrom, unknownLine}
 use Rattle.play.specs.declared.Stepped.{Stepped}
 use Rattle.play.proofs.Splitting.{partsAfter, parts-end, parts-more, split-front}
 

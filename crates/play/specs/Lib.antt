@@ -5,3 +5,5 @@ pub mod Parts
 pub mod Played
 pub mod Answers
 pub mod Text
+pub mod Steps
+pub mod Examples

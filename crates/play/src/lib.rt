@@ -14,7 +14,8 @@ use line::line_of;
 use played::play_line;
 use record::Record;
 ghost use Rattle.play.specs.Answers.{Prints};
-ghost use Rattle.play.specs.Text.{Steps, unknownLine};
+ghost use Rattle.play.specs.Steps.{Steps};
+ghost use Rattle.play.specs.Text.{unknownLine};
 ghost use Rattle.record.specs.Kept.{Kept};
 
 // What the line at a place of a text does: whether the next line is to be played, the place where that one starts, the record, and what

@@ -1,12 +1,12 @@
 -- The sizes of what a report prints: the ranges of a proper job, and the error of an axis.
-use Prim.Native.Nat.{ℕ, zero, suc, _+_, _-_, _*_, _/_, _<_, _≤_, _^_}
-use mathlib.Core.Path.{_≡_, refl, sym, ap, _∙_}
+use Prim.Native.Nat.{ℕ, zero, suc, _-_, _*_, _<_, _≤_, _^_}
+use mathlib.Core.Path.{_≡_, _∙_}
 use mathlib.Core.Bool.{Bool, true, false, cond, _&&_}
 use mathlib.Core.List.{List, [], _∷_}
 use native.Mathlib.Nat.{mul-comm, le-trans}
 use native.Mathlib.Omega.{arith}
 use lib.Dec.{eqb}
-use lib.IntN.{ℤ, pos, natAbs}
+use lib.IntN.{ℤ, natAbs}
 use lib.ListN.{length, getD, take}
 use Rattle.integer.specs.Sum.{sumℕ, sumℕ-≤, sumℕ-const}
 use Rattle.job.proofs.Digits.{both, is-within}
@@ -20,7 +20,6 @@ use Rattle.record.proofs.Outcome.{kept-modest}
 use Rattle.record.specs.Flat.{kept}
 use Rattle.record.specs.Kept.{Kept}
 use Rattle.record.specs.Record.{answerOf, valueOf}
-use Rattle.record.specs.declared.Answer.{Answer}
 use Rattle.record.specs.declared.Answer.the-variants.{Axis, Refused}
 use Rattle.record.specs.declared.Record.{Record}
 use Rattle.rotation.specs.Size.{widest}

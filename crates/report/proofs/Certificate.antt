@@ -1,17 +1,16 @@
 -- The certificate is proved: a run is a list of calls, and demand 3 speaks of every list of calls.
-use Prim.Native.Nat.{ℕ, zero, suc, _*_, _≤_}
-use mathlib.Core.Path.{_≡_, refl, sym, ap, _∙_}
+use Prim.Native.Nat.{ℕ, zero, suc}
+use mathlib.Core.Path.{_≡_, refl, _∙_}
 use mathlib.Core.Bool.{Bool, true, false, cond}
-use mathlib.Core.List.{List, [], _∷_, _++_}
+use mathlib.Core.List.{List}
 use lib.Dec.{eqb}
-use lib.IntN.{ℤ, pos}
-use lib.ListN.{take}
+use lib.IntN.{ℤ}
 use borrow.Author.Tests.{eq-eqb}
 use Rattle.integer.specs.Matrix.{Matrix}
 use Rattle.job.proofs.Accepted.{accepted-proper}
-use Rattle.job.specs.Job.{Job, accepted, jobOf}
+use Rattle.job.specs.Job.{Job, accepted}
 use Rattle.job.specs.Values.{Proper}
-use Rattle.ledger.specs.Call.{Call, load, loosePair, sweep}
+use Rattle.ledger.specs.Call.{load, loosePair, sweep}
 use Rattle.ledger.specs.Invariant.{turnPairs-continues}
 use Rattle.ledger.specs.Ledger as book
 use Rattle.ledger.specs.Ledger.{Ledger, State, empty, loaded, ledger, ledgerFrom, ledgerStep, sizeOf, turnsOf}
@@ -20,10 +19,7 @@ use Rattle.ledger.specs.Refusal.{matrixOf, refusalOf}
 use Rattle.record.specs.Demand3 as three
 use Rattle.record.specs.Demand3.{AxisNear, Certifies}
 use Rattle.record.specs.Demand3proof.{demand-3}
-use Rattle.record.specs.Record.{after}
-use Rattle.record.specs.declared.Record.{Record}
 use Rattle.run.specs.Calls.{Allowed, AsCalls, callsOf, rounds, run-calls}
-use Rattle.run.specs.Run.{runOf}
 use Rattle.run.specs.Table.{table-accepted}
 use Rattle.scatter.specs.Samples.{samples, sumsOf}
 use Rattle.report.specs.Certified.{AxisCertified, Certified, JobCertified, loadedFor}

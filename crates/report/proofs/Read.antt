@@ -1,7 +1,7 @@
 -- What a reading of a text tells of the job that the text holds.
-use Prim.Native.Nat.{ℕ, _*_, _-_, _≤_}
+use Prim.Native.Nat.{ℕ, _-_, _≤_}
 use mathlib.Core.Path.{_≡_, refl, sym, ap, _∙_}
-use mathlib.Core.List.{List, [], _∷_, _++_}
+use mathlib.Core.List.{List}
 use native.Mathlib.Nat.{mul-le-mul}
 use native.Mathlib.Omega.{arith}
 use lib.ListN.{length, take, replicate, length-append, length-replicate}
@@ -10,7 +10,6 @@ use Rattle.job.proofs.Padding.{padded-take}
 use Rattle.job.specs.Job.{Job, Answer, refused, accepted, jobOf}
 use Rattle.job.specs.Reading.{inArrays, padded, readingOf}
 use Rattle.job.specs.Values.{Proper}
-use Rattle.job.specs.declared.Job as arrays
 use Rattle.job.specs.declared.Outcome.the-variants.{Accepted, Refused}
 use Rattle.job.specs.declared.Reading.{Reading}
 use Rattle.report.specs.Done.{Answers, Held, Reports, jobIn}

@@ -1,6 +1,6 @@
 -- The text that is written is the report: the R line's numbers and the A lines' are the job's.
 use Prim.Native.Nat.{ℕ, zero, suc, _+_, _-_, _<_, _≤_}
-use mathlib.Core.Path.{_≡_, refl, sym, ap, _∙_}
+use mathlib.Core.Path.{_≡_, refl, ap, _∙_}
 use mathlib.Core.Bool.{Bool, true, false, cond}
 use mathlib.Core.List.{List, [], _∷_, _++_}
 use native.Mathlib.Nat.{zero-add}
@@ -8,7 +8,7 @@ use native.Mathlib.Omega.{arith}
 use borrow.Author.Tests.{le-leb, lt-leb}
 use lib.Dec.{eqb}
 use lib.IntN.{ℤ, pos}
-use lib.ListN.{length, take, drop, getD, replicate, length-append}
+use lib.ListN.{length, take, getD, replicate, length-append}
 use Rattle.job.specs.Job.{Job, accepted}
 use Rattle.ledger.specs.Call.{axis}
 use Rattle.ledger.specs.Refusal.{refusalOf}
@@ -18,11 +18,11 @@ use Rattle.record.specs.declared.Answer.{Answer}
 use Rattle.record.specs.declared.Answer.the-variants.{Loaded, Turned, Swept, Pair, NoPair, Axis, Refused}
 use Rattle.record.specs.declared.Record.{Record}
 use Rattle.rotation.specs.Eight.{getD-eight, length-eight}
-use Rattle.text.specs.Line.{numberLine, wordLine}
+use Rattle.text.specs.Line.{numberLine}
 use Rattle.text.specs.Put.{Put}
 use Rattle.report.specs.Done.{Answers}
 use Rattle.report.specs.Lines.{Wide, axesOf, axisLines, headOf, textOf, valuesOf}
-use Rattle.report.specs.Report.{Short, axisValues, bufferBy, lineA, lineR, linesA, outcomeWord, reportOf, reportedBy, runFor, tableFor}
+use Rattle.report.specs.Report.{Short, axisValues, bufferBy, lineA, lineR, linesA, reportOf, reportedBy, runFor}
 use Rattle.report.specs.declared.Reported.the-variants as reported
 
 -- Two numbers stand before the row.

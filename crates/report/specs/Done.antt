@@ -7,7 +7,6 @@ use Rattle.job.specs.Job.{Job, Answer, jobOf}
 use Rattle.job.specs.Values.{Proper}
 use Rattle.job.specs.declared.Job as arrays
 use Rattle.record.specs.Kept.{Kept}
-use Rattle.run.specs.declared.Ran.{Ran}
 use Rattle.report.specs.Report.{Short, reportedBy, reportedOf, bufferBy, bufferOf, runFor, tableFor}
 use Rattle.report.specs.declared.Reported.{Reported}
 use Rattle.report.specs.declared.Solved.{Solved}

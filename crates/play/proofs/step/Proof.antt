@@ -3,7 +3,7 @@ use mathlib.Core.Bool.{true≢false}
 use mathlib.Core.Path.{sym}
 use borrow.Author.Needs.{needs}
 use native.Mathlib.Omega.{arith}
-use Rattle.play.specs.Text.{stopped}
+use Rattle.play.specs.Steps.{stopped}
 use Rattle.play.proofs.Stepping.{step-end, step-open, step-unknown, step-known}
 use Rattle.play.proofs.step.Statement.{statement}
 use Rattle.play.proofs.step.Tie as tie

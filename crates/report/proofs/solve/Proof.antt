@@ -1,6 +1,6 @@
 -- `report::solve` meets its contract.
 use Prim.Native.Nat.{_*_, _≤_}
-use mathlib.Core.Path.{_≡_, sym, ap, _∙_}
+use mathlib.Core.Path.{sym, ap, _∙_}
 use native.Mathlib.Nat.{mul-le-mul}
 use native.Mathlib.Omega.{arith}
 use lib.ListN.{length, take}
@@ -10,7 +10,7 @@ use Rattle.run.specs.Run.{runOf}
 use Rattle.scatter.specs.declared.table.Table.{Table}
 use Rattle.scatter.specs.Entries.{length-padded}
 use Rattle.scatter.specs.Table.{tableOf}
-use Rattle.report.specs.Done.{Held, jobIn}
+use Rattle.report.specs.Done.{jobIn}
 use Rattle.report.specs.Report.{runFor, tableFor}
 use Rattle.report.proofs.Bounds.{channels, readings}
 use Rattle.report.proofs.solve.Statement.{statement}

@@ -1,6 +1,4 @@
 -- `report::lines::put_head` meets its contract.
-use mathlib.Core.Path.{_≡_, sym, ap}
-use lib.ListN.{length}
 use lib.Seq.{take-length}
 use native.Mathlib.Nat.{le-refl}
 use borrow.Author.Needs.{needs}

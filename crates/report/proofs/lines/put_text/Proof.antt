@@ -1,6 +1,6 @@
 -- `report::lines::put_text` meets its contract. The invariant: the first i A lines are written after the R line.
-use Prim.Native.Nat.{_+_, _-_, _*_, _≤_, _<_}
-use mathlib.Core.Path.{_≡_, refl, sym, ap, _∙_}
+use Prim.Native.Nat.{_+_, _-_, _≤_}
+use mathlib.Core.Path.{_≡_, sym}
 use mathlib.Core.List.{[]}
 use lib.ListN.{length, take, getD}
 use native.Mathlib.Omega.{arith}

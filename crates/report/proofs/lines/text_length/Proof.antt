@@ -1,13 +1,13 @@
 -- `report::lines::text_length` meets its contract. The invariant: the first i A lines are counted, at most 233 bytes each.
 use Prim.Native.Nat.{_+_, _-_, _*_, _≤_}
-use mathlib.Core.Path.{_≡_, refl, sym, ap, _∙_}
+use mathlib.Core.Path.{_≡_, sym}
 use lib.ListN.{length, length-append}
 use lib.Seq.{take-length}
 use native.Mathlib.Omega.{arith}
 use borrow.Author.Needs.{needs}
-use Rattle.text.specs.Line.{numbers, wordLine}
+use Rattle.text.specs.Line.{wordLine}
 use Rattle.text.specs.Numbers.{length-number-line, length-word-line}
-use Rattle.report.specs.Lines.{axisLines, textOf}
+use Rattle.report.specs.Lines.{axisLines}
 use Rattle.report.specs.Report.{outcomeWord}
 use Rattle.report.proofs.Written.{word-few, lines-none, lines-more, text-size}
 use Rattle.report.proofs.lines.text_length.Statement.{statement}

@@ -1,5 +1,4 @@
 -- `report::lines::word_length` meets its contract.
-use mathlib.Core.Path.{refl}
 use Rattle.report.specs.Report.{outcomeWord}
 use borrow.Author.Needs.{needs}
 use Rattle.report.proofs.lines.word_length.Statement.{statement}

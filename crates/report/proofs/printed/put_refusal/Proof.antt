@@ -1,5 +1,5 @@
 -- `report::printed::put_refusal` meets its contract: each field is written where the last one ended.
-use Prim.Native.Nat.{_+_, _≤_}
+use Prim.Native.Nat.{_≤_}
 use lib.ListN.{length}
 use native.Mathlib.Omega.{arith}
 use borrow.Author.Needs.{needs}
