@@ -1,0 +1,113 @@
+-- Equal samples: every S is 0, and a run on a table of zeros is settled before its first sweep.
+use Prim.Native.Nat.{ℕ, zero, suc, _+_, _-_, _*_, _/_, _%_, _^_, _<_, _≤_}
+use mathlib.Core.Path.{_≡_, refl, sym, ap, _∙_}
+use mathlib.Core.Bool.{Bool, true, false, cond}
+use mathlib.Core.List.{List, [], _∷_, map}
+use mathlib.Core.Logic.{_⊎_, inl, inr}
+use native.Mathlib.Decide.{decLt}
+use native.Mathlib.Nat.{mul-assoc, mul-mul-mul-comm, suc-mul, zero-mul}
+use native.Mathlib.Omega.{arith}
+use borrow.Author.Tests.{eq-eqb}
+use lib.IntN.{ℤ, pos, natAbs, _-ℤ_, _*ℤ_, +ℤ-invr, *ℤ-zero}
+use lib.ListN.{length, getD, replicate, length-replicate, getD-replicate, List·getD-eq-default}
+use lib.Pow.{pow-pos}
+use lib.Seq.{ext-getD}
+use Rattle.ledger.specs.Accepted.{Loads}
+use Rattle.ledger.specs.Call.{load, loosePair}
+use Rattle.ledger.specs.Refusal.{matrixOf, refusalOf}
+use Rattle.limits.specs.Limits.{toleranceLimit, units}
+use Rattle.record.specs.Fill.{kept-flatOf}
+use Rattle.record.specs.Flat.{kept, flatOf}
+use Rattle.record.specs.Loose.{PairOrNone, loose-holds}
+use Rattle.record.specs.Record.{acceptedOf, afterOf, answerOf, fresh, inUse, loadedOf, looseOf, valueOf}
+use Rattle.record.specs.Turning.{inUse-inside}
+use Rattle.record.specs.declared.Answer.{Answer}
+use Rattle.record.specs.declared.Answer.the-variants.{NoPair, Pair}
+use Rattle.record.specs.declared.Record.{Record}
+use Rattle.ledger.specs.Pairs.{cyclic}
+use Rattle.rounding.specs.Rounding.{rnd}
+use Rattle.run.specs.Accepted.{after-accepted, load-accepted, loose-pair-accepted}
+use Rattle.run.specs.Course.{run-settled}
+use Rattle.run.specs.Run.{noPair, runOf, stop}
+use Rattle.run.specs.declared.Outcome.the-variants.{Settled}
+use Rattle.scatter.specs.Entries.{rnd-zero}
+use Rattle.scatter.specs.Samples.{Sample, z, sum, sumsOf}
+use Rattle.scatter.specs.Sums.{scatter-of-samples}
+use Rattle.scatter.specs.Table.{scatter, shift, entries}
+use Rattle.scatter.specs.Tabulate.{tabulate, length-tabulate, tabulate-all}
+
+abbrev pub zeros : ℕ → List ℤ
+zeros n = replicate (n * n) (pos 0)
+
+sum-equal : (f : Sample → ℕ) (k : ℕ) (s : Sample) → sum f (replicate k s) ≡ k * f s
+unfolding sum
+sum-equal f zero s = sym (zero-mul (f s))
+sum-equal f (suc k) s = rw (sum-equal f k s) (omega (arith, suc-mul k (f s)))
+
+-- k × (k × ab) = (k × a) × (k × b)
+same : (k a b : ℕ) → k * (k * (a * b)) ≡ (k * a) * (k * b)
+same k a b = sym (mul-assoc k k (a * b)) ∙ mul-mul-mul-comm k k a b
+
+tabulate-zero : (m : ℕ) (f : ℕ → ℤ) → ((p : ℕ) → f p ≡ pos 0) → tabulate m f ≡ replicate m (pos 0)
+unfolding tabulate
+tabulate-zero zero f h = refl
+tabulate-zero (suc m) f h = rw (h 0, tabulate-zero m (λ p. f (suc p)) (λ p. h (suc p)))
+
+pub equal-samples : (n k : ℕ) (s : Sample) → n ≤ 8 → scatter n (sumsOf (replicate k s)) ≡ zeros n
+equal-samples n k s h =
+    scatter-of-samples (replicate k s) n h
+    ∙ tabulate-zero (n * n) _
+    (λ p. rw (length-replicate k s, sum-equal (λ s. z s (p / n) * z s (p % n)) k s, sum-equal (λ s. z s (p / n)) k s, sum-equal (λ s. z s (p % n)) k s, same k (z s (p / n)) (z s (p % n)))
+    (+ℤ-invr (pos (k * z s (p / n) * (k * z s (p % n))))))
+
+entries-zero : (w m : ℕ) → 0 < w → map (λ u. rnd u w) (replicate m (pos 0)) ≡ replicate m (pos 0)
+entries-zero w zero h = refl
+entries-zero w (suc m) h = rw (rnd-zero w h, entries-zero w m h)
+
+pub zero-entries : (n : ℕ) → entries (zeros n) ≡ zeros n
+unfolding entries
+zero-entries n = entries-zero (2 ^ shift (zeros n)) (n * n) (pow-pos (shift (zeros n)))
+
+zero-at : (m p : ℕ) → getD (replicate m (pos 0)) p (pos 0) ≡ pos 0
+zero-at zero p = refl
+zero-at (suc m) zero = refl
+zero-at (suc m) (suc p) = zero-at m p
+
+module _ (n t : ℕ) (low : 2 ≤ n) (high : n ≤ 8) (few : t ≤ toleranceLimit) where
+  zeros-load : Loads n (zeros n)
+  unfolding matrixOf
+  zeros-load =
+      record {
+        low = low;
+        high = high;
+        count = length-replicate (n * n) (pos 0);
+        small = λ i. rw (zero-at (n * n) i) (omega arith);
+        same = λ i j h k. zero-at (n * n) (i * n + j) ∙ sym (zero-at (n * n) (j * n + i));
+      }
+
+  loaded : afterOf fresh (load n (zeros n)) ≡ loadedOf fresh n (zeros n)
+  unfolding acceptedOf
+  loaded = after-accepted fresh (load n (zeros n)) (load-accepted (fresh .n) (fresh .m) n (zeros n) zeros-load)
+
+  entry-zero : (i j : ℕ) → i < n → j < n → kept (loadedOf fresh n (zeros n) .a) i j ≡ pos 0
+  unfolding loadedOf matrixOf
+  entry-zero i j h k =
+      kept-flatOf _ i j (omega arith) (omega arith) ∙ inUse-inside n _ i j h k ∙ rw (zero-at (n * n) (i * n + j)) (*ℤ-zero (pos units))
+
+  none : looseOf (kept (loadedOf fresh n (zeros n) .a)) t (cyclic n) ≡ NoPair
+  none = by (loose-holds n (kept (loadedOf fresh n (zeros n) .a)) t .pair-or-none)
+    where
+      by : PairOrNone (looseOf (kept (loadedOf fresh n (zeros n) .a)) t (cyclic n)) → looseOf (kept (loadedOf fresh n (zeros n) .a)) t (cyclic n) ≡ NoPair
+      by (inr e) = e
+      by (inl (p, q, e)) =
+          let l = loose-holds n (kept (loadedOf fresh n (zeros n) .a)) t .pair-is-loose p q e in
+          absurd (omega (arith, rw (entry-zero (p - 1) (q - 1) (omega arith) (omega arith)) at (l .3)))
+
+  asked : answerOf (loadedOf fresh n (zeros n)) (loosePair t) ≡ NoPair
+  unfolding answerOf valueOf loadedOf
+  asked = rw (eq-eqb (refusalOf n 0 (loosePair t)) 0 (loose-pair-accepted n 0 (omega arith) t few)) none
+
+  -- settled, 0 sweeps
+  pub zeros-settled : (limit : ℕ) → runOf n (zeros n) limit t ≡ stop Settled 0 (afterOf fresh (load n (zeros n)))
+  unfolding runOf noPair
+  zeros-settled limit = run-settled limit 0 t false (afterOf fresh (load n (zeros n))) (rw (loaded, asked))
