@@ -1,9 +1,10 @@
-/* The axes of a matrix of two channels. At the repository's root:
+/* The axes of a matrix of two channels, then the report of a job. At the repository's root:
    rt staticlib field_axes && cc -o target/example bindings/c/example.c target/staticlib/libfield_axes.a && target/example */
 #include "field_axes.h"
 #include <stdio.h>
+#include <string.h>
 
-int main(void) {
+static int solve(void) {
     const int64_t numbers[] = {50, 25, 25, 50};
     int64_t out[FIELD_AXES_MOST_NUMBERS];
     int64_t count = field_axes_solve(2, numbers, 4, 16, 0, out, FIELD_AXES_MOST_NUMBERS);
@@ -17,4 +18,20 @@ int main(void) {
         printf("axis %lld: %lld within %lld; row %lld %lld\n", (long long)(at / 4 + 1), (long long)out[at],
                (long long)out[at + 1], (long long)out[at + 2], (long long)out[at + 3]);
     return 0;
+}
+
+static int report(const char *job) {
+    uint8_t out[FIELD_AXES_MOST_REPORT_BYTES];
+    size_t line;
+    int64_t length = field_axes_report((const uint8_t *)job, strlen(job), out, sizeof out, &line);
+    if (length < 0) {
+        printf("refused %lld at line %zu\n", (long long)-length, line);
+        return 1;
+    }
+    fwrite(out, 1, (size_t)length, stdout);
+    return 0;
+}
+
+int main(void) {
+    return solve() || report("P\t2\t1\t0\nS\t1\t0\t0\nS\t5\t1\t0\nS\t1\t5\t5\nE\t3\n");
 }

@@ -28,4 +28,11 @@ int64_t field_axes_table(size_t n, const uint64_t *dilutions, size_t dilutions_l
 
 #define FIELD_AXES_MOST_TABLE_NUMBERS 129
 
+/* A job text to its report. Into out: the report, at most FIELD_AXES_MOST_REPORT_BYTES bytes, with no 0 after it. Bytes past it stay.
+   The answer is its length, or a refusal's number negated: 1 to 4 for the text, with the line, from 1, in *line; then 12 for a short
+   buffer. *line is 0 for 12 and where there is no refusal. At a refusal the buffer stays. line is not null, and lies in neither buffer. */
+int64_t field_axes_report(const uint8_t *text, size_t text_length, uint8_t *out, size_t out_length, size_t *line);
+
+#define FIELD_AXES_MOST_REPORT_BYTES 2048
+
 #endif

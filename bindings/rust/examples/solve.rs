@@ -1,11 +1,21 @@
-//! Three samples of two channels: their table, and its axes. At the repository's root:
+//! Three samples of two channels: their table and its axes, then their report as a job, and a job that is refused.
+//! At the repository's root:
 //! `rt staticlib field_axes && cargo run --release --offline --manifest-path bindings/rust/Cargo.toml --example solve`
 
-use field_axes::{solve, table, Refused};
+use field_axes::{report, solve, table, JobRefused, Refused};
 
 fn main() {
     if let Err(Refused(number)) = show(2, &[1, 5, 1], &[0, 0, 1, 0, 5, 5]) {
         println!("refused {number}");
+    }
+    for job in [
+        "P\t2\t1\t0\nS\t1\t0\t0\nS\t5\t1\t0\nS\t1\t5\t5\nE\t3\n",
+        "P\t2\t1\t0\nS\t101\t0\t0\n",
+    ] {
+        match report(job.as_bytes()) {
+            Ok(text) => print!("{text}"),
+            Err(JobRefused { number, line }) => println!("refused {number} at line {line}"),
+        }
     }
 }
 

@@ -25,6 +25,14 @@ mod raw {
             out: *mut i64,
             out_length: usize,
         ) -> i64;
+
+        pub fn field_axes_report(
+            text: *const u8,
+            text_length: usize,
+            out: *mut u8,
+            out_length: usize,
+            line: *mut usize,
+        ) -> i64;
     }
 }
 
@@ -150,6 +158,40 @@ pub fn table_into(
             out.len(),
         )
     })
+}
+
+/// The refusal of a job text: its number, and the line, from 1. The line of number 12 is 0: a short buffer is of no line.
+#[derive(Clone, Copy, Debug, PartialEq, Eq)]
+pub struct JobRefused {
+    pub number: u32,
+    pub line: usize,
+}
+
+/// The most bytes that a report has.
+pub const MOST_REPORT_BYTES: usize = 2048;
+
+/// The report of a job text. Refused 1 to 4, with the line.
+pub fn report(text: &[u8]) -> Result<String, JobRefused> {
+    let mut out = [0; MOST_REPORT_BYTES];
+    let length = report_into(text, &mut out)?;
+    Ok(out[..length].iter().copied().map(char::from).collect())
+}
+
+/// The same at the front of `out`; its other bytes stay. The answer is the report's length. Refused 12, last, where `out` is too short;
+/// at a refusal it stays as it was.
+pub fn report_into(text: &[u8], out: &mut [u8]) -> Result<usize, JobRefused> {
+    let mut line = 0;
+    // Safe: both slices and the number are whole, and borrowed for the call; the function has no other requirement.
+    let length = unsafe {
+        raw::field_axes_report(
+            text.as_ptr(),
+            text.len(),
+            out.as_mut_ptr(),
+            out.len(),
+            &mut line,
+        )
+    };
+    answer(length).map_err(|Refused(number)| JobRefused { number, line })
 }
 
 /// A count, or a refusal's number negated.

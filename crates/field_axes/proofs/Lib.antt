@@ -3,3 +3,4 @@ mod Following
 mod Answered
 mod Within
 mod Refusals
+mod Reporting

@@ -1,10 +1,12 @@
--- What the exported functions ensure: the answer, and every number of the lent buffer.
+-- What the exported functions ensure: the answer, and every number or byte of what is lent.
 use mathlib.Core.Path.{_≡_}
 use mathlib.Core.List.{List}
 use Prim.Native.Nat.{ℕ}
 use lib.IntN.{ℤ}
 use lib.ListN.{length}
+use Rattle.report.specs.Report.{bufferOf, reportedOf}
 use Rattle.field_axes.specs.Put.{answered, lent}
+use Rattle.field_axes.specs.Report.{lengthOrNumber, refusedLine}
 use Rattle.field_axes.specs.Solution.{solutionOf, solveRefusal}
 use Rattle.field_axes.specs.Table.{tableNumbersOf, tableRefusal}
 
@@ -15,3 +17,8 @@ pub record Solves (n : ℕ) (numbers : List ℤ) (limit t : ℕ) (entry exit : L
 pub record Tabulates (n : ℕ) (dilutions counts : List ℕ) (entry exit : List ℤ) (r : ℤ) : Type 0 where
   pub answer : r ≡ answered (tableRefusal n dilutions counts (length entry)) (tableNumbersOf n dilutions counts)
   pub buffer : exit ≡ lent (tableRefusal n dilutions counts (length entry)) (tableNumbersOf n dilutions counts) entry
+
+pub record ReportsText (text entry exit : List ℕ) (at : ℕ) (r : ℤ) : Type 0 where
+  pub answer : r ≡ lengthOrNumber (reportedOf text (length entry))
+  pub line : at ≡ refusedLine (reportedOf text (length entry))
+  pub buffer : exit ≡ bufferOf text entry

@@ -3,4 +3,5 @@ pub mod Solution
 pub mod Solvable
 pub mod Table
 pub mod Readable
+pub mod Report
 pub mod Done

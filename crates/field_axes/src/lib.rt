@@ -3,7 +3,8 @@ mod numbers;
 mod solve;
 mod table;
 
-ghost use Rattle.field_axes.specs.Done.{Solves, Tabulates};
+use report::Reported;
+ghost use Rattle.field_axes.specs.Done.{ReportsText, Solves, Tabulates};
 
 // A run on n×n numbers, row after row, and its axes. Into `out`: the outcome (0 settled, 1 still, 2 spent), the sweeps run, m, then for
 // each axis a_ii, r_i and the n numbers of its row. The answer is how many numbers these are, or the refusal's number negated.
@@ -40,4 +41,23 @@ pub extern "C" fn field_axes_table(
         return numbers::refused(number);
     }
     table::put_table(n, dilutions, counts, out) as i64
+}
+
+// A job text to its report, document 01's `axes` as a function. Into `out`: the report. The answer is its length, or the refusal's number
+// negated; into `line` goes the refusal's line, or 0 where there is none.
+#[no_mangle]
+pub extern "C" fn field_axes_report(text: &[u8], out: &mut [u8], line: &mut usize) -> i64
+    ensures { λ r. ⌜ ReportsText (now (text .entry)) (now (out .entry)) (now (out .exit)) (now (line .exit)) r ⌝ }
+{
+    let done = report::report(text, out);
+    match done {
+        Reported::Written(length) => {
+            *line = 0;
+            length as i64
+        }
+        Reported::Refused(number, at) => {
+            *line = at;
+            numbers::refused(number as u32)
+        }
+    }
 }
