@@ -1,8 +1,8 @@
--- Steps from the start of a text on print what the text prints.
-use Prim.Native.Nat.{ℕ, zero, suc, _+_, _-_, _≤_, _<_}
-use mathlib.Core.Path.{_≡_, refl, sym, ap, _∙_}
-use mathlib.Core.Bool.{Bool, true, false, cond, false≢true}
-use mathlib.Core.List.{List, [], _∷_, _++_, append-nil}
+-- What a step prints and what the lines after it print, together, is what the lines from its place on print.
+use Prim.Native.Nat.{ℕ, _+_, _<_}
+use mathlib.Core.Path.{_≡_, refl, sym, _∙_}
+use mathlib.Core.Bool.{Bool, true, false, cond}
+use mathlib.Core.List.{List, [], _∷_, _++_, append-assoc, append-nil}
 use mathlib.Core.Option.{Option, none, some}
 use native.Mathlib.Omega.{arith}
 use borrow.Author.Tests.{ltb-true, ltb-false}
@@ -11,13 +11,13 @@ use lib.ListN.{length, drop}
 use lib.Seq.{take-append-seam}
 use Rattle.job.specs.Text.{split}
 use Rattle.ledger.specs.Call.{Call}
-use Rattle.record.specs.Record.{fresh}
+use Rattle.record.specs.Kept.{Kept}
 use Rattle.record.specs.declared.Record.{Record}
 use Rattle.play.specs.Answers.{linePrinted}
 use Rattle.play.specs.Calls.{callOf}
 use Rattle.play.specs.Parts.{front}
-use Rattle.play.specs.Steps.{looped, onward, printedBy, stepped, stopped}
-use Rattle.play.specs.Text.{answered, played, playedFrom, unknownLine}
+use Rattle.play.specs.Steps.{Reached, onward, printedBy, stepped, stopped}
+use Rattle.play.specs.Text.{answered, playedFrom, unknownLine}
 use Rattle.play.specs.declared.Stepped.{Stepped}
 use Rattle.play.proofs.Splitting.{partsAfter, parts-end, parts-more, split-front}
 
@@ -76,42 +76,15 @@ module _ (text : List ℕ) (r : Record) (at k : ℕ) where
   goes (part ∷ []) q = last (eqb (length part) 0)
   goes (line ∷ part ∷ parts) q = called line part parts q (callOf line)
 
-  -- Where there is more, it starts later, and within the text.
-  abbrev Moves : Stepped → Type 0
-  Moves z = z .more ≡ true → (at < z .at) × (z .at ≤ length text)
+-- The line after one that was played on the record which the lines before it left.
+module _ (text : List ℕ) (r : Record) (at k : ℕ) (z : Stepped) (e : z ≡ stepped r k at (split 10 (drop at text))) where
+  pub then-prints : z .more ≡ true → playedFrom r k (split 10 (drop at text)) ≡ printedBy z ++ playedFrom (z .next) (k + 1) (split 10 (drop (z .at) text))
+  unfolding printedBy
+  then-prints more = rw (← e, more) at (goes text r at k (split 10 (drop at text)) refl)
 
-  last-moves : (t : Bool) → Moves (cond t (stopped r at []) (stopped r at (unknownLine k)))
-  unfolding stopped
-  last-moves true e = absurd (false≢true e)
-  last-moves false e = absurd (false≢true e)
-
-  called-moves : (line part : List ℕ) (parts : List (List ℕ)) → split 10 (drop at text) ≡ line ∷ part ∷ parts → (o : Option Call) → Moves (onward r k at (length line) o)
-  unfolding onward stopped
-  called-moves line part parts q none e = absurd (false≢true e)
-  called-moves line part parts q (some call) e = (omega arith, omega (arith, within text at line part parts q))
-
-  moves : (parts : List (List ℕ)) → split 10 (drop at text) ≡ parts → Moves (stepped r k at parts)
-  unfolding stepped stopped
-  moves [] q e = absurd (false≢true e)
-  moves (part ∷ []) q e = last-moves (eqb (length part) 0) e
-  moves (line ∷ part ∷ parts) q e = called-moves line part parts q (callOf line) e
-
-same-if : (t : Bool) (x y : List ℕ) → (t ≡ true → x ≡ y) → cond t x [] ≡ cond t y []
-same-if true x y f = f refl
-same-if false x y f = refl
-
--- The loop prints what the lines from its place on print.
-loop : (turns : ℕ) (text : List ℕ) (r : Record) (at k : ℕ) → at ≤ length text → length text - at < turns → looped turns r text at k ≡ playedFrom r k (split 10 (drop at text))
-unfolding looped
-loop zero text r at k h g = absurd (omega arith)
-loop (suc turns) text r at k h g =
-    let z = stepped r k at (split 10 (drop at text)) in
-    ap (λ (l : List ℕ). printedBy z ++ l)
-    (same-if (z .more) _ _
-    (λ e. let m = moves text r at k (split 10 (drop at text)) refl e in loop turns text (z .next) (z .at) (k + 1) (m .1) (omega arith)))
-    ∙ sym (goes text r at k (split 10 (drop at text)) refl)
-
--- The program's loop, from a fresh record at the text's start, prints what the text prints.
-pub prints : (text : List ℕ) → looped (length text + 1) fresh text 0 1 ≡ played text
-unfolding played
-prints text = loop (length text + 1) text fresh 0 1 (omega arith) (omega arith)
+  pub further : Kept (z .next) → Reached text r at k → z .more ≡ true → Reached text (z .next) (z .at) (k + 1)
+  further keeps here more = record {
+    before = here .before ++ printedBy z;
+    is = here .is ∙ rw (then-prints more, append-assoc);
+    keeps = keeps;
+  }

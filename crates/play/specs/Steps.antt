@@ -1,5 +1,5 @@
--- A step of a text of calls: what the line at a place of the text does, and what steps one after another print.
-use Prim.Native.Nat.{ℕ, zero, suc, _+_, _≤_, _<_}
+-- A step of a text of calls: what the line at a place of the text does.
+use Prim.Native.Nat.{ℕ, _+_, _≤_, _<_}
 use mathlib.Core.Path.{_≡_}
 use mathlib.Core.Bool.{true, false, cond}
 use mathlib.Core.List.{List, [], _∷_, _++_}
@@ -13,7 +13,7 @@ use Rattle.record.specs.Record.{afterOf}
 use Rattle.record.specs.declared.Record.{Record}
 use Rattle.play.specs.Answers.{answerLine, linePrinted}
 use Rattle.play.specs.Calls.{callOf}
-use Rattle.play.specs.Text.{unknownLine}
+use Rattle.play.specs.Text.{played, playedFrom, unknownLine}
 use Rattle.play.specs.declared.Stepped.{Stepped}
 
 -- It stops at the end of the text, or at a line that is no call.
@@ -30,21 +30,20 @@ stepped r k at [] = stopped r at []
 stepped r k at (part ∷ []) = cond (eqb (length part) 0) (stopped r at []) (stopped r at (unknownLine k))
 stepped r k at (line ∷ part ∷ parts) = onward r k at (length line) (callOf line)
 
--- what a step ensures: line k, at a place of the text
-pub record Steps (r : Record) (text : List ℕ) (at k : ℕ) (z : Stepped) : Type 0 where
-  pub is : z ≡ stepped r k at (split 10 (drop at text))
-  pub keeps : Kept (z .next)
-  pub short : z .line .len ≤ 256
-  pub moves : z .more ≡ true → (at < z .at) × (z .at ≤ length text)
-
 -- the bytes that a step prints
 unfoldable pub printedBy : Stepped → List ℕ
 printedBy z = take (z .line .len) (z .line .bytes)
 
--- What the program's loop prints: a step at a time from a place of the text on, while there is more. Each step moves on, so that there
--- are at most as many as the text has bytes, and one at its end.
-unfoldable pub looped : ℕ → Record → List ℕ → ℕ → ℕ → List ℕ
-looped zero r text at k = []
-looped (suc turns) r text at k =
-    let z = stepped r k at (split 10 (drop at text)) in
-    printedBy z ++ cond (z .more) (looped turns (z .next) text (z .at) (k + 1)) []
+-- A place of a text that the lines before it lead to, with the record that they leave: what they have printed, and then what the lines
+-- from this one on, which is line k, print on that record, is what the text prints.
+pub record Reached (text : List ℕ) (r : Record) (at k : ℕ) : Type 0 where
+  pub before : List ℕ
+  pub is : played text ≡ before ++ playedFrom r k (split 10 (drop at text))
+  pub keeps : Kept r
+
+-- what a step ensures: line k, at a place of the text
+pub record Steps (r : Record) (text : List ℕ) (at k : ℕ) (z : Stepped) : Type 0 where
+  pub is : z ≡ stepped r k at (split 10 (drop at text))
+  pub short : z .line .len ≤ 256
+  pub moves : z .more ≡ true → (at < z .at) × (z .at ≤ length text)
+  pub reaches : z .more ≡ true → Reached text (z .next) (z .at) (k + 1)

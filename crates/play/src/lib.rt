@@ -14,9 +14,8 @@ use line::line_of;
 use played::play_line;
 use record::Record;
 ghost use Rattle.play.specs.Answers.{Prints};
-ghost use Rattle.play.specs.Steps.{Steps};
+ghost use Rattle.play.specs.Steps.{Reached, Steps};
 ghost use Rattle.play.specs.Text.{unknownLine};
-ghost use Rattle.record.specs.Kept.{Kept};
 
 // What the line at a place of a text does: whether the next line is to be played, the place where that one starts, the record, and what
 // is printed.
@@ -33,9 +32,9 @@ fn unknown_line(k: u64) -> Printed
     one_number(b'?', k)
 }
 
-// Plays the line at a place of the text, which is line k.
+// Plays the line at a place of the text, which is line k, on the record that the lines before it left.
 pub fn step(r: Record, text: &[u8], at: usize, k: u64) -> Stepped
-    requires { ⌜ Kept r ⌝ }
+    requires { ⌜ Reached (now text) r at k ⌝ }
     ensures { λ z. ⌜ Steps r (now (text .entry)) at k z ⌝ }
 {
     if text.len() <= at {

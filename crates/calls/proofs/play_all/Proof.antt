@@ -1,21 +1,29 @@
--- `calls::play_all` is safe, and ends: each line that it plays moves on in the text.
+-- `calls::play_all` plays each line on the record that the lines before it left, is safe, and ends: each line that it plays moves on in
+-- the text.
 use Prim.Native.Nat.{_+_, _-_, _≤_, _<_}
+use mathlib.Core.List.{[]}
 use lib.ListN.{length}
 use borrow.Author.Needs.{needs}
 use borrow.Author.Tests.{not-false}
 use native.Mathlib.Omega.{arith}
-use Rattle.record.specs.Kept.{Kept}
+use Rattle.play.specs.Steps.{Reached}
+use Rattle.play.specs.Text.{played}
 use Rattle.calls.proofs.play_all.Statement.{statement}
 use Rattle.calls.proofs.play_all.Tie as tie
 
 abbrev Inv-loop : tie.InvT-loop
-Inv-loop text r₀ at₀ k₀ r at k = Kept r × (at ≤ length text) × (k ≤ at + 1)
+Inv-loop text r₀ at₀ k₀ r at k = Reached text r at k × (at ≤ length text) × (k ≤ at + 1)
 
 abbrev μ-loop : tie.MeasureT-loop
 μ-loop text r₀ at₀ k₀ r at k = length text - at
 
 loop-holds : tie.Need-loop-holds Inv-loop μ-loop
-loop-holds c = (c .new .ensures .keeps, omega arith, omega arith)
+unfolding played
+loop-holds c = (
+  record { before = []; is = rw (c .new .ensures .is); keeps = c .new .ensures .keeps },
+  omega arith,
+  omega arith,
+)
 
 -- where there is more, it starts later
 onward : (c : tie.After-next Inv-loop μ-loop)
@@ -37,7 +45,7 @@ loop-again : tie.Need-loop-again Inv-loop μ-loop
 loop-again c =
     let z = c .before .before .before .before .before .before in
     let m = onward c in
-    (z .step .ensures .keeps, m .1, omega (arith, z .before .loop .inv .2, m .0))
+    (z .step .ensures .reaches (not-false _ (c .before .if1 .left)), m .1, omega (arith, z .before .loop .inv .2, m .0))
 
 pub play-all-spec : {M : Type 1} → statement M
 play-all-spec =
