@@ -1,7 +1,8 @@
-//! The static library against the reference on seeded random inputs, number for number. At the repository's root:
+//! The static library against the reference on seeded random inputs, number for number and byte for byte. At the repository's root:
 //! `rt staticlib field_axes && cargo run --release --offline --manifest-path tests/Cargo.toml`
 
 mod random;
+mod reporting;
 mod solving;
 mod tabulating;
 
@@ -16,8 +17,11 @@ fn main() -> ExitCode {
         .nth(1)
         .map_or(SEED, |word| word.parse().expect("a seed is a number"));
     let mut failed = false;
-    let kinds: [(&str, fn(u64) -> Result<String, String>); 2] =
-        [("solve", solving::case), ("table", tabulating::case)];
+    let kinds: [(&str, fn(u64) -> Result<String, String>); 3] = [
+        ("report", reporting::case),
+        ("solve", solving::case),
+        ("table", tabulating::case),
+    ];
     for (name, case) in kinds {
         let mut counts = std::collections::BTreeMap::new();
         for number in 0..CASES {

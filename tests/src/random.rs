@@ -42,4 +42,8 @@ impl Random {
         let bits = self.between(0, i64::from(64 - most.leading_zeros()));
         self.between(0, ((1 << bits) - 1).min(most))
     }
+
+    pub fn bytes(&mut self, count: usize) -> Vec<u8> {
+        (0..count).map(|_| self.next() as u8).collect()
+    }
 }
