@@ -1,40 +1,69 @@
 //! The stored jobs of the test program `vectors`: their container, and what the program must print.
 
 mod accepted;
+mod buffers;
 mod many;
 mod refused;
 
 use crate::record::ENTRY_LIMIT;
-use crate::report_of;
+use crate::report::{report_into, Denied};
 
 /// A count of 65,535 at a dilution of 100.
 const GREATEST_VALUE: i128 = 6_553_500;
 
-/// A job text and what it is there for.
+/// The buffer that the programs lend: no report has more bytes.
+const BUFFER: usize = 2048;
+
+/// A job text, the size of the buffer that is lent for its report, and what it is there for.
+#[derive(Clone)]
 pub struct Stored {
     pub name: String,
     pub text: Vec<u8>,
+    pub size: usize,
+}
+
+impl Stored {
+    fn report(&self) -> Result<Vec<u8>, Denied> {
+        let mut buffer = vec![0; self.size];
+        let length = report_into(&self.text, &mut buffer)?;
+        buffer.truncate(length);
+        Ok(buffer)
+    }
+
+    /// The report, or the `X` line of the refusal.
+    fn output(&self) -> Vec<u8> {
+        self.report()
+            .unwrap_or_else(|denied| denied.text().into_bytes())
+    }
 }
 
 /// Every stored job, in order.
 pub fn jobs() -> Vec<Stored> {
-    [accepted::jobs(), refused::jobs(), many::jobs()]
-        .into_iter()
-        .flatten()
-        .collect()
+    [
+        accepted::jobs(),
+        refused::jobs(),
+        many::jobs(),
+        buffers::jobs(),
+    ]
+    .into_iter()
+    .flatten()
+    .collect()
 }
 
-/// For each job its length in bytes as decimal digits and a line feed, then its bytes.
+/// For each job its length in bytes, a blank, the size of its buffer and a line feed, then its bytes.
 pub fn container() -> Vec<u8> {
     jobs()
         .iter()
-        .flat_map(|job| [format!("{}\n", job.text.len()).as_bytes(), &job.text].concat())
+        .flat_map(|job| {
+            let head = format!("{} {}\n", job.text.len(), job.size);
+            [head.as_bytes(), &job.text].concat()
+        })
         .collect()
 }
 
 /// For each job its report, or the `X` line of its refusal.
 pub fn outputs() -> Vec<u8> {
-    jobs().iter().flat_map(|job| report_of(&job.text)).collect()
+    jobs().iter().flat_map(Stored::output).collect()
 }
 
 /// For each job its place from 1, its length, the first line of its output, and its name.
@@ -42,7 +71,7 @@ pub fn names() -> String {
     (1..)
         .zip(jobs())
         .map(|(place, job)| {
-            let output = String::from_utf8(report_of(&job.text)).expect("ASCII");
+            let output = String::from_utf8(job.output()).expect("ASCII");
             let first = output.lines().next().unwrap_or("");
             format!(
                 "{place}: {} bytes, {}: {}\n",
@@ -68,6 +97,7 @@ fn raw(name: impl ToString, text: &[u8]) -> Stored {
     Stored {
         name: name.to_string(),
         text: text.to_vec(),
+        size: BUFFER,
     }
 }
 
@@ -100,11 +130,11 @@ mod tests {
     }
 
     #[test]
-    fn no_name_and_no_text_comes_twice() {
+    fn no_name_comes_twice_and_no_text_with_the_same_buffer() {
         let jobs = jobs();
         assert!(jobs.len() >= 80);
         let names: BTreeSet<&str> = jobs.iter().map(|job| &job.name[..]).collect();
-        let texts: BTreeSet<&[u8]> = jobs.iter().map(|job| &job.text[..]).collect();
+        let texts: BTreeSet<_> = jobs.iter().map(|job| (&job.text, job.size)).collect();
         assert_eq!((names.len(), texts.len()), (jobs.len(), jobs.len()));
     }
 
@@ -115,9 +145,10 @@ mod tests {
         let mut rest = &container[..];
         for job in jobs() {
             let end = rest.iter().position(|&byte| byte == b'\n').unwrap();
-            let length: usize = std::str::from_utf8(&rest[..end]).unwrap().parse().unwrap();
-            let (text, after) = rest[end + 1..].split_at(length);
-            assert_eq!(text, job.text);
+            let head = std::str::from_utf8(&rest[..end]).unwrap();
+            let (length, size) = head.split_once(' ').unwrap();
+            let (text, after) = rest[end + 1..].split_at(length.parse().unwrap());
+            assert_eq!((text, size.parse()), (&job.text[..], Ok(job.size)));
             rest = after;
         }
         assert!(rest.is_empty());
@@ -127,10 +158,10 @@ mod tests {
     fn every_refusal_outcome_channel_number_and_shift_is_there() {
         let refusals: BTreeSet<i128> = jobs()
             .iter()
-            .filter_map(|stored| job::read(&stored.text).err())
-            .map(|refusal| refusal.number)
+            .filter_map(|stored| stored.report().err())
+            .map(Denied::number)
             .collect();
-        assert!(refusals.into_iter().eq(1..=4));
+        assert!(refusals.into_iter().eq([1, 2, 3, 4, 12]));
         let accepted = accepted();
         let shifts: BTreeSet<u32> = accepted.iter().map(|(_, e, _)| *e).collect();
         assert!(shifts.into_iter().eq(0..=40));

@@ -3,5 +3,5 @@ mod Bounds
 mod Told
 mod Same
 mod Read
-mod Print
+pub mod Print
 pub mod Certificate

@@ -2,24 +2,19 @@
 use Prim.Native.Nat.{ℕ, _≤_}
 use mathlib.Core.Path.{_≡_, refl, sym, ap, _∙_}
 use mathlib.Core.Bool.{Bool, true, false, cond}
-use mathlib.Core.List.{List, [], _∷_, _++_, append-nil}
+use mathlib.Core.List.{List, [], _∷_, _++_}
 use native.Mathlib.Nat.{zero-add}
 use native.Mathlib.Omega.{arith}
 use borrow.Author.Tests.{leb-true, leb-false}
 use lib.Dec.{leb}
 use lib.ListN.{length, drop}
 use Rattle.job.specs.Job.{Answer, refused, accepted, jobOf}
-use Rattle.text.specs.Decimal.{digits}
-use Rattle.text.specs.Line.{further, line}
+use Rattle.text.specs.Line.{lineX}
 use Rattle.text.specs.Put.{Put}
 use Rattle.report.specs.Done.{Answers, Reports}
-use Rattle.report.specs.Report.{Short, bufferBy, bufferOf, lineX, printedBy, printedOf, reportOf, reportedBy, reportedOf}
+use Rattle.report.specs.Report.{Short, bufferBy, bufferOf, printedBy, printedOf, reportOf, reportedBy, reportedOf}
 use Rattle.report.specs.declared.Reported.{Reported}
 use Rattle.report.specs.declared.Reported.the-variants.{Written, Refused}
-
-pub x-line : (number at : ℕ) → lineX number at ≡ (88 ∷ []) ++ (((9 ∷ digits number) ++ (9 ∷ digits at)) ++ (10 ∷ []))
-unfolding lineX line further
-x-line number at = ap (λ (l : List ℕ). (88 ∷ []) ++ (((9 ∷ digits number) ++ l) ++ (10 ∷ []))) (append-nil (9 ∷ digits at))
 
 module _ (entry exit : List ℕ) where
   written-by : (a : Answer) (n : ℕ) → Answers a entry exit (Written n) → Put (printedBy a) 0 entry exit n

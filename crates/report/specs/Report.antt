@@ -18,8 +18,7 @@ use Rattle.run.specs.declared.Ran.{Ran}
 use Rattle.scatter.specs.Samples.{samples, sumsOf}
 use Rattle.scatter.specs.Table.{tableOf}
 use Rattle.scatter.specs.declared.table.Table.{Table}
-use Rattle.text.specs.Decimal.{digits}
-use Rattle.text.specs.Line.{line, numberLine, wordLine}
+use Rattle.text.specs.Line.{numberLine, wordLine, lineX}
 use Rattle.report.specs.declared.Reported.{Reported}
 use Rattle.report.specs.declared.Reported.the-variants.{Written, Refused}
 
@@ -87,10 +86,6 @@ bufferOf text entry = bufferBy (jobOf text) entry
 unfoldable pub Short : Answer → Type 0
 Short (refused number at) = Unit
 Short (accepted j) = length (reportOf j) ≤ 2048
-
--- 'one line of `X`, refusal number, line number, parted by tabs'; 88 is `X`
-unfoldable pub lineX : ℕ → ℕ → List ℕ
-lineX number at = line ((88 ∷ []) ∷ digits number ∷ digits at ∷ [])
 
 -- What the program prints for a text
 unfoldable pub printedBy : Answer → List ℕ

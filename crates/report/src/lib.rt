@@ -1,13 +1,13 @@
 // Job text in, report or refusal out: document 01, 'Job text and report'.
 mod lines;
-mod printed;
 mod values;
 
 use job::Job;
-pub use printed::answer;
 use run::Ran;
 ghost use Rattle.job.specs.Job.{accepted};
+ghost use Rattle.text.specs.Put.{Put};
 ghost use Rattle.report.specs.Done.{Answers, Held, Reports, Solves, jobIn};
+ghost use Rattle.report.specs.Report.{printedOf};
 
 // The report's length, or the refusal's number and the line.
 pub enum Reported {
@@ -72,4 +72,15 @@ pub fn report(text: &[u8], buf: &mut [u8]) -> Reported
     }
     let job = reading.job;
     report_job(job, buf)
+}
+
+// What the program prints, at the front of the buffer: the report, or the line of the refusal.
+pub fn answer(text: &[u8], out: &mut [u8; 2048]) -> usize
+    ensures { λ r. ⌜ Put (printedOf (now (text .entry))) 0 (now (out .entry)) (now (out .exit)) r ⌝ }
+{
+    let done = report(text, out);
+    match done {
+        Reported::Written(length) => length,
+        Reported::Refused(number, line) => text::put_refusal(out, number, line),
+    }
 }

@@ -7,8 +7,8 @@ use native.Mathlib.Omega.{arith}
 use lib.IntN.{ℤ, pos}
 use lib.ListN.{length, take, drop, getD, length-append, take-append-drop}
 use lib.Seq.{take-suc, take-take}
-use Rattle.text.specs.Decimal.{number}
-use Rattle.text.specs.Line.{further, line, numbers, numberLine, wordLine}
+use Rattle.text.specs.Decimal.{digits, number}
+use Rattle.text.specs.Line.{further, line, numbers, numberLine, wordLine, lineX}
 
 pub further-append : (fs gs : List (List ℕ)) → further (fs ++ gs) ≡ further fs ++ further gs
 unfolding further
@@ -51,6 +51,10 @@ pub word-line : (tag : ℕ) (zs : List ℤ) (word : List ℕ) → wordLine tag z
 unfolding wordLine line numbers further
 word-line tag zs word =
     ap (λ (l : List ℕ). (tag ∷ []) ++ l ++ (10 ∷ [])) (further-append (map number zs) (word ∷ [])) ∙ simp (append-assoc, append-nil)
+
+pub refusal-line : (number at : ℕ) → lineX number at ≡ (88 ∷ []) ++ (((9 ∷ digits number) ++ (9 ∷ digits at)) ++ (10 ∷ []))
+unfolding lineX line further
+refusal-line number at = ap (λ (l : List ℕ). (88 ∷ []) ++ (((9 ∷ digits number) ++ l) ++ (10 ∷ []))) (append-nil (9 ∷ digits at))
 
 pub length-number-line : (tag : ℕ) (zs : List ℤ) → length (numberLine tag zs) ≡ length (numbers zs) + 2
 length-number-line tag zs = simp (number-line, length-append) (omega arith)

@@ -5,7 +5,7 @@ ghost use Prim.Native.Nat.{_+_, _*_, _≤_, _<_, _^_};
 ghost use lib.ListN.{length, take};
 ghost use lib.IntN.{natAbs};
 ghost use Rattle.text.specs.Decimal.{digits, number};
-ghost use Rattle.text.specs.Line.{numbers, numberLine, wordLine};
+ghost use Rattle.text.specs.Line.{numbers, numberLine, wordLine, lineX};
 ghost use Rattle.text.specs.Put.{Put, Sized};
 
 const TAB: u8 = b'\t';
@@ -141,5 +141,18 @@ pub fn put_word_line(buf: &mut [u8], tag: u8, values: &[i64], n: usize, word: &[
     at = put_numbers(buf, at, values, n);
     at = put_byte(buf, at, TAB);
     at = put_bytes(buf, at, word);
+    put_byte(buf, at, LINE_FEED)
+}
+
+// The line of a refusal, at the front of the buffer.
+pub fn put_refusal(buf: &mut [u8], number: u8, line: usize) -> usize
+    requires { ⌜ 44 ≤ length (now buf) ⌝ }
+    ensures { λ r. ⌜ Put (lineX number line) 0 (now (buf .entry)) (now (buf .exit)) r ⌝ }
+{
+    let mut at = put_byte(buf, 0, b'X');
+    at = put_byte(buf, at, TAB);
+    at = put_natural(buf, at, number as u64);
+    at = put_byte(buf, at, TAB);
+    at = put_natural(buf, at, line as u64);
     put_byte(buf, at, LINE_FEED)
 }

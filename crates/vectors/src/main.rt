@@ -1,14 +1,10 @@
-// Stored jobs through the library: what the program prints for each, one after another. The file `jobs` has for each job its length in
-// decimal digits, a line feed, and its bytes. What must be written comes from an independent implementation.
+// Stored jobs through the library: the report of each, or the line of its refusal, one after another. The file `jobs` has for each job its
+// length, a blank, the size of the buffer that is lent for its report, a line feed, and its bytes. What must be written comes from an
+// independent implementation.
 use libc::STDOUT_FILENO;
+use report::Reported;
 ghost use Prim.Native.Nat.{_≤_, _<_};
 ghost use lib.ListN.{length};
-
-// The bytes of a job, from `start` to before `end`.
-struct Span {
-    start: usize,
-    end: usize,
-}
 
 // The value of a digit, and 10 for another byte.
 fn digit(b: u8) -> usize
@@ -29,34 +25,76 @@ fn least(a: usize, b: usize) -> usize
     if a < b { a } else { b }
 }
 
-fn next_job(jobs: &[u8], from: usize) -> Span
-    requires { ⌜ from < length (now jobs) ⌝ }
-    ensures { λ r. ⌜ (from < r .start) × (r .start ≤ r .end) × (r .end ≤ length (now (jobs .entry))) ⌝ }
-{
-    let mut size = 0;
-    let mut at = from;
-    while at + 1 < jobs.len() && digit(jobs[at]) < 10 {
-        size = least(size * 10 + digit(jobs[at]), 65536);
-        at += 1;
-    }
-    let start = at + 1;
-    let end = start + least(size, jobs.len() - start);
-    Span { start, end }
+// A number of the file, at most 65,536, and the place after the byte that ends it.
+struct Number {
+    value: usize,
+    next: usize,
 }
 
-fn print_job(text: &[u8]) {
+fn number_at(jobs: &[u8], from: usize) -> Number
+    requires { ⌜ from ≤ length (now jobs) ⌝ }
+    ensures { λ r. ⌜ (from ≤ r .next) × (r .next ≤ length (now (jobs .entry))) × (from < length (now (jobs .entry)) → from < r .next) ⌝ }
+{
+    let mut value = 0;
+    let mut at = from;
+    while at < jobs.len() {
+        let d = digit(jobs[at]);
+        at += 1;
+        if 9 < d {
+            return Number { value, next: at };
+        }
+        value = least(value * 10 + d, 65536);
+    }
+    Number { value, next: at }
+}
+
+// A job: its bytes stand from `start` to before `end`, and its report has a buffer of `size` bytes.
+struct Stored {
+    size: usize,
+    start: usize,
+    end: usize,
+}
+
+fn next_job(jobs: &[u8], from: usize) -> Stored
+    requires { ⌜ from < length (now jobs) ⌝ }
+    ensures { λ r. ⌜ (from < r .start) × (r .start ≤ r .end) × (r .end ≤ length (now (jobs .entry))) × (r .size ≤ 2048) ⌝ }
+{
+    let length = number_at(jobs, from);
+    let size = number_at(jobs, length.next);
+    let start = size.next;
+    Stored {
+        size: least(size.value, 2048),
+        start,
+        end: start + least(length.value, jobs.len() - start),
+    }
+}
+
+fn printed(text: &[u8], size: usize, out: &mut [u8]) -> usize
+    requires { ⌜ (size ≤ length (now out)) × (44 ≤ length (now out)) ⌝ }
+    ensures { λ r. ⌜ r ≤ length (now (out .entry)) ⌝ }
+{
+    let done = report::report(text, &mut out[..size]);
+    match done {
+        Reported::Written(length) => length,
+        Reported::Refused(number, line) => text::put_refusal(out, number, line),
+    }
+}
+
+fn print_job(text: &[u8], size: usize)
+    requires { ⌜ size ≤ 2048 ⌝ }
+{
     let mut out = [0u8; 2048];
-    let length = report::answer(text, &mut out);
+    let length = printed(text, size, &mut out);
     io::write_all(STDOUT_FILENO, &out[..length]);
 }
 
 fn print_jobs(jobs: &[u8]) {
     let mut at = 0;
     while at < jobs.len() {
-        let span = next_job(jobs, at);
-        let start = span.start;
-        let end = span.end;
-        print_job(&jobs[start..end]);
+        let job = next_job(jobs, at);
+        let start = job.start;
+        let end = job.end;
+        print_job(&jobs[start..end], job.size);
         at = end;
     }
 }

@@ -1,15 +1,14 @@
 -- `axes::main` is safe: what is printed lies within the buffer.
 use mathlib.Core.Path.{sym}
 use native.Mathlib.Omega.{arith}
-use lib.Seq.{length-take-le}
 use borrow.Author.Needs.{needs}
+use lib.Seq.{length-take-le}
+use Rattle.text.specs.Put.{same-size}
 use Rattle.axes.proofs.main.Statement.{statement}
 use Rattle.axes.proofs.main.Tie as tie
 
-slice-aggregate-write-all : tie.Need-slice-aggregate-write-all
-slice-aggregate-write-all c =
-    let a = c .before .before .answer in
-    sym (length-take-le (a .result) (a .last .1 .0) (omega (arith, a .ensures .within, a .kept)))
+within : tie.Need-array-share-prefix-out
+within c = omega (arith, same-size (c .answer .ensures), c .answer .ensures .within)
 
 pub main-spec : {M : Type 1} → statement M
 main-spec =
@@ -19,9 +18,8 @@ main-spec =
     (λ c κs. search needs)
     (λ c. search needs)
     (λ c. search needs)
-    (λ c. search needs)
     (λ c κs. search needs)
-    (λ c. search needs)
-    slice-aggregate-write-all
+    within
+    (λ c. sym (length-take-le _ _ (within (c .before))))
     (λ c κs. search needs)
     (λ c. search needs))

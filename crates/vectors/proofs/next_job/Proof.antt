@@ -1,36 +1,25 @@
--- `vectors::next_job` meets its contract. The invariant: the place is within the file, and the size is at most 65,536.
-use Prim.Native.Nat.{_-_, _<_, _≤_}
+-- `vectors::next_job` meets its contract: the job's bytes stand after the two numbers, and within the file.
+use native.Mathlib.Omega.{arith}
 use borrow.Author.Needs.{needs}
-use lib.ListN.{length}
 use Rattle.vectors.proofs.next_job.Statement.{statement}
 use Rattle.vectors.proofs.next_job.Tie as tie
 
-abbrev Inv-loop : tie.InvT-loop
-Inv-loop jobs from size₀ at₀ size at = (from ≤ at) × (at < length jobs) × (size ≤ 65_536)
-
-abbrev μ-loop : tie.MeasureT-loop
-μ-loop jobs from size₀ at₀ size at = length jobs - at
+returns : tie.Need-returns
+returns c =
+    let size = c .before .before in
+    let length = size .before in
+    let start = length .before .before in
+    let after = length .number-at .ensures .2 (start .pre) in
+    (omega (arith, after, size .number-at2 .ensures), search needs, omega (arith, c .least2 .ensures .1, size .number-at2 .ensures .1), search needs)
 
 pub next-job-spec : {M : Type 1} → statement M
 next-job-spec =
     tie.close
     (tie.spec
-    Inv-loop
-    μ-loop
-    (λ c. search needs)
-    (λ c. search needs)
-    (λ c. search needs)
     (λ c κs. search needs)
-    (λ c. search needs)
-    (λ c. search needs)
+    (λ c κs. search needs)
     (λ c κs. search needs)
     (λ c. search needs)
     (λ c κs. search needs)
     (λ c. search needs)
-    (λ c. search needs)
-    (λ c. search needs)
-    (λ c. search needs)
-    (λ c. search needs)
-    (λ c κs. search needs)
-    (λ c. search needs)
-    (λ c. search needs))
+    returns)

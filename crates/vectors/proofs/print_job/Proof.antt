@@ -8,8 +8,8 @@ use Rattle.vectors.proofs.print_job.Tie as tie
 
 written : tie.Need-slice-aggregate-write-all
 written c =
-    let a = c .before .before .answer in
-    sym (length-take-le (a .result) (a .last .1 .0) (omega (arith, a .ensures .within, a .kept)))
+    let p = c .before .before .printed in
+    sym (length-take-le (p .result) (p .last .1 .1 .0) (omega (arith, p .ensures, p .kept)))
 
 pub print-job-spec : {M : Type 1} → statement M
 print-job-spec =
