@@ -1,12 +1,11 @@
 -- The answer and the buffer, of a refusal and of numbers that are written.
 use Prim.Native.Nat.{ℕ}
-use mathlib.Core.Path.{_≡_, ap, _∙_}
+use mathlib.Core.Path.{_≡_, ap}
 use mathlib.Core.List.{List}
-use native.Mathlib.Nat.{zero-add}
 use lib.IntN.{ℤ, pos, negℤ}
-use lib.ListN.{length}
 use borrow.Author.Tests.{eq-eqb, ne-eqb}
-use Rattle.field_axes.specs.Put.{Put, answered, lent}
+use Rattle.text.specs.Put.{Put, front-length}
+use Rattle.field_axes.specs.Answer.{answered, lent}
 
 module _ (refusal : ℕ) (numbers entry : List ℤ) where
   pub refused-answer : (number : ℕ) → number ≡ refusal → (number ≡ 0 → ⊥) → negℤ (pos number) ≡ answered refusal numbers
@@ -20,8 +19,8 @@ module _ (refusal : ℕ) (numbers entry : List ℤ) where
   module _ {exit : List ℤ} {r : ℕ} (e : refusal ≡ 0) (p : Put numbers 0 entry exit r) where
     pub written-answer : pos r ≡ answered refusal numbers
     unfolding answered
-    written-answer = rw (eq-eqb refusal 0 e) (ap pos (p .answer ∙ zero-add (length numbers)))
+    written-answer = rw (eq-eqb refusal 0 e) (ap pos (front-length p))
 
     pub written-buffer : exit ≡ lent refusal numbers entry
     unfolding lent
-    written-buffer = rw (eq-eqb refusal 0 e) (p .stand)
+    written-buffer = rw (eq-eqb refusal 0 e) (p .bytes)

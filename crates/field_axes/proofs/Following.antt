@@ -10,7 +10,7 @@ use lib.ListN.{length, take}
 use Rattle.ledger.specs.Call.{axis}
 use Rattle.record.specs.Record.{answerOf, axisOf}
 use Rattle.record.specs.declared.Record.{Record}
-use Rattle.field_axes.specs.Put.{Put, put-then, same-size}
+use Rattle.text.specs.Put.{Put, put-then, same-size}
 use Rattle.field_axes.specs.Solution.{axes, axisNumbers, axisValues}
 use Rattle.field_axes.specs.Solvable.{length-axes}
 

@@ -5,7 +5,7 @@ use Prim.Native.Nat.{ℕ}
 use lib.IntN.{ℤ}
 use lib.ListN.{length}
 use Rattle.report.specs.Report.{bufferOf, reportedOf}
-use Rattle.field_axes.specs.Put.{answered, lent}
+use Rattle.field_axes.specs.Answer.{answered, lent}
 use Rattle.field_axes.specs.Report.{lengthOrNumber, refusedLine}
 use Rattle.field_axes.specs.Solution.{solutionOf, solveRefusal}
 use Rattle.field_axes.specs.Table.{tableNumbersOf, tableRefusal}

@@ -1,4 +1,4 @@
-pub mod Put
+pub mod Answer
 pub mod Solution
 pub mod Solvable
 pub mod Table

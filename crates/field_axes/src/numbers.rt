@@ -3,7 +3,7 @@ ghost use mathlib.Core.Path.{_≡_};
 ghost use Prim.Native.Nat.{_+_, _≤_};
 ghost use lib.IntN.{pos, negℤ};
 ghost use lib.ListN.{length};
-ghost use Rattle.field_axes.specs.Put.{Put};
+ghost use Rattle.text.specs.Put.{Put};
 
 pub fn refused(number: u32) -> i64
     ensures { λ r. ⌜ r ≡ negℤ (pos number) ⌝ }

@@ -8,7 +8,7 @@ ghost use Prim.Native.Nat.{_+_, _*_, _≤_};
 ghost use lib.IntN.{pos};
 ghost use lib.ListN.{length};
 ghost use Rattle.record.specs.Kept.{Kept};
-ghost use Rattle.field_axes.specs.Put.{Put};
+ghost use Rattle.text.specs.Put.{Put};
 ghost use Rattle.field_axes.specs.Solution.{ErrorFits, axes, axisValues, outcomeNumber, solutionOf, solveRefusal};
 ghost use Rattle.field_axes.specs.Solvable.{Solvable};
 

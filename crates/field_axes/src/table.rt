@@ -2,7 +2,7 @@
 use crate::numbers;
 ghost use mathlib.Core.Path.{_≡_};
 ghost use lib.ListN.{length};
-ghost use Rattle.field_axes.specs.Put.{Put};
+ghost use Rattle.text.specs.Put.{Put};
 ghost use Rattle.field_axes.specs.Readable.{Readable};
 ghost use Rattle.field_axes.specs.Table.{allWithin, tableNumbersOf, tableRefusal};
 

@@ -1,12 +1,13 @@
--- What a writer does to a lent buffer: the text stands from the place on that it was given, every other byte stays, and the answer is the
--- place after the text.
-use Prim.Native.Nat.{ℕ, _+_, _-_, _≤_}
+-- What a writer does to a lent buffer, of bytes or of numbers: what it writes stands from the place on that it was given, everything else stays,
+-- and the answer is the place after what was written.
+use Prim.Native.Nat.{ℕ, _+_, _-_, _<_, _≤_}
 use mathlib.Core.Path.{_≡_, sym, _∙_}
 use mathlib.Core.List.{List, [], _++_, append-assoc, append-nil}
 use native.Mathlib.Nat.{zero-add, add-assoc, add-zero}
+use native.Mathlib.Numerals.{add-one}
 use native.Mathlib.Omega.{arith}
-use lib.ListN.{length, take, drop, length-append, length-drop, take-append-drop, drop-of-length-le}
-use lib.Seq.{take-at, drop-at, drop-drop, length-take-le, take-all}
+use lib.ListN.{length, take, drop, set, getD, length-append, length-drop, take-append-drop, drop-of-length-le}
+use lib.Seq.{take-at, drop-at, drop-drop, length-take-le, take-all, take-length, paste, paste-suc}
 
 -- The length of a text, known before its first byte is written, and what it is at most.
 pub record Sized (text : List ℕ) (most r : ℕ) : Type 0 where
@@ -14,15 +15,15 @@ pub record Sized (text : List ℕ) (most r : ℕ) : Type 0 where
   pub bounded : r ≤ most
 
 -- At the place 0 the exit is text ++ drop (length text) entry.
-pub record Put (text : List ℕ) (at : ℕ) (entry exit : List ℕ) (r : ℕ) : Type 0 where
+pub record Put {X : Type 0} (text : List X) (at : ℕ) (entry exit : List X) (r : ℕ) : Type 0 where
   pub bytes : exit ≡ take at entry ++ (text ++ drop (length text) (drop at entry))
   pub answer : r ≡ at + length text
   pub within : r ≤ length entry
 
-pub put-nothing : (at : ℕ) (entry : List ℕ) → at ≤ length entry → Put [] at entry entry at
+pub put-nothing : {X : Type 0} (at : ℕ) (entry : List X) → at ≤ length entry → Put [] at entry entry at
 put-nothing at entry h = record { bytes = sym (take-append-drop at entry); answer = sym (add-zero at); within = h }
 
-module _ {t e x : List ℕ} {a r : ℕ} (p : Put t a e x r) where
+module _ {X : Type 0} {t e x : List X} {a r : ℕ} (p : Put t a e x r) where
   front : length (take a e ++ t) ≡ r
   front = rw (length-append, length-take-le a e (let w = p .within in let v = p .answer in omega arith)) (sym (p .answer))
 
@@ -40,7 +41,7 @@ module _ {t e x : List ℕ} {a r : ℕ} (p : Put t a e x r) where
   same-size = rw (split, length-append, front, length-drop) (let w = p .within in omega arith)
 
   -- A text that is written where the last one ended.
-  pub put-then : {u y : List ℕ} {s : ℕ} → Put u r x y s → Put (t ++ u) a e y s
+  pub put-then : {u y : List X} {s : ℕ} → Put u r x y s → Put (t ++ u) a e y s
   put-then {u} q = record {
     bytes = q .bytes ∙ rw (written, rest-stays) (simp (drop-drop, length-append, append-assoc, add-assoc, p .answer));
     answer = q .answer ∙ rw (p .answer, length-append, add-assoc);
@@ -57,7 +58,7 @@ module _ {t e x : List ℕ} {a r : ℕ} (p : Put t a e x r) where
   past = drop-of-length-le (drop r x) {i = length x - r} (rw length-drop (omega arith))
 
   -- A text that is written at the front of the part `&mut buf[r..]`, which comes back after what stands before it.
-  pub put-part : {u y : List ℕ} {s : ℕ} → Put u 0 (take (length x - r) (drop r x)) y s
+  pub put-part : {u y : List X} {s : ℕ} → Put u 0 (take (length x - r) (drop r x)) y s
       → Put (t ++ u) a e (take r x ++ (y ++ drop (length x - r) (drop r x))) (r + s)
   put-part {u} {y} {s} q = put-then (record {
     bytes = rw (past, append-nil, q .bytes, part);
@@ -66,5 +67,13 @@ module _ {t e x : List ℕ} {a r : ℕ} (p : Put t a e x r) where
   })
 
 -- A text at the front of a buffer.
-pub front-length : {t e x : List ℕ} {r : ℕ} → Put t 0 e x r → r ≡ length t
+pub front-length : {X : Type 0} {t e x : List X} {r : ℕ} → Put t 0 e x r → r ≡ length t
 front-length p = p .answer ∙ zero-add _
+
+-- Bytes or numbers that a loop writes one after the other: all of them, and one more.
+pub all-put : {X : Type 0} {t e x : List X} {at i : ℕ} → x ≡ paste e at t i → i ≡ length t → at + i ≤ length e → Put t at e x (at + i)
+all-put {t = t} {e} {x} {at} h i w = record { bytes = rw (h, i, take-length, append-assoc, drop-drop); answer = rw i; within = w }
+
+pub one-more : {X : Type 0} {x : List X} (e : List X) (at : ℕ) (t : List X) (i : ℕ) (d : X) → x ≡ paste e at t i → i < length t → at + length t ≤ length e
+    → set x (at + i) (getD t i d) ≡ paste e at t (i + 1)
+one-more e at t i d h k room = rw (h, add-one) (paste-suc e at t i d (omega arith) k)

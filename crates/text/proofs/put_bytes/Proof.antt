@@ -5,7 +5,7 @@ use lib.ListN.{length, length-set}
 use lib.Seq.{paste, paste-zero}
 use native.Mathlib.Omega.{arith}
 use borrow.Author.Needs.{needs}
-use Rattle.text.proofs.Writers.{bytes-put, bytes-more}
+use Rattle.text.specs.Put.{all-put, one-more}
 use Rattle.text.proofs.put_bytes.Statement.{statement}
 use Rattle.text.proofs.put_bytes.Tie as tie
 
@@ -23,12 +23,12 @@ loop-again c =
     let v = c .before .before .loop .inv in
     let a = c .before .before .before .args in (
       omega arith,
-      bytes-more (a .buf .now) (a .at) (a .text .now) _ (v .1) (c .before .loop-test .taken) (c .before .before .before .pre),
+      one-more (a .buf .now) (a .at) (a .text .now) _ 0 (v .1) (c .before .loop-test .taken) (c .before .before .before .pre),
       rw length-set (v .2),
     )
 
 returns : tie.Need-returns Inv-loop μ-loop
-returns c = bytes-put (c .before .loop .inv .1) (omega arith) (omega arith)
+returns c = all-put (c .before .loop .inv .1) (omega arith) (omega arith)
 
 pub put-bytes-spec : {M : Type 1} → statement M
 put-bytes-spec =

@@ -1,16 +1,15 @@
 -- `field_axes::numbers::put` meets its contract. The invariant: the first i values stand from the place on.
 use Prim.Native.Nat.{_-_, _≤_}
-use mathlib.Core.Path.{_≡_, refl, _∙_}
-use mathlib.Core.List.{append-assoc}
-use native.Mathlib.Numerals.{add-one}
+use mathlib.Core.Path.{_≡_, refl}
 use native.Mathlib.Omega.{arith}
 use lib.IntN.{pos}
-use lib.ListN.{length, getD, take, length-set}
-use lib.Seq.{drop-drop, paste, paste-suc, paste-zero, take-length}
+use lib.ListN.{length, getD, length-set}
+use lib.Seq.{paste, paste-zero}
 use mir.Syntax.{w64}
 use mir.Val.{SFits}
 use mir.Facts.{toZ-ofZ}
 use borrow.Author.Needs.{needs}
+use Rattle.text.specs.Put.{all-put, one-more}
 use Rattle.field_axes.proofs.numbers.put.Statement.{statement}
 use Rattle.field_axes.proofs.numbers.put.Tie as tie
 
@@ -29,20 +28,12 @@ loop-again c =
     let a = c .before .before .before .args in
     let f : SFits w64 (getD (a .values .now) (l .i) (pos 0)) = search needs in (
       omega arith,
-      rw (toZ-ofZ f, l .inv .1, add-one) (paste-suc (a .out .now) (a .at) (a .values .now) (l .i) (pos 0) (omega arith) (c .before .loop-test .taken)),
+      rw (toZ-ofZ f) (one-more (a .out .now) (a .at) (a .values .now) (l .i) (pos 0) (l .inv .1) (c .before .loop-test .taken) (c .before .before .before .pre)),
       rw length-set (l .inv .2),
     )
 
 returns : tie.Need-returns Inv-loop μ-loop
-returns c =
-    let l = c .before .loop in
-    let a = c .before .before .args in
-    let e : l .i ≡ length (a .values .now) = omega arith in
-    record {
-      stand = l .inv .1 ∙ rw (e, take-length, ← drop-drop (length (a .values .now)) (a .at) (a .out .now)) (append-assoc (take (a .at) (a .out .now)) (a .values .now) _);
-      answer = rw e;
-      within = omega arith;
-    }
+returns c = all-put (c .before .loop .inv .1) (omega arith) (omega arith)
 
 pub put-spec : {M : Type 1} → statement M
 put-spec =

@@ -5,7 +5,7 @@ use native.Mathlib.Omega.{arith}
 use lib.ListN.{length, take}
 use lib.Seq.{length-take-le}
 use borrow.Author.Needs.{needs}
-use Rattle.field_axes.specs.Put.{Put, put-none, same-size}
+use Rattle.text.specs.Put.{Put, put-nothing, same-size}
 use Rattle.field_axes.specs.Solution.{axes}
 use Rattle.field_axes.specs.Solvable.{error-fits, length-row, length-values}
 use Rattle.field_axes.proofs.Following.{axis-more, room}
@@ -20,7 +20,7 @@ abbrev μ-loop : tie.MeasureT-loop
 
 loop-holds : tie.Need-loop-holds Inv-loop μ-loop
 unfolding axes
-loop-holds c = (omega arith, put-none (c .args .at) (c .args .out .now) (omega arith))
+loop-holds c = (omega arith, put-nothing (c .args .at) (c .args .out .now) (omega arith))
 
 axis-values-requires : tie.Need-axis-values-requires Inv-loop μ-loop
 axis-values-requires c κs = rw (c .before .before .axis .ensures .answers) (error-fits _ (c .before .before .before .before .before .pre .1) _)

@@ -10,7 +10,7 @@ use mir.Facts.{toZ-ofZ, toZ-pos}
 use borrow.Author.Needs.{needs}
 use Rattle.integer.specs.Word.{held}
 use Rattle.run.specs.Course.{run-ends}
-use Rattle.field_axes.specs.Put.{put-then, same-size}
+use Rattle.text.specs.Put.{put-then, same-size}
 use Rattle.field_axes.specs.Solution.{outcomeNumber, solution, solutionOf}
 use Rattle.field_axes.specs.Solvable.{channels}
 use Rattle.field_axes.proofs.solve.put_solution.Statement.{statement}

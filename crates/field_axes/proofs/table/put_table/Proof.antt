@@ -6,7 +6,7 @@ use lib.ListN.{length, take}
 use mir.Syntax.{w64}
 use mir.Facts.{toZ-pos}
 use borrow.Author.Needs.{needs}
-use Rattle.field_axes.specs.Put.{put-then, same-size}
+use Rattle.text.specs.Put.{put-then, same-size}
 use Rattle.field_axes.specs.Readable.{entries-used, length-entries, length-scatter, scatter-used, square-small}
 use Rattle.field_axes.specs.Table.{tableNumbers, tableNumbersOf}
 use Rattle.field_axes.proofs.table.put_table.Statement.{statement}
