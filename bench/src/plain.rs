@@ -1,5 +1,7 @@
 //! The same method in plain Rust with 64-bit numbers: the baseline. Nothing here is proved.
 
+pub mod job;
+
 type Rows = [[i64; 8]; 8];
 
 const THRESHOLDS: [i64; 14] = [
