@@ -4,4 +4,5 @@ mod Lines
 mod Playing
 mod Printing
 mod Stepping
-pub mod Whole
+mod Whole
+mod Passing

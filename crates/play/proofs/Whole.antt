@@ -76,15 +76,23 @@ module _ (text : List ℕ) (r : Record) (at k : ℕ) where
   goes (part ∷ []) q = last (eqb (length part) 0)
   goes (line ∷ part ∷ parts) q = called line part parts q (callOf line)
 
--- The line after one that was played on the record which the lines before it left.
+-- z is the step at a place of the text.
 module _ (text : List ℕ) (r : Record) (at k : ℕ) (z : Stepped) (e : z ≡ stepped r k at (split 10 (drop at text))) where
-  pub then-prints : z .more ≡ true → playedFrom r k (split 10 (drop at text)) ≡ printedBy z ++ playedFrom (z .next) (k + 1) (split 10 (drop (z .at) text))
-  unfolding printedBy
-  then-prints more = rw (← e, more) at (goes text r at k (split 10 (drop at text)) refl)
+  pub prints : playedFrom r k (split 10 (drop at text)) ≡ printedBy z ++ cond (z .more) (playedFrom (z .next) (k + 1) (split 10 (drop (z .at) text))) []
+  prints = rw (← e) at (goes text r at k (split 10 (drop at text)) refl)
 
-  pub further : Kept (z .next) → Reached text r at k → z .more ≡ true → Reached text (z .next) (z .at) (k + 1)
+  pub prints-more : z .more ≡ true → playedFrom r k (split 10 (drop at text)) ≡ printedBy z ++ playedFrom (z .next) (k + 1) (split 10 (drop (z .at) text))
+  unfolding printedBy
+  prints-more more = prints ∙ rw more
+
+  pub prints-last : z .more ≡ false → playedFrom r k (split 10 (drop at text)) ≡ printedBy z
+  unfolding printedBy
+  prints-last last = prints ∙ rw last (append-nil _)
+
+  -- The next line is played on the record that this one leaves.
+  unfoldable pub further : Kept (z .next) → Reached text r at k → z .more ≡ true → Reached text (z .next) (z .at) (k + 1)
   further keeps here more = record {
     before = here .before ++ printedBy z;
-    is = here .is ∙ rw (then-prints more, append-assoc);
+    is = here .is ∙ rw (prints-more more, append-assoc);
     keeps = keeps;
   }

@@ -5,5 +5,6 @@ pub mod Parts
 pub mod Played
 pub mod Answers
 pub mod Text
+pub mod Buffer
 pub mod Steps
 pub mod Examples

@@ -9,7 +9,7 @@ use lib.ListN.{drop, length, take}
 use Rattle.job.specs.Text.{split}
 use Rattle.ledger.specs.Call.{Call}
 use Rattle.record.specs.Kept.{Kept}
-use Rattle.record.specs.Record.{afterOf}
+use Rattle.record.specs.Record.{afterOf, fresh}
 use Rattle.record.specs.declared.Record.{Record}
 use Rattle.play.specs.Answers.{answerLine, linePrinted}
 use Rattle.play.specs.Calls.{callOf}
@@ -40,6 +40,11 @@ pub record Reached (text : List ℕ) (r : Record) (at k : ℕ) : Type 0 where
   pub before : List ℕ
   pub is : played text ≡ before ++ playedFrom r k (split 10 (drop at text))
   pub keeps : Kept r
+
+-- the text's start, with a fresh record
+unfoldable pub start : (text : List ℕ) {r : Record} → r ≡ fresh → Kept r → Reached text r 0 1
+unfolding played
+start text e keeps = record { before = []; is = rw e; keeps = keeps }
 
 -- what a step ensures: line k, at a place of the text
 pub record Steps (r : Record) (text : List ℕ) (at k : ℕ) (z : Stepped) : Type 0 where

@@ -3,6 +3,7 @@ mod answer;
 mod field;
 mod find;
 mod line;
+mod passes;
 mod played;
 
 use answer::Printed;
@@ -11,9 +12,12 @@ use answer::nothing;
 use answer::one_number;
 use find::find;
 use line::line_of;
+use passes::fits;
+use passes::put_played;
 use played::play_line;
 use record::Record;
 ghost use Rattle.play.specs.Answers.{Prints};
+ghost use Rattle.play.specs.Buffer.{PlaysAll};
 ghost use Rattle.play.specs.Steps.{Reached, Steps};
 ghost use Rattle.play.specs.Text.{unknownLine};
 
@@ -70,4 +74,21 @@ pub fn step(r: Record, text: &[u8], at: usize, k: u64) -> Stepped
         next,
         line: answer_line(played),
     }
+}
+
+// The length of what was written, or that the buffer is too short.
+pub enum Output {
+    Written(usize),
+    TooShort,
+}
+
+// Plays a whole text of calls on a fresh record, and writes what it prints into the buffer. That it fits is known before the first byte is
+// written, so a buffer that is too short stays as it is.
+pub fn play(text: &[u8], buf: &mut [u8]) -> Output
+    ensures { λ r. ⌜ PlaysAll (now (text .entry)) (now (buf .entry)) (now (buf .exit)) r ⌝ }
+{
+    if !fits(text, buf.len()) {
+        return Output::TooShort;
+    }
+    Output::Written(put_played(text, buf))
 }

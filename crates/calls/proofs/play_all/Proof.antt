@@ -1,13 +1,11 @@
 -- `calls::play_all` plays each line on the record that the lines before it left, is safe, and ends: each line that it plays moves on in
 -- the text.
 use Prim.Native.Nat.{_+_, _-_, _≤_, _<_}
-use mathlib.Core.List.{[]}
 use lib.ListN.{length}
 use borrow.Author.Needs.{needs}
 use borrow.Author.Tests.{not-false}
 use native.Mathlib.Omega.{arith}
-use Rattle.play.specs.Steps.{Reached}
-use Rattle.play.specs.Text.{played}
+use Rattle.play.specs.Steps.{Reached, start}
 use Rattle.calls.proofs.play_all.Statement.{statement}
 use Rattle.calls.proofs.play_all.Tie as tie
 
@@ -18,12 +16,7 @@ abbrev μ-loop : tie.MeasureT-loop
 μ-loop text r₀ at₀ k₀ r at k = length text - at
 
 loop-holds : tie.Need-loop-holds Inv-loop μ-loop
-unfolding played
-loop-holds c = (
-  record { before = []; is = rw (c .new .ensures .is); keeps = c .new .ensures .keeps },
-  omega arith,
-  omega arith,
-)
+loop-holds c = (start _ (c .new .ensures .is) (c .new .ensures .keeps), omega arith, omega arith)
 
 -- where there is more, it starts later
 onward : (c : tie.After-next Inv-loop μ-loop)
