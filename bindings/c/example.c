@@ -1,4 +1,4 @@
-/* The axes of a matrix of two channels, then the report of a job. At the repository's root:
+/* The axes of a matrix of two channels, then the report of a job, and some calls. At the repository's root:
    rt staticlib field_axes && cc -o target/example bindings/c/example.c target/staticlib/libfield_axes.a && target/example */
 #include "field_axes.h"
 #include <stdio.h>
@@ -32,6 +32,16 @@ static int report(const char *job) {
     return 0;
 }
 
+static int play(const char *calls) {
+    uint8_t out[3 * FIELD_AXES_MOST_ANSWER_BYTES];
+    int64_t length = field_axes_calls((const uint8_t *)calls, strlen(calls), out, sizeof out);
+    if (length < 0)
+        return 1;
+    fwrite(out, 1, (size_t)length, stdout);
+    return 0;
+}
+
 int main(void) {
-    return solve() || report("P\t2\t1\t0\nS\t1\t0\t0\nS\t5\t1\t0\nS\t1\t5\t5\nE\t3\n");
+    return solve() || report("P\t2\t1\t0\nS\t1\t0\t0\nS\t5\t1\t0\nS\t1\t5\t5\nE\t3\n") ||
+           play("L\t2\t50\t25\t25\t50\nT\t1\t2\nA\t1\n");
 }

@@ -35,4 +35,11 @@ int64_t field_axes_report(const uint8_t *text, size_t text_length, uint8_t *out,
 
 #define FIELD_AXES_MOST_REPORT_BYTES 2048
 
+/* A text of calls, a line each, played on a fresh record. Into out: the answers, a line each and at most FIELD_AXES_MOST_ANSWER_BYTES bytes
+   each, up to that of the first line that is no call, with no 0 after them. Bytes past them stay. The answer is their length, or -12 for
+   a short buffer, which then stays. */
+int64_t field_axes_calls(const uint8_t *text, size_t text_length, uint8_t *out, size_t out_length);
+
+#define FIELD_AXES_MOST_ANSWER_BYTES 256
+
 #endif

@@ -1,6 +1,7 @@
 //! The static library against the reference on seeded random inputs, number for number and byte for byte. At the repository's root:
 //! `rt staticlib field_axes && cargo run --release --offline --manifest-path tests/Cargo.toml`
 
+mod calling;
 mod random;
 mod reporting;
 mod solving;
@@ -17,8 +18,9 @@ fn main() -> ExitCode {
         .nth(1)
         .map_or(SEED, |word| word.parse().expect("a seed is a number"));
     let mut failed = false;
-    let kinds: [(&str, fn(u64) -> Result<String, String>); 3] = [
+    let kinds: [(&str, fn(u64) -> Result<String, String>); 4] = [
         ("report", reporting::case),
+        ("calls", calling::case),
         ("solve", solving::case),
         ("table", tabulating::case),
     ];

@@ -1,8 +1,8 @@
-//! Three samples of two channels: their table and its axes, then their report as a job, and a job that is refused.
+//! Three samples of two channels: their table and its axes, then their report as a job, and a job that is refused; then some calls.
 //! At the repository's root:
 //! `rt staticlib field_axes && cargo run --release --offline --manifest-path bindings/rust/Cargo.toml --example solve`
 
-use field_axes::{report, solve, table, JobRefused, Refused};
+use field_axes::{calls, report, solve, table, JobRefused, Refused};
 
 fn main() {
     if let Err(Refused(number)) = show(2, &[1, 5, 1], &[0, 0, 1, 0, 5, 5]) {
@@ -17,6 +17,7 @@ fn main() {
             Err(JobRefused { number, line }) => println!("refused {number} at line {line}"),
         }
     }
+    print!("{}", calls(b"L\t2\t50\t25\t25\t50\nT\t1\t2\nA\t1\n"));
 }
 
 fn show(n: usize, dilutions: &[u64], counts: &[u64]) -> Result<(), Refused> {

@@ -33,6 +33,13 @@ mod raw {
             out_length: usize,
             line: *mut usize,
         ) -> i64;
+
+        pub fn field_axes_calls(
+            text: *const u8,
+            text_length: usize,
+            out: *mut u8,
+            out_length: usize,
+        ) -> i64;
     }
 }
 
@@ -192,6 +199,24 @@ pub fn report_into(text: &[u8], out: &mut [u8]) -> Result<usize, JobRefused> {
         )
     };
     answer(length).map_err(|Refused(number)| JobRefused { number, line })
+}
+
+/// The most bytes that the answer to a call has.
+pub const MOST_ANSWER_BYTES: usize = 256;
+
+/// The answers to a text of calls, a line each, played on a fresh record. They end with the first line that is no call.
+pub fn calls(text: &[u8]) -> String {
+    let lines = text.iter().filter(|&&byte| byte == b'\n').count() + 1;
+    let mut out = vec![0; lines * MOST_ANSWER_BYTES];
+    let length = calls_into(text, &mut out).expect("room for every answer");
+    out[..length].iter().copied().map(char::from).collect()
+}
+
+/// The same at the front of `out`; its other bytes stay. The answer is their length. Refused 12 where `out` is too short; it then stays
+/// as it was.
+pub fn calls_into(text: &[u8], out: &mut [u8]) -> Result<usize, Refused> {
+    // Safe: both slices are whole, and borrowed for the call; the function has no other requirement.
+    answer(unsafe { raw::field_axes_calls(text.as_ptr(), text.len(), out.as_mut_ptr(), out.len()) })
 }
 
 /// A count, or a refusal's number negated.

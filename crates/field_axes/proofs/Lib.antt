@@ -4,3 +4,4 @@ mod Answered
 mod Within
 mod Refusals
 mod Reporting
+mod Playing

@@ -4,8 +4,10 @@ use mathlib.Core.List.{List}
 use Prim.Native.Nat.{ℕ}
 use lib.IntN.{ℤ}
 use lib.ListN.{length}
+use Rattle.play.specs.Buffer as played
 use Rattle.report.specs.Report.{bufferOf, reportedOf}
 use Rattle.field_axes.specs.Answer.{answered, lent}
+use Rattle.field_axes.specs.Calls.{lengthOrShort}
 use Rattle.field_axes.specs.Report.{lengthOrNumber, refusedLine}
 use Rattle.field_axes.specs.Solution.{solutionOf, solveRefusal}
 use Rattle.field_axes.specs.Table.{tableNumbersOf, tableRefusal}
@@ -22,3 +24,7 @@ pub record ReportsText (text entry exit : List ℕ) (at : ℕ) (r : ℤ) : Type 
   pub answer : r ≡ lengthOrNumber (reportedOf text (length entry))
   pub line : at ≡ refusedLine (reportedOf text (length entry))
   pub buffer : exit ≡ bufferOf text entry
+
+pub record PlaysText (text entry exit : List ℕ) (r : ℤ) : Type 0 where
+  pub answer : r ≡ lengthOrShort (played.outputOf text (length entry))
+  pub buffer : exit ≡ played.bufferOf text entry

@@ -4,4 +4,5 @@ pub mod Solvable
 pub mod Table
 pub mod Readable
 pub mod Report
+pub mod Calls
 pub mod Done

@@ -3,8 +3,9 @@ mod numbers;
 mod solve;
 mod table;
 
+use play::Output;
 use report::Reported;
-ghost use Rattle.field_axes.specs.Done.{ReportsText, Solves, Tabulates};
+ghost use Rattle.field_axes.specs.Done.{PlaysText, ReportsText, Solves, Tabulates};
 
 // A run on n×n numbers, row after row, and its axes. Into `out`: the outcome (0 settled, 1 still, 2 spent), the sweeps run, m, then for
 // each axis a_ii, r_i and the n numbers of its row. The answer is how many numbers these are, or the refusal's number negated.
@@ -59,5 +60,18 @@ pub extern "C" fn field_axes_report(text: &[u8], out: &mut [u8], line: &mut usiz
             *line = at;
             numbers::refused(number as u32)
         }
+    }
+}
+
+// A text of calls, a line each, played on a fresh record. Into `out`: an answer a line. The answer is their length, or 12 negated where the
+// buffer is too short.
+#[no_mangle]
+pub extern "C" fn field_axes_calls(text: &[u8], out: &mut [u8]) -> i64
+    ensures { λ r. ⌜ PlaysText (now (text .entry)) (now (out .entry)) (now (out .exit)) r ⌝ }
+{
+    let done = play::play(text, out);
+    match done {
+        Output::Written(length) => length as i64,
+        Output::TooShort => -12,
     }
 }
