@@ -1,5 +1,5 @@
 -- Document 01, 'Bench cards': the twelve cards, one statement about the definitions.
-use Prim.Native.Nat.{ℕ, _*_, _^_, _≤_}
+use Prim.Native.Nat.{ℕ, _^_, _≤_}
 use mathlib.Core.Path.{_≡_}
 use mathlib.Core.List.{List, [], _∷_}
 use lib.IntN.{ℤ, pos}

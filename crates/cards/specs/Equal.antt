@@ -1,29 +1,25 @@
 -- Equal samples: every S is 0, and a run on a table of zeros is settled before its first sweep.
 use Prim.Native.Nat.{ℕ, zero, suc, _+_, _-_, _*_, _/_, _%_, _^_, _<_, _≤_}
-use mathlib.Core.Path.{_≡_, refl, sym, ap, _∙_}
-use mathlib.Core.Bool.{Bool, true, false, cond}
-use mathlib.Core.List.{List, [], _∷_, map}
-use mathlib.Core.Logic.{_⊎_, inl, inr}
-use native.Mathlib.Decide.{decLt}
+use mathlib.Core.Path.{_≡_, refl, sym, _∙_}
+use mathlib.Core.Bool.{false}
+use mathlib.Core.List.{List, map}
+use mathlib.Core.Logic.{inl, inr}
 use native.Mathlib.Nat.{mul-assoc, mul-mul-mul-comm, suc-mul, zero-mul}
 use native.Mathlib.Omega.{arith}
 use borrow.Author.Tests.{eq-eqb}
-use lib.IntN.{ℤ, pos, natAbs, _-ℤ_, _*ℤ_, +ℤ-invr, *ℤ-zero}
-use lib.ListN.{length, getD, replicate, length-replicate, getD-replicate, List·getD-eq-default}
+use lib.IntN.{ℤ, pos, +ℤ-invr, *ℤ-zero}
+use lib.ListN.{getD, replicate, length-replicate}
 use lib.Pow.{pow-pos}
-use lib.Seq.{ext-getD}
 use Rattle.ledger.specs.Accepted.{Loads}
 use Rattle.ledger.specs.Call.{load, loosePair}
 use Rattle.ledger.specs.Refusal.{matrixOf, refusalOf}
 use Rattle.limits.specs.Limits.{toleranceLimit, units}
 use Rattle.record.specs.Fill.{kept-flatOf}
-use Rattle.record.specs.Flat.{kept, flatOf}
+use Rattle.record.specs.Flat.{kept}
 use Rattle.record.specs.Loose.{PairOrNone, loose-holds}
-use Rattle.record.specs.Record.{acceptedOf, afterOf, answerOf, fresh, inUse, loadedOf, looseOf, valueOf}
+use Rattle.record.specs.Record.{acceptedOf, afterOf, answerOf, fresh, loadedOf, looseOf, valueOf}
 use Rattle.record.specs.Turning.{inUse-inside}
-use Rattle.record.specs.declared.Answer.{Answer}
-use Rattle.record.specs.declared.Answer.the-variants.{NoPair, Pair}
-use Rattle.record.specs.declared.Record.{Record}
+use Rattle.record.specs.declared.Answer.the-variants.{NoPair}
 use Rattle.ledger.specs.Pairs.{cyclic}
 use Rattle.rounding.specs.Rounding.{rnd}
 use Rattle.run.specs.Accepted.{after-accepted, load-accepted, loose-pair-accepted}
@@ -34,7 +30,7 @@ use Rattle.scatter.specs.Entries.{rnd-zero}
 use Rattle.scatter.specs.Samples.{Sample, z, sum, sumsOf}
 use Rattle.scatter.specs.Sums.{scatter-of-samples}
 use Rattle.scatter.specs.Table.{scatter, shift, entries}
-use Rattle.scatter.specs.Tabulate.{tabulate, length-tabulate, tabulate-all}
+use Rattle.scatter.specs.Tabulate.{tabulate}
 
 abbrev pub zeros : ℕ → List ℤ
 zeros n = replicate (n * n) (pos 0)

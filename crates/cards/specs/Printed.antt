@@ -1,14 +1,14 @@
 -- Document 01's printed report: what the program prints for the printed job, byte by byte. Tabs for blanks in the comments.
-use Prim.Native.Nat.{ℕ, suc, _*_}
+use Prim.Native.Nat.{ℕ}
 use mathlib.Core.Path.{_≡_, refl, ap, _∙_}
-use mathlib.Core.List.{List, [], _∷_, _++_, map}
-use lib.IntN.{ℤ, pos, negsuc}
-use lib.ListN.{length, take}
+use mathlib.Core.List.{List, [], _∷_, _++_}
+use lib.IntN.{pos}
+use lib.ListN.{take}
 use Rattle.job.specs.Job.{Job, accepted, withSample, nextLine, nothing, ended, judged, after, begun, jobOfLines, jobOf}
 use Rattle.job.specs.Range.{within, allWithin, parametersInRange, sampleInRange}
 use Rattle.job.specs.Text.{onto, split, leadingZero, valueFrom, numberOf, before, numbersOf, isTag, recordOf, lineOf}
-use Rattle.limits.specs.Limits.{entryLimit}
-use Rattle.report.specs.Report.{outcomeWord, tableFor, runFor, lineR, axisValues, lineA, linesA, reportOf, printedBy, printedOf}
+use Rattle.job_table.specs.Held.{sumsFor, tableFor}
+use Rattle.report.specs.Report.{outcomeWord, runFor, lineR, axisValues, lineA, linesA, reportOf, printedBy, printedOf}
 use Rattle.rounding.specs.Rounding.{rnd}
 use Rattle.run.specs.Cards as running
 use Rattle.scatter.specs.Samples.{samples, sampleAt, sumsOf, sumsAt, sum, products, z}
@@ -63,7 +63,7 @@ unfolding jobOf split onto allWithin leadingZero valueFrom numberOf before numbe
 read = refl
 
 table : (tableFor job .e ≡ 0) × (take 4 (tableFor job .entries) ≡ running.two (pos 50) (pos 25) (pos 50))
-unfolding tableFor tableOf padded tabulate samples sampleAt sumsOf sumsAt sum products z S scatter largest smallest shift entries rnd
+unfolding tableFor sumsFor tableOf padded tabulate samples sampleAt sumsOf sumsAt sum products z S scatter largest smallest shift entries rnd
 table = (refl, refl)
 
 ran : runFor job ≡ running.three

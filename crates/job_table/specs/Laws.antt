@@ -1,37 +1,25 @@
 -- Laws of jobs: the ranges of a proper one, its readings, and that the job of an accepted text is held by its arrays.
 use Prim.Native.Nat.{ℕ, _*_, _≤_, _<_}
 use mathlib.Core.Path.{_≡_, refl, sym, ap, subst, _∙_}
-use mathlib.Core.Bool.{Bool, true, false, _&&_, false≢true}
+use mathlib.Core.Bool.{true}
 use mathlib.Core.List.{List}
 use native.Mathlib.Nat.{mul-comm, mul-le-mul}
 use native.Mathlib.Omega.{arith}
-use borrow.Author.Tests.{leb-true}
-use lib.Dec.{leb}
-use lib.ListN.{length, getD, take, length-append}
+use lib.ListN.{length, getD, length-append}
 use lib.Seq.{length-take-le}
 use Rattle.job.specs.Job.{Job, Answer, refused, accepted, jobOf}
 use Rattle.job.specs.Range.{within, allWithin, parametersInRange}
 use Rattle.job.specs.Reading.{padded, inArrays, readingOf}
 use Rattle.job.specs.Values.{Proper, inRange}
 use Rattle.job.specs.declared.Job as arrays
-use Rattle.job.specs.declared.Outcome.{Outcome}
-use Rattle.job.specs.declared.Outcome.the-variants.{Accepted, Refused}
+use Rattle.job.specs.declared.Outcome.the-variants.{Accepted}
 use Rattle.job.proofs.Accepted.{accepted-proper}
+use Rattle.job.proofs.Digits.{both, is-within}
 use Rattle.job.proofs.Padding.{padded-take, padded-at}
 use Rattle.scatter.specs.Bounds.{take-bound, readings-bounded, shift-bound}
 use Rattle.scatter.specs.Ranges.{Readings}
 use Rattle.scatter.specs.Table.{tableOf}
 use Rattle.job_table.specs.Held.{Held, jobIn, sumsFor, tableFor}
-
-both : (a b : Bool) → a && b ≡ true → (a ≡ true) × (b ≡ true)
-both true b e = (refl, e)
-both false b e = absurd (false≢true e)
-
-within-true : (low high x : ℕ) → within low high x ≡ true → (low ≤ x) × (x ≤ high)
-unfolding within
-within-true low high x e =
-    let b = both (leb low x) (leb x high) e in
-    (leb-true low x (b .0), leb-true x high (b .1))
 
 all-at : (low high : ℕ) (xs : List ℕ) → allWithin low high xs ≡ true → (i : ℕ) → getD xs i 0 ≤ high
 all-at low high xs p i =
@@ -45,12 +33,24 @@ module _ (j : Job) (p : Proper j) where
       let d = both _ _ (b .0) in
       (d .0, d .1, b .1)
 
-  pub channels : (2 ≤ j .n) × (j .n ≤ 8)
+  parameters : (within 2 8 (j .n) ≡ true) × (within 1 16 (j .limit) ≡ true) × (within 0 1048576 (j .tolerance) ≡ true)
   unfolding parametersInRange
-  channels = within-true 2 8 (j .n) (both _ _ (both _ _ (ranges .0) .0) .0)
+  parameters =
+      let b = both _ _ (ranges .0) in
+      let d = both _ _ (b .0) in
+      (d .0, d .1, b .1)
+
+  pub channels : (2 ≤ j .n) × (j .n ≤ 8)
+  channels = is-within 2 8 (j .n) (parameters .0)
+
+  pub limit-most : j .limit ≤ 16
+  limit-most = is-within 1 16 (j .limit) (parameters .1) .1
+
+  pub tolerance-most : j .tolerance ≤ 1048576
+  tolerance-most = is-within 0 1048576 (j .tolerance) (parameters .2) .1
 
   pub number : (2 ≤ length (j .dilutions)) × (length (j .dilutions) ≤ 256)
-  number = within-true 2 256 (length (j .dilutions)) (p .samples)
+  number = is-within 2 256 (length (j .dilutions)) (p .samples)
 
   pub readings : Readings (j .n) (j .dilutions) (j .counts)
   readings =

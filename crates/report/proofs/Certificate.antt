@@ -10,6 +10,8 @@ use Rattle.integer.specs.Matrix.{Matrix}
 use Rattle.job.proofs.Accepted.{accepted-proper}
 use Rattle.job.specs.Job.{Job, accepted}
 use Rattle.job.specs.Values.{Proper}
+use Rattle.job_table.specs.Held.{sumsFor, tableFor}
+use Rattle.job_table.specs.Laws.{channels, limit-most, tolerance-most}
 use Rattle.ledger.specs.Call.{load, loosePair, sweep}
 use Rattle.ledger.specs.Invariant.{turnPairs-continues}
 use Rattle.ledger.specs.Ledger as book
@@ -21,10 +23,8 @@ use Rattle.record.specs.Demand3.{AxisNear, Certifies}
 use Rattle.record.specs.Demand3proof.{demand-3}
 use Rattle.run.specs.Calls.{Allowed, AsCalls, callsOf, rounds, run-calls}
 use Rattle.run.specs.Table.{table-accepted}
-use Rattle.scatter.specs.Samples.{samples, sumsOf}
 use Rattle.report.specs.Certified.{AxisCertified, Certified, JobCertified, loadedFor}
-use Rattle.report.specs.Report.{axisValues, lineA, runFor, tableFor}
-use Rattle.report.proofs.Bounds.{channels, limit-most, tolerance-most}
+use Rattle.report.specs.Report.{axisValues, lineA, runFor}
 
 -- a ledger that has n channels and the given matrix
 record Has (n : ℕ) (A : Matrix) (g : Ledger) : Type 0 where
@@ -72,7 +72,7 @@ module _ (j : Job) (p : Proper j) where
   unfolding loadedFor tableFor
   allowed =
       record {
-        matrix = table-accepted (j .n) (sumsOf (samples (j .n) (j .dilutions) (j .counts))) (channels j p .0) (channels j p .1);
+        matrix = table-accepted (j .n) (sumsFor j) (channels j p .0) (channels j p .1);
         sweeps = limit-most j p;
         tolerance = tolerance-most j p;
       }

@@ -5,13 +5,14 @@ use mathlib.Core.List.{List, [], _∷_, _++_, map}
 use lib.IntN.{ℤ, pos}
 use lib.ListN.{length, take, getD}
 use Rattle.job.specs.Job.{Job}
+use Rattle.job_table.specs.Held.{tableFor}
 use Rattle.ledger.specs.Call.{axis}
 use Rattle.record.specs.Record.{answerOf, axisOf}
 use Rattle.record.specs.declared.Record.{Record}
 use Rattle.rotation.specs.Turn.{eight}
 use Rattle.run.specs.declared.Outcome.{Outcome}
 use Rattle.text.specs.Line.{numberLine, wordLine}
-use Rattle.report.specs.Report.{axisValues, outcomeWord, runFor, tableFor}
+use Rattle.report.specs.Report.{axisValues, outcomeWord, runFor}
 
 -- n, k, e, sweeps run and m
 unfoldable pub headOf : Job → List ℤ

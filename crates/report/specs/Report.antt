@@ -6,6 +6,7 @@ use lib.Dec.{leb}
 use lib.IntN.{ℤ, pos}
 use lib.ListN.{length, take, drop}
 use Rattle.job.specs.Job.{Job, Answer, refused, accepted, jobOf}
+use Rattle.job_table.specs.Held.{tableFor}
 use Rattle.ledger.specs.Call.{axis}
 use Rattle.record.specs.Record.{answerOf, axisOf}
 use Rattle.record.specs.declared.Answer as called
@@ -15,9 +16,6 @@ use Rattle.run.specs.Run.{runOf}
 use Rattle.run.specs.declared.Outcome.{Outcome}
 use Rattle.run.specs.declared.Outcome.the-variants.{Settled, Still, Spent}
 use Rattle.run.specs.declared.Ran.{Ran}
-use Rattle.scatter.specs.Samples.{samples, sumsOf}
-use Rattle.scatter.specs.Table.{tableOf}
-use Rattle.scatter.specs.declared.table.Table.{Table}
 use Rattle.text.specs.Line.{numberLine, wordLine, lineX}
 use Rattle.report.specs.declared.Reported.{Reported}
 use Rattle.report.specs.declared.Reported.the-variants.{Written, Refused}
@@ -28,10 +26,7 @@ outcomeWord Settled = 115 ∷ 101 ∷ 116 ∷ 116 ∷ 108 ∷ 101 ∷ 100 ∷ []
 outcomeWord Still = 115 ∷ 116 ∷ 105 ∷ 108 ∷ 108 ∷ []
 outcomeWord Spent = 115 ∷ 112 ∷ 101 ∷ 110 ∷ 116 ∷ []
 
--- The job's table, and its run
-unfoldable pub tableFor : Job → Table
-tableFor j = tableOf (j .n) (sumsOf (samples (j .n) (j .dilutions) (j .counts)))
-
+-- The run on the job's table
 unfoldable pub runFor : Job → Ran
 runFor j = runOf (j .n) (take (j .n * j .n) (tableFor j .entries)) (j .limit) (j .tolerance)
 

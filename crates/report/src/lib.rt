@@ -5,8 +5,9 @@ mod values;
 use job::Job;
 use run::Ran;
 ghost use Rattle.job.specs.Job.{accepted};
+ghost use Rattle.job_table.specs.Held.{Held, jobIn};
 ghost use Rattle.text.specs.Put.{Put};
-ghost use Rattle.report.specs.Done.{Answers, Held, Reports, Solves, jobIn};
+ghost use Rattle.report.specs.Done.{Answers, Reports, Solves};
 ghost use Rattle.report.specs.Report.{printedOf};
 
 // The report's length, or the refusal's number and the line.
@@ -26,11 +27,7 @@ fn solve(job: Job) -> Solved
     ensures { λ z. ⌜ Solves (jobIn job) z ⌝ }
 {
     let n = job.n;
-    let k = job.k;
-    let dilutions = job.dilutions;
-    let counts = job.counts;
-    let counted = k * n;
-    let table = scatter::table::table_of_readings(n, &dilutions[..k], &counts[..counted]);
+    let table = job_table::table_of(job);
     let entries = table.entries;
     let size = n * n;
     let ran = run::run(n, &entries[..size], job.limit, job.tolerance);

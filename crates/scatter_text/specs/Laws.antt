@@ -2,11 +2,10 @@
 use Prim.Native.Nat.{ℕ, _+_, _*_, _≤_, _<_}
 use mathlib.Core.Path.{_≡_, refl, sym, ap, _∙_}
 use mathlib.Core.List.{List, [], _∷_, _++_, map}
-use native.Mathlib.Nat.{zero-add}
 use native.Mathlib.Omega.{arith}
 use borrow.Author.Tests.{le-leb, lt-leb}
 use lib.IntN.{ℤ, pos}
-use lib.ListN.{length, take, drop}
+use lib.ListN.{length}
 use Rattle.job.specs.Job.{Job, Answer, refused, accepted, jobOf}
 use Rattle.job.specs.Reading.{readingOf}
 use Rattle.job.specs.declared.Outcome.the-variants as Outcome
@@ -17,9 +16,9 @@ use Rattle.scatter.specs.Entries.{padded-at, place-below, scatter-at}
 use Rattle.scatter.specs.Table.{scatter, tableOf}
 use Rattle.scatter.specs.declared.table.Table.{Table}
 use Rattle.text.specs.Put.{Put, front-length}
-use Rattle.scatter_text.specs.Done.{numberAt, textOf, Answers, Tables}
+use Rattle.scatter_text.specs.Done.{textOf, Answers, Tables}
 use Rattle.scatter_text.specs.Rows.{lines-ext}
-use Rattle.scatter_text.specs.Table.{lineT, linesS, tableText, tabledBy, tabledOf, bufferBy, bufferOf}
+use Rattle.scatter_text.specs.Table.{lineT, tableText, tabledBy, tabledOf, bufferBy, bufferOf}
 use Rattle.scatter_text.specs.declared.Tabled.{Tabled}
 use Rattle.scatter_text.specs.declared.Tabled.the-variants.{Written, Refused}
 

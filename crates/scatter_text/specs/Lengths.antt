@@ -1,24 +1,21 @@
--- What is printed is at most 2,048 bytes.
+-- The text of a table is at most 2,048 bytes.
 use Prim.Native.Nat.{ℕ, zero, suc, _+_, _*_, _^_, _<_, _≤_}
-use mathlib.Core.Path.{_≡_, refl}
-use mathlib.Core.List.{List, [], _∷_, _++_, map}
+use mathlib.Core.List.{List, [], _∷_, map}
 use native.Mathlib.Omega.{arith}
 use lib.IntN.{ℤ, pos, negsuc, natAbs}
 use lib.ListN.{length, getD, length-append}
 use lib.Signed.{mag}
-use Rattle.job.specs.Job.{Job, Answer, refused, accepted, jobOf}
+use Rattle.job.specs.Job.{Job}
 use Rattle.job.specs.Values.{Proper}
-use Rattle.job.proofs.Accepted.{accepted-proper}
 use Rattle.job_table.specs.Held.{sumsFor, tableFor}
 use Rattle.job_table.specs.Laws.{channels, number, readings, shift-few}
-use Rattle.job_table.specs.Refusals.{Refusal, refusal-few}
 use Rattle.scatter.specs.Bounds.{S-small, readings-bounded}
 use Rattle.scatter.specs.Table.{S, tableOf}
 use Rattle.scatter.specs.Tabulate.{tabulate, length-tabulate, tabulate-all}
 use Rattle.text.specs.Digits.{length-number}
 use Rattle.text.specs.Line.{further, numbers, numberLine}
 use Rattle.text.specs.Numbers.{length-number-line}
-use Rattle.scatter_text.specs.Table.{lineT, linesS, tableText, lineX, printedBy, printedOf}
+use Rattle.scatter_text.specs.Table.{lineT, linesS, tableText}
 
 -- Numbers that a signed word of 64 bits holds
 abbrev Words : List ℤ → Type 0
@@ -78,20 +75,3 @@ module _ (j : Job) (p : Proper j) where
   unfolding tableText tableFor tableOf
   table-few =
       rw length-append (omega (arith, first-few, rows-few (j .n) (j .n) (S (sumsFor j)) (channels j p .1) (channels j p .1) sums-small, channels j p .1))
-
-pub refusal-line-few : {number line : ℕ} → Refusal number line → length (lineX number line) ≤ 2048
-unfolding lineX
-refusal-line-few {number} {line} r = omega (arith, line-few 88 (map pos (number ∷ line ∷ [])) (naturals-few (number ∷ line ∷ []) small))
-  where
-    small : (i : ℕ) → getD (number ∷ line ∷ []) i 0 < 2 ^ 63
-    small zero = omega (arith, r .low)
-    small (suc zero) = omega (arith, r .early)
-    small (suc (suc i)) = omega arith
-
-pub printed-few : (text : List ℕ) → length (printedOf text) ≤ 2048
-unfolding printedOf
-printed-few text = by (jobOf text) refl
-  where
-    by : (a : Answer) → jobOf text ≡ a → length (printedBy a) ≤ 2048
-    by (refused number line) e = unfold printedBy in refusal-line-few (refusal-few text number line e)
-    by (accepted j) e = unfold printedBy in table-few j (accepted-proper text j e)

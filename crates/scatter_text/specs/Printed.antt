@@ -1,27 +1,25 @@
 -- In a buffer of 2,048 bytes the answer is never that it is too short: it is the text's length, or the job's refusal.
-use Prim.Native.Nat.{ℕ, _+_, _≤_}
+use Prim.Native.Nat.{ℕ, _≤_}
 use mathlib.Core.Path.{_≡_, refl, sym, ap, _∙_}
-use mathlib.Core.Bool.{cond, true}
-use mathlib.Core.List.{List, [], _∷_, _++_}
+use mathlib.Core.Bool.{true}
+use mathlib.Core.List.{List}
 use native.Mathlib.Nat.{zero-add}
 use native.Mathlib.Omega.{arith}
 use borrow.Author.Tests.{le-leb}
 use lib.Dec.{leb}
-use lib.ListN.{length, take, drop}
+use lib.ListN.{length}
 use Rattle.job.specs.Job.{Job, Answer, refused, accepted, jobOf}
 use Rattle.job.proofs.Accepted.{accepted-proper}
-use Rattle.job_table.specs.Refusals.{Refusal, refusal-few}
+use Rattle.text.specs.Line.{lineX}
 use Rattle.text.specs.Put.{Put}
 use Rattle.scatter_text.specs.Done.{Tables}
 use Rattle.scatter_text.specs.Lengths.{table-few}
-use Rattle.scatter_text.specs.Table.{lineX, tableText, tabledBy, tabledOf, bufferBy, bufferOf, printedBy, printedOf}
-use Rattle.scatter_text.specs.declared.Tabled.{Tabled}
+use Rattle.scatter_text.specs.Table.{tableText, tabledBy, tabledOf, bufferBy, bufferOf, printedBy, printedOf}
 use Rattle.scatter_text.specs.declared.Tabled.the-variants.{Written, Refused}
 
 -- What is printed after the answer `Refused`
 pub record Denied (text : List ℕ) (number line : ℕ) (entry exit : List ℕ) : Type 0 where
   pub stays : exit ≡ entry
-  pub refusal : Refusal number line
   pub is : printedOf text ≡ lineX number line
 
 module _ (text entry exit : List ℕ) (room : 2048 ≤ length entry) where
@@ -54,11 +52,7 @@ module _ (text entry exit : List ℕ) (room : 2048 ≤ length entry) where
           unfold tabledBy bufferBy printedBy in (
           let n : number ≡ m = cc in
           let i : line ≡ l = cc in
-          record {
-            stays = b;
-            refusal = rw (n, i) (refusal-few text m l q);
-            is = ap printedBy q ∙ rw (n, i);
-          })
+          record { stays = b; is = ap printedBy q ∙ rw (n, i) })
       by (accepted j) q e b =
           unfold tabledBy in (
           let w : Refused number line ≡ Written (length (tableText j)) = rw (fits j q) at e in

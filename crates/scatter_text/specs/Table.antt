@@ -1,15 +1,15 @@
 -- The text of a job's table, what a job text is answered with, and what the lent buffer then holds.
-use Prim.Native.Nat.{ℕ, zero, suc, _+_, _*_}
+use Prim.Native.Nat.{ℕ, zero, suc, _+_}
 use mathlib.Core.Bool.{cond}
 use mathlib.Core.List.{List, [], _∷_, _++_, map}
 use lib.Dec.{leb}
 use lib.IntN.{ℤ, pos}
-use lib.ListN.{length, drop, getD}
+use lib.ListN.{length, drop}
 use Rattle.job.specs.Job.{Job, Answer, refused, accepted, jobOf}
 use Rattle.job_table.specs.Held.{sumsFor}
 use Rattle.scatter.specs.Table.{S, scatter, shift}
 use Rattle.scatter.specs.Tabulate.{tabulate}
-use Rattle.text.specs.Line.{numberLine}
+use Rattle.text.specs.Line.{numberLine, lineX}
 use Rattle.scatter_text.specs.declared.Tabled.{Tabled}
 use Rattle.scatter_text.specs.declared.Tabled.the-variants.{Written, Refused}
 
@@ -44,10 +44,6 @@ bufferBy (accepted j) entry =
 
 unfoldable pub bufferOf : List ℕ → List ℕ → List ℕ
 bufferOf text entry = bufferBy (jobOf text) entry
-
--- `X`, refusal number, line number; 88 is `X`
-unfoldable pub lineX : ℕ → ℕ → List ℕ
-lineX number line = numberLine 88 (map pos (number ∷ line ∷ []))
 
 -- What the program prints
 unfoldable pub printedBy : Answer → List ℕ

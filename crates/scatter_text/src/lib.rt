@@ -2,15 +2,13 @@
 mod rows;
 
 use job::Job;
-ghost use mathlib.Core.Path.{_≡_};
 ghost use Prim.Native.Nat.{_≤_};
 ghost use lib.ListN.{length, take};
 ghost use Rattle.job.specs.Job.{accepted};
 ghost use Rattle.job_table.specs.Held.{Held, jobIn};
-ghost use Rattle.job_table.specs.Refusals.{Refusal};
 ghost use Rattle.text.specs.Put.{Put, Sized};
 ghost use Rattle.scatter_text.specs.Done.{Answers, Tables, textOf};
-ghost use Rattle.scatter_text.specs.Table.{lineX, printedOf};
+ghost use Rattle.scatter_text.specs.Table.{printedOf};
 
 // The text's length, or the refusal's number and the line.
 pub enum Tabled {
@@ -61,21 +59,13 @@ pub fn table_text(text: &[u8], buf: &mut [u8]) -> Tabled
     table_job(job, buf)
 }
 
-fn put_refusal(buf: &mut [u8], number: u8, line: usize) -> usize
-    requires { ⌜ Refusal number line × (2048 ≤ length (now buf)) ⌝ }
-    ensures { λ r. ⌜ Put (lineX number line) 0 (now (buf .entry)) (now (buf .exit)) r ⌝ }
-{
-    let values = [number as i64, line as i64];
-    text::put_line(buf, b'X', &values, 2)
-}
-
-// What the program prints, at the front of the buffer.
+// What the program prints, at the front of the buffer: the table's text, or the line of the refusal.
 pub fn answer(text: &[u8], out: &mut [u8; 2048]) -> usize
     ensures { λ r. ⌜ Put (printedOf (now (text .entry))) 0 (now (out .entry)) (now (out .exit)) r ⌝ }
 {
     let tabled = table_text(text, out);
     match tabled {
         Tabled::Written(length) => length,
-        Tabled::Refused(number, line) => put_refusal(out, number, line),
+        Tabled::Refused(number, line) => text::put_refusal(out, number, line),
     }
 }

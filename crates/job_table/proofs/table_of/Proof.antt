@@ -1,14 +1,11 @@
 -- `job_table::table_of` meets its contract: the readings of a held job are within their ranges.
 use mathlib.Core.Path.{sym}
 use native.Mathlib.Omega.{arith}
-use borrow.Author.Needs.{needs}
 use lib.Seq.{length-take-le}
 use Rattle.job_table.specs.Held.{jobIn, sumsFor, tableFor}
 use Rattle.job_table.specs.Laws.{counts-few, readings}
 use Rattle.job_table.proofs.table_of.Statement.{statement}
 use Rattle.job_table.proofs.table_of.Tie as tie
-use Rattle.job_table.proofs.table_of.Reads as reads
-use Rattle.job_table.proofs.table_of.Lts as lts
 
 mul-counted : tie.Need-mul-counted
 mul-counted c = record { fits = omega (arith, counts-few (c .before .before .args .job) (c .before .before .pre)) }

@@ -5,28 +5,30 @@ use mathlib.Core.List.{List, [], _∷_}
 use native.Mathlib.Omega.{arith}
 use lib.IntN.{ℤ, pos}
 use lib.ListN.{length}
-use lib.Seq.{length-take-le}
 use mir.Syntax.{w64}
 use mir.Val.{toZ, SFits}
 use mir.Facts.{toZ-ofZ}
 use borrow.Author.Needs.{needs}
 use Rattle.job.specs.Job.{Job}
+use Rattle.job_table.specs.Held.{jobIn}
+use Rattle.job_table.specs.Laws.{channels-held, samples-few, samples-held}
 use Rattle.run.specs.declared.Ran.{Ran}
 use Rattle.text.specs.Put.{Sized}
-use Rattle.report.specs.Done.{jobIn}
 use Rattle.report.specs.Lines.{Wide, textOf, headOf, axesOf}
 use Rattle.report.specs.Report.{reportOf}
-use Rattle.report.proofs.Bounds.{channels, sweeps-most}
+use Rattle.report.proofs.Bounds.{sweeps-most}
 use Rattle.report.proofs.Same.{axes-wide, text-same, too-short, put-whole}
 use Rattle.report.proofs.report_job.Statement.{statement}
 use Rattle.report.proofs.report_job.Tie as tie
 
 high : (s : tie.Start) → s .args .job .n ≤ 8
-unfolding jobIn
-high s = channels (jobIn (s .args .job)) (s .pre .proper) .1
+high s = channels-held (s .args .job) (s .pre)
 
 number : (s : tie.Start) → SFits w64 (pos (s .args .job .n))
 number s = record { sfits = omega (arith, high s) }
+
+samples : (s : tie.Start) → SFits w64 (pos (s .args .job .k))
+samples s = record { sfits = omega (arith, samples-few (s .args .job) (s .pre)) }
 
 sweeps : (c : tie.After-solve) → SFits w64 (pos (c .solve .result .ran .sweeps))
 sweeps c =
@@ -56,13 +58,12 @@ module _ (c : tie.After-axes-values) where
   unfolding headOf jobIn
   head-same =
       let s = solved .solve .ensures in
-      let k-fits : SFits w64 (pos (start .args .job .k)) = record { sfits = omega (arith, start .pre .few) } in
       let e-fits : SFits w64 (pos (solved .solve .result .e)) = search needs in
       let m-fits : SFits w64 (pos (c .before .turns .result)) = record { sfits = omega (arith, c .before .turns .ensures, s .keeps .turns) } in
-      let k-same = length-take-le (start .args .job .k) (start .args .job .dilutions) (omega (arith, start .pre .few, start .pre .dilutions)) in
+      let k-same = samples-held (start .args .job) (start .pre) in
       λ k.
       toZ-ofZ (number start) k
-      ∷ (toZ-ofZ k-fits ∙ ap pos (sym k-same)) k
+      ∷ (toZ-ofZ (samples start) ∙ ap pos (sym k-same)) k
       ∷ (toZ-ofZ e-fits ∙ ap pos (s .shift)) k
       ∷ (toZ-ofZ (sweeps solved) ∙ ap (λ (z : Ran). pos (z .sweeps)) (s .is)) k
       ∷ (toZ-ofZ m-fits ∙ ap pos (c .before .turns .ensures) ∙ ap (λ (z : Ran). pos (z .last .m)) (s .is)) k
@@ -110,7 +111,7 @@ report-job-spec =
     (tie.spec
     (λ c κs. search needs)
     (λ c. number (c .before .before .before .before))
-    (λ c. search needs)
+    (λ c. samples (c .before .before .before .before .before))
     (λ c. search needs)
     (λ c. sweeps (c .before .before .before .before .before))
     (λ c κs. search needs)

@@ -1,15 +1,11 @@
 -- `scatter_text::answer` meets its contract: 2,048 bytes are room for every text, and for the line of a refusal.
 use Prim.Native.Nat.{_≤_}
-use mathlib.Core.Path.{_≡_}
 use native.Mathlib.Omega.{arith}
 use borrow.Author.Needs.{needs}
 use lib.ListN.{length}
 use Rattle.scatter_text.specs.Printed.{Denied, printed-text, printed-refusal}
-use Rattle.scatter_text.specs.Table.{printedOf}
 use Rattle.scatter_text.proofs.answer.Statement.{statement}
 use Rattle.scatter_text.proofs.answer.Tie as tie
-use Rattle.scatter_text.proofs.answer.Reads as reads
-use Rattle.scatter_text.proofs.answer.Lts as lts
 
 room : (c : tie.After-table-text-arg) → 2048 ≤ length (c .before .before .args .out .now)
 room c = omega (arith, c .table-text-arg .given .0)
@@ -27,9 +23,7 @@ denied c =
     printed-refusal _ _ _ (room (tabled .before)) _ _ (rw (c .tabled2 .given .1) at (tabled .table-text .ensures))
 
 put-refusal-requires : tie.Need-put-refusal-requires
-put-refusal-requires c κs =
-    let d = denied (c .before .before) in
-    (d .refusal, rw (d .stays) (room (c .before .before .before .before .before)))
+put-refusal-requires c κs = rw (denied (c .before .before) .stays) (omega (arith, room (c .before .before .before .before .before)))
 
 returns-2 : tie.Need-returns-2
 returns-2 c =

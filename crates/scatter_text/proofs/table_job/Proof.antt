@@ -1,6 +1,5 @@
 -- `scatter_text::table_job` meets its contract: the text is that of the job's table, and it is written where it fits.
-use Prim.Native.Nat.{_<_, _^_}
-use mathlib.Core.Path.{_≡_, refl}
+use mathlib.Core.Path.{_≡_}
 use mathlib.Core.List.{[], _∷_}
 use native.Mathlib.Omega.{arith}
 use borrow.Author.Needs.{needs}
@@ -14,8 +13,6 @@ use Rattle.scatter_text.specs.Laws.{text-of-arrays, answers-written, ans
 use Rattle.scatter_text.specs.Table.{tableText}
 use Rattle.scatter_text.proofs.table_job.Statement.{statement}
 use Rattle.scatter_text.proofs.table_job.Tie as tie
-use Rattle.scatter_text.proofs.table_job.Reads as reads
-use Rattle.scatter_text.proofs.table_job.Lts as lts
 
 -- What is written is the text of the job's table.
 written : (c : tie.After-table-of) →

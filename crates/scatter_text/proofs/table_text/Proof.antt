@@ -1,12 +1,9 @@
 -- `scatter_text::table_text` meets its contract: the job's refusal is the answer, or the table of the job that was read.
-use mathlib.Core.Path.{_≡_, sym, _∙_}
 use borrow.Author.Needs.{needs}
 use Rattle.job_table.specs.Laws.{Read, accepted-read}
 use Rattle.scatter_text.specs.Laws.{tables-refused, tables-answered}
 use Rattle.scatter_text.proofs.table_text.Statement.{statement}
 use Rattle.scatter_text.proofs.table_text.Tie as tie
-use Rattle.scatter_text.proofs.table_text.Reads as reads
-use Rattle.scatter_text.proofs.table_text.Lts as lts
 
 returns : tie.Need-returns
 returns c =

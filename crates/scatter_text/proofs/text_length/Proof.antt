@@ -1,7 +1,7 @@
 -- `scatter_text::text_length` meets its contract: the first line, and the rows.
 use native.Mathlib.Omega.{arith}
 use borrow.Author.Needs.{needs}
-use lib.ListN.{take, length-append}
+use lib.ListN.{length-append}
 use Rattle.text.specs.Numbers.{length-number-line}
 use Rattle.scatter_text.specs.Done.{textOf}
 use Rattle.scatter_text.proofs.text_length.Statement.{statement}

@@ -6,8 +6,6 @@ use lib.Seq.{length-take-le}
 use Rattle.text.specs.Put.{same-size}
 use Rattle.table.proofs.main.Statement.{statement}
 use Rattle.table.proofs.main.Tie as tie
-use Rattle.table.proofs.main.Reads as reads
-use Rattle.table.proofs.main.Lts as lts
 
 within : tie.Need-array-share-prefix-out
 within c = omega (arith, same-size (c .answer .ensures), c .answer .ensures .within)

@@ -1,21 +1,15 @@
 -- `scatter_text::rows::put_rows` meets its contract. The invariant: the first i lines are written, and `at` is the place after them.
-use Prim.Native.Nat.{_+_, _-_, _≤_}
-use mathlib.Core.Path.{_≡_, sym, ap}
-use mathlib.Core.List.{List, [], _∷_}
-use lib.IntN.{ℤ, pos}
-use lib.ListN.{length, take}
+use Prim.Native.Nat.{_-_, _≤_}
+use mathlib.Core.Path.{_≡_, sym}
+use lib.ListN.{length}
 use native.Mathlib.Omega.{arith}
 use borrow.Author.Needs.{needs}
-use Rattle.text.specs.Line.{numberLine}
 use Rattle.text.specs.Put.{Put, put-nothing, put-part, same-size, part-size}
-use Rattle.scatter.specs.Tabulate.{tabulate}
 use Rattle.scatter_text.specs.Done.{numberAt}
 use Rattle.scatter_text.specs.Table.{linesS}
 use Rattle.scatter_text.specs.Rows.{more-lines, lines-within, row-size, row-numbers}
 use Rattle.scatter_text.proofs.rows.put_rows.Statement.{statement}
 use Rattle.scatter_text.proofs.rows.put_rows.Tie as tie
-use Rattle.scatter_text.proofs.rows.put_rows.Reads as reads
-use Rattle.scatter_text.proofs.rows.put_rows.Lts as lts
 
 abbrev Inv-loop : tie.InvT-loop
 Inv-loop buf₀ from n sums at₀ i₀ buf at i = (i ≤ n) × Put (linesS n (numberAt n sums) i) from buf₀ buf at

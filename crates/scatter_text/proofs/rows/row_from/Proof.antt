@@ -1,5 +1,5 @@
 -- `scatter_text::rows::row_from` meets its contract, a number at a time.
-use mathlib.Core.Path.{_≡_, refl}
+use mathlib.Core.Path.{_≡_}
 use mathlib.Core.List.{List, [], _∷_}
 use native.Mathlib.Nat.{add-zero}
 use native.Mathlib.Omega.{arith}
@@ -14,8 +14,6 @@ use mir.Facts.{toZ-pos, toZ-ofZ}
 use Rattle.scatter.specs.Tabulate.{tabulate}
 use Rattle.scatter_text.proofs.rows.row_from.Statement.{statement}
 use Rattle.scatter_text.proofs.rows.row_from.Tie as tie
-use Rattle.scatter_text.proofs.rows.row_from.Reads as reads
-use Rattle.scatter_text.proofs.rows.row_from.Lts as lts
 
 back : (us : List ℤ) (p : ℕ) → mag (getD us p (pos 0)) < 2 ^ 63 → toZ w64 (ofZ w64 (getD us p (pos 0))) ≡ getD us p (pos 0)
 back us p h = toZ-ofZ (record { sfits = h })

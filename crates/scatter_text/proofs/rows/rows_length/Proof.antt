@@ -1,9 +1,9 @@
 -- `scatter_text::rows::rows_length` meets its contract. The invariant: the total is the length of the first i lines.
 use Prim.Native.Nat.{_+_, _*_, _-_, _≤_}
 use mathlib.Core.Path.{_≡_, sym}
-use mathlib.Core.List.{List, [], _∷_}
-use lib.IntN.{ℤ, pos}
-use lib.ListN.{length, take}
+use mathlib.Core.List.{_∷_}
+use lib.IntN.{pos}
+use lib.ListN.{length}
 use native.Mathlib.Omega.{arith}
 use borrow.Author.Needs.{needs}
 use Rattle.scatter.specs.Tabulate.{tabulate}
@@ -15,8 +15,6 @@ use Rattle.scatter_text.specs.Table.{linesS}
 use Rattle.scatter_text.specs.Rows.{more-length, row-size, row-numbers}
 use Rattle.scatter_text.proofs.rows.rows_length.Statement.{statement}
 use Rattle.scatter_text.proofs.rows.rows_length.Tie as tie
-use Rattle.scatter_text.proofs.rows.rows_length.Reads as reads
-use Rattle.scatter_text.proofs.rows.rows_length.Lts as lts
 
 abbrev Inv-loop : tie.InvT-loop
 Inv-loop n sums total₀ i₀ total i = (i ≤ n) × (total ≡ length (linesS n (numberAt n sums) i)) × (total ≤ 191 * i)
