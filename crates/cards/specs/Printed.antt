@@ -5,8 +5,11 @@ use mathlib.Core.List.{List, [], _∷_, _++_}
 use lib.IntN.{pos}
 use lib.ListN.{take}
 use Rattle.job.specs.Job.{Job, accepted, withSample, nextLine, nothing, ended, judged, after, begun, jobOfLines, jobOf}
-use Rattle.job.specs.Range.{within, allWithin, parametersInRange, sampleInRange}
-use Rattle.job.specs.Text.{onto, split, leadingZero, valueFrom, numberOf, before, numbersOf, isTag, recordOf, lineOf}
+use Rattle.text.specs.Numeral.{leadingZero, valueFrom}
+use Rattle.text.specs.Parts.{onto, split, before}
+use Rattle.text.specs.Range.{within, allWithin}
+use Rattle.job.specs.Range.{parametersInRange, sampleInRange}
+use Rattle.job.specs.Text.{numberOf, numbersOf, isTag, recordOf, lineOf}
 use Rattle.job_table.specs.Held.{sumsFor, tableFor}
 use Rattle.report.specs.Report.{outcomeWord, runFor, lineR, axisValues, lineA, linesA, reportOf, printedBy, printedOf}
 use Rattle.rounding.specs.Rounding.{rnd}

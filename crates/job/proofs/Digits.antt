@@ -1,15 +1,15 @@
 -- What `digitsAt` and `fieldAt` are at a byte of the text, case by case, and what a digit that may follow tells.
 use Prim.Native.Nat.{ℕ, _+_, _-_, _*_, _<_, _≤_}
 use mathlib.Core.Path.{_≡_, refl, sym, _∙_}
-use mathlib.Core.Bool.{Bool, true, false, cond, _&&_, false≢true}
+use mathlib.Core.Bool.{Bool, true, false, cond, false≢true}
 use mathlib.Core.List.{List}
 use native.Mathlib.Numerals.{add-one}
-use borrow.Author.Tests.{leb-true, ltb-false, eq-eqb, ne-eqb}
-use lib.Dec.{leb, ltb}
+use borrow.Author.Tests.{ltb-false, eq-eqb, ne-eqb}
+use lib.Dec.{ltb}
 use lib.ListN.{length, getD, drop-of-length-le}
 use lib.Seq.{drop-cons}
-use Rattle.job.specs.Range.{within}
-use Rattle.job.specs.Text.{isDigit}
+use Rattle.text.specs.Numeral.{isDigit}
+use Rattle.text.specs.Range.{is-within}
 use Rattle.job.specs.Scan.{mayFollow, digitsFrom, digitsAt, fieldFrom, fieldAt}
 use Rattle.job.specs.declared.field.Field.{Field}
 use Rattle.job.specs.declared.field.Field.the-variants.{Inner, Last, Bad}
@@ -50,16 +50,6 @@ module _ (text : List ℕ) (at : ℕ) where
     pub field-more : isDigit b ≡ true → digitsAt text (at + 1) (b - 48) ≡ fieldAt text at
     unfolding fieldAt fieldFrom digitsAt
     field-more e = sym (simp (drop-cons text at 0 h, ← p, e, add-one))
-
-pub both : (a b : Bool) → (a && b) ≡ true → (a ≡ true) × (b ≡ true)
-both true b e = (refl, e)
-both false b e = absurd (false≢true e)
-
-pub is-within : (low high x : ℕ) → within low high x ≡ true → (low ≤ x) × (x ≤ high)
-unfolding within
-is-within low high x e =
-    let p = both (leb low x) (leb x high) e in
-    (leb-true low x (p .0), leb-true x high (p .1))
 
 -- The `cond` of two tests that fail and of a third is true where the third is.
 through : (a b d : Bool) → cond a false (cond b false d) ≡ true → (a ≡ false) × (b ≡ false) × (d ≡ true)

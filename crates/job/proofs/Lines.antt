@@ -10,7 +10,7 @@ use lib.Dec.{eqb}
 use mathlib.Core.Logic.{_⊎_, ⊎-elim}
 use lib.ListN.{length, getD, drop, set, length-drop}
 use lib.Seq.{drop-cons, slice, slice-cons, slice-empty}
-use Rattle.job.specs.Range.{within, allWithin}
+use Rattle.text.specs.Range.{within, allWithin}
 use Rattle.job.specs.Scan.{fieldAt, taggedFrom, taggedAt, malformedLine, lastNumber, innerNumber, numbersAt}
 use Rattle.job.specs.declared.field.Field.{Field}
 use Rattle.job.specs.declared.field.Field.the-variants.{Inner, Last, Bad}

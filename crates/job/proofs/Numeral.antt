@@ -9,10 +9,10 @@ use native.Mathlib.Omega.{arith}
 use borrow.Author.Tests.{le-ltb, lt-ltb, eqb-true, eqb-false}
 use lib.Dec.{leb, ltb, eqb, leb·zero, leb·suc-zero, leb·suc-suc, lit<}
 use lib.ListN.{length}
-use Rattle.job.specs.Range.{allWithin}
-use Rattle.job.specs.Text.{isDigit, leadingZero, valueFrom, numberOf}
+use Rattle.text.specs.Numeral.{isDigit, leadingZero, valueFrom}
+use Rattle.text.specs.Range.{allWithin, is-within}
+use Rattle.job.specs.Text.{numberOf}
 use Rattle.job.specs.Scan.{mayFollow}
-use Rattle.job.proofs.Digits.{is-within}
 
 unfoldable pub more : ℕ → List ℕ → Option ℕ
 more v [] = some v

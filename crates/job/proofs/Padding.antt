@@ -7,9 +7,8 @@ use native.Mathlib.Nat.{sub-zero, zero-sub, suc-sub-suc}
 use native.Mathlib.Omega.{arith}
 use lib.ListN.{length, getD, take, drop, replicate, length-append, length-replicate}
 use lib.Seq.{sets, sets-eq, take-append-seam, drop-append-add}
-use Rattle.job.specs.Range.{within, allWithin}
+use Rattle.text.specs.Range.{within, allWithin, both, is-within}
 use Rattle.job.specs.Reading.{padded}
-use Rattle.job.proofs.Digits.{both, is-within}
 
 drop-replicate : (i m x : ℕ) → drop i (replicate m x) ≡ replicate (m - i) x
 drop-replicate zero m x = ap (λ (k : ℕ). replicate k x) (sym (sub-zero m))

@@ -10,7 +10,8 @@ use borrow.Author.Tests.{ne-eqb, eqb-true}
 use lib.Dec.{eqb}
 use lib.ListN.{length, drop, set, replicate}
 use lib.Seq.{sets, drop-drop}
-use Rattle.job.specs.Text.{onto, split, numberOf, before, numbersOf, isTag, recordOf, lineOf}
+use Rattle.text.specs.Parts.{onto, split, before}
+use Rattle.job.specs.Text.{numberOf, numbersOf, isTag, recordOf, lineOf}
 use Rattle.job.specs.Scan.{fieldAt, taggedFrom, taggedAt, malformedLine, lastNumber, innerNumber, numbersAt, lineAt}
 use Rattle.job.specs.declared.sample.Line.{Line}
 use Rattle.job.specs.declared.sample.Extent.the-variants.{To}

@@ -1,16 +1,9 @@
 -- The ranges of document 01's numbers.
 use Prim.Native.Nat.{ℕ}
-use mathlib.Core.Bool.{Bool, true, _&&_}
-use mathlib.Core.List.{List, [], _∷_}
-use lib.Dec.{leb}
+use mathlib.Core.Bool.{Bool, _&&_}
+use mathlib.Core.List.{List}
 use lib.ListN.{getD, drop}
-
-unfoldable pub within : ℕ → ℕ → ℕ → Bool
-within low high x = leb low x && leb x high
-
-unfoldable pub allWithin : ℕ → ℕ → List ℕ → Bool
-allWithin low high [] = true
-allWithin low high (x ∷ xs) = within low high x && allWithin low high xs
+use Rattle.text.specs.Range.{allWithin, within}
 
 -- "`P` n (2..8), sweep limit (1..16), tolerance t in units (0..1,048,576)."
 unfoldable pub parametersInRange : ℕ → ℕ → ℕ → Bool

@@ -5,8 +5,9 @@ use mathlib.Core.List.{List, [], _∷_}
 use lib.Dec.{leb, ltb, eqb}
 use lib.ListN.{length, getD, drop, set, replicate}
 use lib.Seq.{slice, sets}
-use Rattle.job.specs.Range.{within, allWithin, parametersInRange}
-use Rattle.job.specs.Text.{isDigit}
+use Rattle.text.specs.Numeral.{isDigit}
+use Rattle.text.specs.Range.{within, allWithin}
+use Rattle.job.specs.Range.{parametersInRange}
 use Rattle.job.specs.declared.field.Field.{Field}
 use Rattle.job.specs.declared.field.Field.the-variants.{Inner, Last, Bad}
 use Rattle.job.specs.declared.sample.Extent.{Extent}

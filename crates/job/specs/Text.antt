@@ -1,41 +1,17 @@
 -- The lines, fields and numbers of job text. A text is the list of its bytes: 9 is a tab, 10 a line feed, 48 to 57 are the decimal digits.
-use Prim.Native.Nat.{ℕ, zero, suc, _+_, _-_, _*_}
+use Prim.Native.Nat.{ℕ, zero, suc}
 use mathlib.Core.Bool.{Bool, false, cond, not, _&&_}
 use mathlib.Core.List.{List, [], _∷_}
 use mathlib.Core.Option.{Option, none, some}
 use lib.Dec.{leb, ltb, eqb}
 use lib.ListN.{length}
-use Rattle.job.specs.Range.{within, allWithin}
-
-unfoldable pub onto : ℕ → List (List ℕ) → List (List ℕ)
-onto b [] = (b ∷ []) ∷ []
-onto b (part ∷ parts) = (b ∷ part) ∷ parts
-
--- The parts before, between and after the bytes that equal s: one part more than there are such bytes.
-unfoldable pub split : ℕ → List ℕ → List (List ℕ)
-split s [] = [] ∷ []
-split s (b ∷ bs) = cond (eqb b s) ([] ∷ split s bs) (onto b (split s bs))
-
-abbrev pub isDigit : ℕ → Bool
-isDigit b = within 48 57 b
-
-unfoldable pub leadingZero : List ℕ → Bool
-leadingZero [] = false
-leadingZero (b ∷ bs) = eqb b 48 && ltb 0 (length bs)
-
--- The value of digits that follow digits of the value v.
-unfoldable pub valueFrom : ℕ → List ℕ → ℕ
-valueFrom v [] = v
-valueFrom v (b ∷ bs) = valueFrom (v * 10 + (b - 48)) bs
+use Rattle.text.specs.Numeral.{leadingZero, valueFrom}
+use Rattle.text.specs.Parts.{before, split}
+use Rattle.text.specs.Range.{allWithin}
 
 -- "A number is 1 to 7 decimal digits without a sign, and without a leading zero unless it is 0."
 unfoldable pub numberOf : List ℕ → Option ℕ
 numberOf f = cond (ltb 0 (length f) && leb (length f) 7 && allWithin 48 57 f && not (leadingZero f)) (some (valueFrom 0 f)) none
-
-unfoldable pub before : Option ℕ → Option (List ℕ) → Option (List ℕ)
-before none xs = none
-before (some x) none = none
-before (some x) (some xs) = some (x ∷ xs)
 
 -- The numbers of m fields, each of which has to be one.
 unfoldable pub numbersOf : ℕ → List (List ℕ) → Option (List ℕ)

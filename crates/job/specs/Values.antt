@@ -4,7 +4,8 @@ use mathlib.Core.Path.{_≡_}
 use mathlib.Core.Bool.{Bool, true, _&&_}
 use lib.ListN.{length}
 use Rattle.job.specs.Job.{Job}
-use Rattle.job.specs.Range.{within, allWithin, parametersInRange}
+use Rattle.text.specs.Range.{within, allWithin}
+use Rattle.job.specs.Range.{parametersInRange}
 
 unfoldable pub inRange : Job → Bool
 inRange j =

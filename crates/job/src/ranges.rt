@@ -2,7 +2,8 @@
 ghost use mathlib.Core.Path.{_≡_};
 ghost use Prim.Native.Nat.{_+_, _≤_};
 ghost use lib.Seq.{slice};
-ghost use Rattle.job.specs.Range.{within, allWithin, parametersInRange};
+ghost use Rattle.text.specs.Range.{within, allWithin};
+ghost use Rattle.job.specs.Range.{parametersInRange};
 ghost use Rattle.job.specs.Scan.{sampleWithin};
 
 pub fn is_within(low: u64, high: u64, x: u64) -> bool

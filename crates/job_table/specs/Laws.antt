@@ -8,13 +8,13 @@ use native.Mathlib.Omega.{arith}
 use lib.ListN.{length, getD, length-append}
 use lib.Seq.{length-take-le}
 use Rattle.job.specs.Job.{Job, Answer, refused, accepted, jobOf}
-use Rattle.job.specs.Range.{within, allWithin, parametersInRange}
+use Rattle.text.specs.Range.{within, allWithin, both, is-within}
+use Rattle.job.specs.Range.{parametersInRange}
 use Rattle.job.specs.Reading.{padded, inArrays, readingOf}
 use Rattle.job.specs.Values.{Proper, inRange}
 use Rattle.job.specs.declared.Job as arrays
 use Rattle.job.specs.declared.Outcome.the-variants.{Accepted}
 use Rattle.job.proofs.Accepted.{accepted-proper}
-use Rattle.job.proofs.Digits.{both, is-within}
 use Rattle.job.proofs.Padding.{padded-take, padded-at}
 use Rattle.scatter.specs.Bounds.{take-bound, readings-bounded, shift-bound}
 use Rattle.scatter.specs.Ranges.{Readings}

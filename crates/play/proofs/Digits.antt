@@ -1,7 +1,7 @@
 -- What the digits of a field come to, byte by byte.
 use Prim.Native.Nat.{ℕ, zero, suc, _+_, _-_, _*_, _^_, _≤_, _<_}
 use mathlib.Core.Path.{_≡_, refl, sym, _∙_}
-use mathlib.Core.Bool.{Bool, true, false, cond, _&&_, and-true, false≢true}
+use mathlib.Core.Bool.{Bool, true, false, cond, _&&_, and-true}
 use mathlib.Core.List.{List, [], _∷_}
 use mathlib.Core.Option.{Option, none, some}
 use native.Mathlib.Nat.{pow-suc, pow-le-pow-right, mul-le-mul-right, le-refl}
@@ -13,8 +13,8 @@ use lib.IntN.{ℤ}
 use lib.ListN.{length, take, drop, getD, length-drop, drop-of-length-le}
 use lib.Seq.{drop-cons, take-all}
 use Rattle.rotation.specs.Rotation.{signed}
-use Rattle.job.specs.Range.{allWithin, within}
-use Rattle.job.specs.Text.{leadingZero, valueFrom}
+use Rattle.text.specs.Numeral.{leadingZero, valueFrom}
+use Rattle.text.specs.Range.{allWithin, both, is-within, within}
 use Rattle.play.specs.Numbers.{digitsFrom, numberOf, signedOf, positive, negative}
 use Rattle.play.specs.Read.{unsignedIs, signedIs}
 use Rattle.play.specs.declared.field.Unsigned.{Unsigned}
@@ -86,19 +86,13 @@ module _ (f : List ℕ) where
       unfolding numberOf
       number-digits t q e r p = p ∙ simp (lt-ltb 0 (length f) h, le-leb (length f) 10 k, ← q, e)
 
-pub both : (a b : Bool) → (a && b) ≡ true → (a ≡ true) × (b ≡ true)
-both true b e = (refl, e)
-both false b e = absurd (false≢true e)
-
 -- Digits have a value below a power of ten.
 value-below : (f : List ℕ) (v : ℕ) → allWithin 48 57 f ≡ true → valueFrom v f < (v + 1) * 10 ^ length f
 unfolding valueFrom allWithin within
 value-below [] v e = omega arith
 value-below (b ∷ bs) v e =
     let p = both (within 48 57 b) (allWithin 48 57 bs) e in
-    let d = both (leb 48 b) (leb b 57) (p .0) in
-    let low = leb-true 48 b (d .0) in
-    let high = leb-true b 57 (d .1) in
+    let d = is-within 48 57 b (p .0) in
     let h = value-below bs (v * 10 + (b - 48)) (p .1) in
     let k : (v * 10 + (b - 48) + 1) * 10 ^ length bs ≤ (v + 1) * 10 * 10 ^ length bs = mul-le-mul-right (10 ^ length bs) (omega arith) in
     rw pow-suc (omega arith)

@@ -10,7 +10,8 @@ use lib.ListN.{length, take, drop, getD, set}
 use lib.Seq.{take-suc-set, getD-take}
 use Rattle.ledger.specs.Call.{Call}
 use Rattle.play.specs.Calls.{callBy, callOf, callOfFields, withNumbers}
-use Rattle.play.specs.Numbers.{before, numbersOf, signedOf}
+use Rattle.text.specs.Parts.{before}
+use Rattle.play.specs.Numbers.{numbersOf, signedOf}
 use Rattle.play.specs.Parts.{front}
 use Rattle.play.specs.Read.{signedIs}
 use Rattle.play.specs.declared.field.Signed.{Signed}

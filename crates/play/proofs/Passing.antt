@@ -8,7 +8,7 @@ use borrow.Author.Tests.{le-leb, lt-leb, leb-true, leb-false}
 use lib.Dec.{leb}
 use lib.ListN.{length, drop, take, length-append}
 use lib.Seq.{length-take-le}
-use Rattle.job.specs.Text.{split}
+use Rattle.text.specs.Parts.{split}
 use Rattle.record.specs.Kept.{Kept}
 use Rattle.record.specs.declared.Record.{Record}
 use Rattle.text.specs.Put.{Put, front-length, put-then, same-size}

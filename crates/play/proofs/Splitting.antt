@@ -10,7 +10,7 @@ use borrow.Author.Tests.{lt-ltb, le-ltb, ltb-true, ltb-false, eq-eqb, ne-eqb}
 use lib.Dec.{eqb, ltb}
 use lib.ListN.{length, take, drop, getD, length-drop, drop-of-length-le}
 use lib.Seq.{drop-drop, drop-cons}
-use Rattle.job.specs.Text.{split, onto}
+use Rattle.text.specs.Parts.{split, onto}
 use Rattle.play.specs.Parts.{front}
 
 -- r is where the first s from `at` on stands, or the end.

@@ -7,7 +7,7 @@ use mathlib.Core.Option.{Option, none, some}
 use native.Mathlib.Omega.{arith}
 use borrow.Author.Tests.{ne-eqb}
 use lib.ListN.{length, take, drop, drop-of-length-le}
-use Rattle.job.specs.Text.{split}
+use Rattle.text.specs.Parts.{split}
 use Rattle.ledger.specs.Call.{Call}
 use Rattle.record.specs.declared.Record.{Record}
 use Rattle.play.specs.Answers.{answerLine, linePrinted, shown}

@@ -9,7 +9,7 @@ use borrow.Author.Tests.{ltb-true, ltb-false}
 use lib.Dec.{eqb, ltb}
 use lib.ListN.{length, drop}
 use lib.Seq.{take-append-seam}
-use Rattle.job.specs.Text.{split}
+use Rattle.text.specs.Parts.{split}
 use Rattle.ledger.specs.Call.{Call}
 use Rattle.record.specs.Kept.{Kept}
 use Rattle.record.specs.declared.Record.{Record}

@@ -2,15 +2,16 @@
 use Prim.Native.Nat.{ℕ}
 use mathlib.Core.Path.{_≡_, refl}
 use mathlib.Core.List.{List, [], _∷_, _++_}
-use Rattle.job.specs.Range.{allWithin, within}
-use Rattle.job.specs.Text.{leadingZero, onto, split, valueFrom}
+use Rattle.text.specs.Numeral.{leadingZero, valueFrom}
+use Rattle.text.specs.Parts.{before, onto, split}
+use Rattle.text.specs.Range.{allWithin, within}
 use Rattle.ledger.specs.Refusal.{refusalOf}
 use Rattle.record.specs.Record.{afterOf, answerOf, counted, fresh, refusedOf}
 use Rattle.text.specs.Decimal.{digits, digitsBy}
 use Rattle.text.specs.Line.{further, line}
 use Rattle.play.specs.Answers.{answerLine, shown}
 use Rattle.play.specs.Calls.{callBy, callOf, callOfFields, loadOf, oneOf, sweepOf, turnOf, withNumbers}
-use Rattle.play.specs.Numbers.{before, digitsFrom, negative, numberOf, numbersOf, positive, signedOf}
+use Rattle.play.specs.Numbers.{digitsFrom, negative, numberOf, numbersOf, positive, signedOf}
 use Rattle.play.specs.Played.{rowOf}
 use Rattle.play.specs.Text.{answered, played, playedFrom, unknownLine}
 

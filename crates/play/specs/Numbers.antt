@@ -6,8 +6,9 @@ use mathlib.Core.Option.{Option, none, some}
 use lib.Dec.{eqb, leb, ltb}
 use lib.IntN.{ℤ, pos, negsuc}
 use lib.ListN.{length}
-use Rattle.job.specs.Range.{allWithin}
-use Rattle.job.specs.Text.{leadingZero, valueFrom}
+use Rattle.text.specs.Numeral.{leadingZero, valueFrom}
+use Rattle.text.specs.Parts.{before}
+use Rattle.text.specs.Range.{allWithin}
 
 -- the value of digits that follow digits of the value v
 unfoldable pub digitsFrom : ℕ → List ℕ → Option ℕ
@@ -31,11 +32,6 @@ negative (some (suc x)) = some (negsuc x)
 unfoldable pub signedOf : List ℕ → Option ℤ
 signedOf [] = none
 signedOf (b ∷ bs) = cond (eqb b 45) (negative (numberOf bs)) (positive (numberOf (b ∷ bs)))
-
-unfoldable pub before : Option ℤ → Option (List ℤ) → Option (List ℤ)
-before none xs = none
-before (some x) none = none
-before (some x) (some xs) = some (x ∷ xs)
 
 -- the numbers of at most m fields, each of which has to be one
 unfoldable pub numbersOf : ℕ → List (List ℕ) → Option (List ℤ)

@@ -3,7 +3,7 @@ use rotation::pair::with_sign;
 ghost use mathlib.Core.Path.{_≡_};
 ghost use Prim.Native.Nat.{_≤_};
 ghost use lib.ListN.{length};
-ghost use Rattle.job.specs.Text.{leadingZero};
+ghost use Rattle.text.specs.Numeral.{leadingZero};
 ghost use Rattle.play.specs.Numbers.{digitsFrom, numberOf, signedOf};
 ghost use Rattle.play.specs.Read.{unsignedIs, signedIs};
 

@@ -2,7 +2,7 @@
 use Prim.Native.Nat.{ℕ, zero, suc, _+_, _-_, _*_, _/_, _%_, _^_, _<_, _≤_}
 use mathlib.Core.Path.{_≡_, refl}
 use mathlib.Core.Bool.{Bool, true, false}
-use mathlib.Core.List.{List, [], _∷_, _++_, foldl, foldl-append}
+use mathlib.Core.List.{List, [], _∷_, _++_}
 use native.Mathlib.Nat.{pow-suc}
 use native.Mathlib.Omega.{arith}
 use borrow.Author.Tests.{ltb-true, ltb-false, lt-ltb, le-ltb}
@@ -11,6 +11,7 @@ use lib.IntN.{ℤ, pos, negsuc}
 use lib.Signed.{mag}
 use lib.ListN.{length, length-append}
 use Rattle.text.specs.Decimal.{digitsBy, digits, number}
+use Rattle.text.specs.Numeral.{valueFrom}
 
 -- Any f from x on gives the same digits.
 enough : (f g x : ℕ) (t : Bool) → ltb x 10 ≡ t → x ≤ f → x ≤ g → digitsBy f x t ≡ digitsBy g x t
@@ -59,19 +60,19 @@ unfolding number
 length-number (pos n) h = omega (arith, length-digits 18 n (omega arith))
 length-number (negsuc n) h = omega (arith, length-digits 18 (suc n) (omega arith))
 
--- The number that digits read as.
-unfoldable pub value : List ℕ → ℕ
-value bytes = foldl (λ (v b : ℕ). v * 10 + (b - 48)) 0 bytes
+value-append : (v : ℕ) (xs ys : List ℕ) → valueFrom v (xs ++ ys) ≡ valueFrom (valueFrom v xs) ys
+unfolding valueFrom
+value-append v [] ys = refl
+value-append v (x ∷ xs) ys = value-append (v * 10 + (x - 48)) xs ys
 
-reads-back : (f x : ℕ) → x ≤ f → value (digits x) ≡ x
-unfolding value
+reads-back : (f x : ℕ) → x ≤ f → valueFrom 0 (digits x) ≡ x
+unfolding valueFrom
 reads-back zero x h = rw (one-digit x (omega arith)) (omega arith)
 reads-back (suc f) x h =
     cases _ x (ltb x 10) refl
     (λ one. rw (one-digit x one) (omega arith))
-    (λ more.
-    let e : foldl (λ (v b : ℕ). v * 10 + (b - 48)) 0 (digits (x / 10)) ≡ x / 10 = reads-back f (x / 10) (omega arith) in
-    simp (more-digits x more, foldl-append, e) (omega arith))
+    (λ more. rw (more-digits x more, value-append, reads-back f (x / 10) (omega arith)) (omega arith))
 
-pub value-digits : (x : ℕ) → value (digits x) ≡ x
+-- The digits that are written are read as the number that they are of.
+pub value-digits : (x : ℕ) → valueFrom 0 (digits x) ≡ x
 value-digits x = reads-back x x (omega arith)

@@ -1,3 +1,6 @@
+pub mod Range
+pub mod Parts
+pub mod Numeral
 pub mod Decimal
 pub mod Line
 pub mod Put

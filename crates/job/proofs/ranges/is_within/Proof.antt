@@ -1,6 +1,6 @@
 -- `ranges::is_within` meets its contract: the first test tells the first half of `within`.
 use borrow.Author.Tests.{le-leb, lt-leb}
-use Rattle.job.specs.Range.{within}
+use Rattle.text.specs.Range.{within}
 use Rattle.job.proofs.ranges.is_within.Statement.{statement}
 use Rattle.job.proofs.ranges.is_within.Tie as tie
 
