@@ -2,16 +2,24 @@
 use job::Job;
 use scatter::table::Table;
 ghost use mathlib.Core.Path.{_≡_};
-ghost use Rattle.job_table.specs.Held.{Held, jobIn, tableFor};
+ghost use lib.ListN.{take};
+ghost use Prim.Native.Nat.{_*_};
+ghost use Rattle.scatter.specs.Samples.{samples, sumsOf};
+ghost use Rattle.scatter.specs.Table.{tableOf};
+ghost use Rattle.job_table.specs.Held.{Held, Within, jobIn, tableFor};
+
+// That of the first k dilutions and the first k × n counts. The arrays are lent, since a copy of them costs more than a small table.
+fn table_in<'a>(n: usize, k: usize, dilutions: &'a [u64], counts: &'a [u64]) -> Table
+    requires { ⌜ Within n k (now dilutions) (now counts) ⌝ }
+    ensures { λ r. ⌜ r ≡ tableOf n (sumsOf (samples n (take k (now (dilutions .entry))) (take (k * n) (now (counts .entry))))) ⌝ }
+{
+    let counted = k * n;
+    scatter::table::table_of_readings(n, &dilutions[..k], &counts[..counted])
+}
 
 pub fn table_of(job: Job) -> Table
     requires { ⌜ Held job ⌝ }
     ensures { λ r. ⌜ r ≡ tableFor (jobIn job) ⌝ }
 {
-    let n = job.n;
-    let k = job.k;
-    let dilutions = job.dilutions;
-    let counts = job.counts;
-    let counted = k * n;
-    scatter::table::table_of_readings(n, &dilutions[..k], &counts[..counted])
+    table_in(job.n, job.k, &job.dilutions, &job.counts)
 }
