@@ -11,7 +11,7 @@ use Rattle.text.specs.Range.{within, allWithin}
 use Rattle.job.specs.Range.{parametersInRange, sampleInRange}
 use Rattle.job.specs.Text.{numberOf, numbersOf, isTag, recordOf, lineOf}
 use Rattle.job_table.specs.Held.{sumsFor, tableFor}
-use Rattle.report.specs.Report.{outcomeWord, runFor, lineR, axisValues, lineA, linesA, reportOf, printedBy, printedOf}
+use Rattle.report.specs.Report.{outcomeWord, runFor, lineR, axisValues, lineA, reportOf, printedBy, printedOf}
 use Rattle.rounding.specs.Rounding.{rnd}
 use Rattle.run.specs.Cards as running
 use Rattle.scatter.specs.Samples.{samples, sampleAt, sumsOf, sumsAt, sum, products, z}
@@ -19,6 +19,7 @@ use Rattle.scatter.specs.Table.{S, scatter, largest, smallest, shift, entries, 
 use Rattle.scatter.specs.Tabulate.{tabulate}
 use Rattle.text.specs.Decimal.{digits, digitsBy, number}
 use Rattle.text.specs.Line.{line, further, numberLine, wordLine}
+use Rattle.text.specs.Lines.{lines}
 
 -- `P 2 1 0`
 abbrev p-line : List ℕ
@@ -89,7 +90,7 @@ unfolding lineA axisValues numberLine line further number digits digitsBy
 axis-2 = rw (card12 .axis-2, card12 .row-2)
 
 report : reportOf job ≡ reportText
-unfolding reportOf linesA
+unfolding reportOf lines
 report = rw (first, ran, axis-1, axis-2)
 
 pub prints-the-report : printedOf jobText ≡ reportText

@@ -1,5 +1,5 @@
 -- The text that is written is the report: the R line's numbers and the A lines' are the job's.
-use Prim.Native.Nat.{ℕ, zero, suc, _+_, _-_, _<_, _≤_}
+use Prim.Native.Nat.{ℕ, suc, _+_, _-_, _<_, _≤_}
 use mathlib.Core.Path.{_≡_, refl, ap, _∙_}
 use mathlib.Core.Bool.{Bool, true, false, cond}
 use mathlib.Core.List.{List, [], _∷_, _++_}
@@ -8,7 +8,7 @@ use native.Mathlib.Omega.{arith}
 use borrow.Author.Tests.{le-leb, lt-leb}
 use lib.Dec.{eqb}
 use lib.IntN.{ℤ, pos}
-use lib.ListN.{length, take, getD, replicate, length-append}
+use lib.ListN.{length, take, replicate, length-append}
 use Rattle.job.specs.Job.{Job, accepted}
 use Rattle.ledger.specs.Call.{axis}
 use Rattle.ledger.specs.Refusal.{refusalOf}
@@ -19,10 +19,11 @@ use Rattle.record.specs.declared.Answer.the-variants.{Loaded, Turned, Swept, Pa
 use Rattle.record.specs.declared.Record.{Record}
 use Rattle.rotation.specs.Eight.{getD-eight, length-eight}
 use Rattle.text.specs.Line.{numberLine}
+use Rattle.text.specs.Lines.{lines-same}
 use Rattle.text.specs.Put.{Put}
 use Rattle.report.specs.Done.{Answers}
-use Rattle.report.specs.Lines.{Wide, axesOf, axisLines, headOf, textOf, valuesOf}
-use Rattle.report.specs.Report.{Short, axisValues, bufferBy, lineA, lineR, linesA, reportOf, reportedBy, runFor}
+use Rattle.report.specs.Lines.{Wide, axesOf, axisLine, headOf, textOf, valuesOf}
+use Rattle.report.specs.Report.{Short, axisValues, bufferBy, lineA, lineR, reportOf, reportedBy, runFor}
 use Rattle.report.specs.declared.Reported.the-variants as reported
 
 -- Two numbers stand before the row.
@@ -54,21 +55,16 @@ module _ (r : Record) where
   unfolding axesOf
   axes-wide = record { wide = λ i h. rw (getD-eight (λ i. valuesOf r (suc i)) i [] h) (values-length (suc i)) }
 
-  line-same : (n i : ℕ) → i < 8 → numberLine 65 (take (n + 3) (getD (axesOf r) i [])) ≡ lineA n r (suc i)
+  line-same : (n i : ℕ) → i < 8 → axisLine n (axesOf r) i ≡ lineA n r (suc i)
   unfolding axesOf valuesOf lineA
   line-same n i h =
       let e : n + 3 ≡ suc (suc (suc n)) = omega arith in
       rw (getD-eight (λ i. valuesOf r (suc i)) i [] h, e)
       (ap (λ (l : List ℤ). numberLine 65 (pos (suc i) ∷ l)) (two-before (answerOf r (axis (suc i))) n (axisOf r (suc i)) .0))
 
-  lines-same : (n count : ℕ) → count ≤ 8 → axisLines n (axesOf r) count ≡ linesA n r count
-  unfolding axisLines linesA
-  lines-same n zero h = refl
-  lines-same n (suc count) h = rw (lines-same n count (omega arith), line-same n count (omega arith))
-
 pub text-same : (j : Job) → j .n ≤ 8 → textOf (headOf j) (runFor j .outcome) (axesOf (runFor j .last)) (j .n) ≡ reportOf j
 unfolding textOf headOf reportOf lineR
-text-same j h = rw (lines-same (runFor j .last) (j .n) (j .n) h)
+text-same j h = ap (λ l. lineR j ++ l) (lines-same (j .n) _ _ (λ i l. line-same (runFor j .last) (j .n) i (omega arith)))
 
 module _ (j : Job) (short : length (reportOf j) ≤ 2048) (entry : List ℕ) where
   pub too-short : length entry < length (reportOf j) → Answers (accepted j) entry entry (reported.Refused 12 0)

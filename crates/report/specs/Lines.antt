@@ -1,5 +1,5 @@
 -- The report's lines from their values, as the writer gets them: the numbers of the R line, the outcome, and eleven numbers for each A line.
-use Prim.Native.Nat.{ℕ, zero, suc, _+_, _<_}
+use Prim.Native.Nat.{ℕ, suc, _+_, _<_}
 use mathlib.Core.Path.{_≡_}
 use mathlib.Core.List.{List, [], _∷_, _++_, map}
 use lib.IntN.{ℤ, pos}
@@ -12,6 +12,7 @@ use Rattle.record.specs.declared.Record.{Record}
 use Rattle.rotation.specs.Turn.{eight}
 use Rattle.run.specs.declared.Outcome.{Outcome}
 use Rattle.text.specs.Line.{numberLine, wordLine}
+use Rattle.text.specs.Lines.{lines}
 use Rattle.report.specs.Report.{axisValues, outcomeWord, runFor}
 
 -- n, k, e, sweeps run and m
@@ -26,13 +27,12 @@ valuesOf r i = pos i ∷ (axisValues (answerOf r (axis i)) ++ axisOf r i)
 unfoldable pub axesOf : Record → List (List ℤ)
 axesOf r = eight (λ i. valuesOf r (suc i))
 
--- the first A lines, `count` of them, of n channels
-unfoldable pub axisLines : ℕ → List (List ℤ) → ℕ → List ℕ
-axisLines n axes zero = []
-axisLines n axes (suc count) = axisLines n axes count ++ numberLine 65 (take (n + 3) (getD axes count []))
+-- the A line of the axis at a place, of n channels
+abbrev pub axisLine : ℕ → List (List ℤ) → ℕ → List ℕ
+axisLine n axes i = numberLine 65 (take (n + 3) (getD axes i []))
 
 unfoldable pub textOf : List ℤ → Outcome → List (List ℤ) → ℕ → List ℕ
-textOf head outcome axes n = wordLine 82 head (outcomeWord outcome) ++ axisLines n axes n
+textOf head outcome axes n = wordLine 82 head (outcomeWord outcome) ++ lines (axisLine n axes) n
 
 -- eleven numbers for each of eight lines
 pub record Wide (axes : List (List ℤ)) : Type 0 where

@@ -1,5 +1,5 @@
 -- Document 01, 'Job text and report': the report of a job, what a job text is answered with, and what the lent buffer then holds.
-use Prim.Native.Nat.{ℕ, zero, suc, _*_, _≤_}
+use Prim.Native.Nat.{ℕ, suc, _*_, _≤_}
 use mathlib.Core.Bool.{cond}
 use mathlib.Core.List.{List, [], _∷_, _++_, map}
 use lib.Dec.{leb}
@@ -17,6 +17,7 @@ use Rattle.run.specs.declared.Outcome.{Outcome}
 use Rattle.run.specs.declared.Outcome.the-variants.{Settled, Still, Spent}
 use Rattle.run.specs.declared.Ran.{Ran}
 use Rattle.text.specs.Line.{numberLine, wordLine, lineX}
+use Rattle.text.specs.Lines.{lines}
 use Rattle.report.specs.declared.Reported.{Reported}
 use Rattle.report.specs.declared.Reported.the-variants.{Written, Refused}
 
@@ -51,13 +52,9 @@ axisValues (variants.Refused number) = pos 0 ∷ pos 0 ∷ []
 unfoldable pub lineA : ℕ → Record → ℕ → List ℕ
 lineA n r i = numberLine 65 (pos i ∷ (axisValues (answerOf r (axis i)) ++ take n (axisOf r i)))
 
--- for i = 1 to `last`
-unfoldable pub linesA : ℕ → Record → ℕ → List ℕ
-linesA n r zero = []
-linesA n r (suc last) = linesA n r last ++ lineA n r (suc last)
-
+-- 'then for i = 1 to n'
 unfoldable pub reportOf : Job → List ℕ
-reportOf j = lineR j ++ linesA (j .n) (runFor j .last) (j .n)
+reportOf j = lineR j ++ lines (λ i. lineA (j .n) (runFor j .last) (suc i)) (j .n)
 
 -- The answer: the report's length, or a refusal and its line. 'Report longer than the buffer' is of no line, and has 0
 unfoldable pub reportedBy : Answer → ℕ → Reported

@@ -6,7 +6,8 @@ use lib.IntN.{ℤ, pos}
 use lib.ListN.{length, getD}
 use Rattle.job.specs.Job.{Answer}
 use Rattle.text.specs.Line.{numberLine}
-use Rattle.scatter_text.specs.Table.{linesS, tabledBy, tabledOf, bufferBy, bufferOf}
+use Rattle.text.specs.Lines.{lines}
+use Rattle.scatter_text.specs.Table.{lineS, tabledBy, tabledOf, bufferBy, bufferOf}
 use Rattle.scatter_text.specs.declared.Tabled.{Tabled}
 
 -- Number i, j of n × n numbers row after row, from 0
@@ -15,7 +16,7 @@ numberAt n us i j = getD us (i * n + j) (pos 0)
 
 -- The text of the numbers of its first line and of n × n sums
 unfoldable pub textOf : List ℤ → ℕ → List ℤ → List ℕ
-textOf head n us = numberLine 84 head ++ linesS n (numberAt n us) n
+textOf head n us = numberLine 84 head ++ lines (lineS n (numberAt n us)) n
 
 -- The answer, and every byte of the lent buffer
 pub record Answers (a : Answer) (entry exit : List ℕ) (r : Tabled) : Type 0 where

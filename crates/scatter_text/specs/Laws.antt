@@ -14,10 +14,12 @@ use Rattle.job_table.specs.Held.{Held, jobIn, sumsFor, tableFor}
 use Rattle.job_table.specs.Laws.{channels-held, samples-held}
 use Rattle.scatter.specs.Entries.{padded-at, place-below, scatter-at}
 use Rattle.scatter.specs.Table.{scatter, tableOf}
+use Rattle.scatter.specs.Tabulate.{tabulate-ext}
 use Rattle.scatter.specs.declared.table.Table.{Table}
+use Rattle.text.specs.Line.{numberLine}
+use Rattle.text.specs.Lines.{lines-same}
 use Rattle.text.specs.Put.{Put, front-length}
 use Rattle.scatter_text.specs.Done.{textOf, Answers, Tables}
-use Rattle.scatter_text.specs.Rows.{lines-ext}
 use Rattle.scatter_text.specs.Table.{lineT, tableText, tabledBy, tabledOf, bufferBy, bufferOf}
 use Rattle.scatter_text.specs.declared.Tabled.{Tabled}
 use Rattle.scatter_text.specs.declared.Tabled.the-variants.{Written, Refused}
@@ -44,8 +46,10 @@ pub text-of-table : (j : Job) → j .n ≤ 8 → textOf (headOf j) (j .n) (table
 unfolding textOf headOf tableFor tableOf tableText lineT
 text-of-table j h =
     ap (λ lines. lineT (j .n) (length (j .dilutions)) (tableFor j .e) ++ lines)
-    (lines-ext (j .n) (j .n) _ _
-    (λ i q a b. padded-at (scatter (j .n) (sumsFor j)) (i * j .n + q) (place-below (j .n) i q h a b) ∙ scatter-at (j .n) (sumsFor j) i q a b))
+    (lines-same (j .n) _ _
+    (λ i a. ap (λ (numbers : List ℤ). numberLine 83 (pos (i + 1) ∷ numbers))
+    (tabulate-ext (j .n) _ _
+    (λ q b. padded-at (scatter (j .n) (sumsFor j)) (i * j .n + q) (place-below (j .n) i q h a b) ∙ scatter-at (j .n) (sumsFor j) i q a b))))
 
 -- The same with the numbers of a job in arrays
 pub text-of-arrays : (a : arrays.Job) → Held a → (t : Table) → t ≡ tableFor (jobIn a)

@@ -14,8 +14,9 @@ use Rattle.scatter.specs.Table.{S, tableOf}
 use Rattle.scatter.specs.Tabulate.{tabulate, length-tabulate, tabulate-all}
 use Rattle.text.specs.Digits.{length-number}
 use Rattle.text.specs.Line.{further, numbers, numberLine}
+use Rattle.text.specs.Lines.{lines-few}
 use Rattle.text.specs.Numbers.{length-number-line}
-use Rattle.scatter_text.specs.Table.{lineT, linesS, tableText}
+use Rattle.scatter_text.specs.Table.{lineT, lineS, tableText}
 
 -- Numbers that a signed word of 64 bits holds
 abbrev Words : List ℤ → Type 0
@@ -41,19 +42,13 @@ naturals-few (n ∷ ns) h zero = h zero
 naturals-few (n ∷ ns) h (suc i) = naturals-few ns (λ i. h (suc i)) i
 
 -- A row's number and its sums
-row-few : (n i : ℕ) (f : ℕ → ℕ → ℤ) → n ≤ 8 → i < 8 → ((i j : ℕ) → natAbs (f i j) < 2 ^ 62) → length (numberLine 83 (pos (i + 1) ∷ tabulate n (f i))) ≤ 191
+row-few : (n i : ℕ) (f : ℕ → ℕ → ℤ) → n ≤ 8 → i < 8 → ((i j : ℕ) → natAbs (f i j) < 2 ^ 62) → length (lineS n f i) ≤ 191
 row-few n i f h g small =
     omega (arith, line-few 83 (pos (i + 1) ∷ tabulate n (f i)) words, length-tabulate n (f i))
   where
     words : Words (pos (i + 1) ∷ tabulate n (f i))
     words zero = omega arith
     words (suc q) = tabulate-all (λ u. natAbs u < 2 ^ 63) n (f i) (pos 0) (omega arith) (λ j. omega (arith, small i j)) q
-
-rows-few : (n m : ℕ) (f : ℕ → ℕ → ℤ) → n ≤ 8 → m ≤ 8 → ((i j : ℕ) → natAbs (f i j) < 2 ^ 62) → length (linesS n f m) ≤ 191 * m
-unfolding linesS
-rows-few n zero f h g small = omega arith
-rows-few n (suc m) f h g small =
-    rw length-append (omega (arith, rows-few n m f h (omega arith) small, row-few n m f h (omega arith) small))
 
 module _ (j : Job) (p : Proper j) where
   sums-small : (i q : ℕ) → natAbs (S (sumsFor j) i q) < 2 ^ 62
@@ -74,4 +69,4 @@ module _ (j : Job) (p : Proper j) where
   pub table-few : length (tableText j) ≤ 2048
   unfolding tableText tableFor tableOf
   table-few =
-      rw length-append (omega (arith, first-few, rows-few (j .n) (j .n) (S (sumsFor j)) (channels j p .1) (channels j p .1) sums-small, channels j p .1))
+      rw length-append (omega (arith, first-few, lines-few (lineS (j .n) (S (sumsFor j))) 191 (j .n) (λ i l. row-few (j .n) i (S (sumsFor j)) (channels j p .1) (omega (arith, channels j p .1)) sums-small), channels j p .1))

@@ -1,5 +1,5 @@
 -- The text of a job's table, what a job text is answered with, and what the lent buffer then holds.
-use Prim.Native.Nat.{ℕ, zero, suc, _+_}
+use Prim.Native.Nat.{ℕ, _+_}
 use mathlib.Core.Bool.{cond}
 use mathlib.Core.List.{List, [], _∷_, _++_, map}
 use lib.Dec.{leb}
@@ -10,6 +10,7 @@ use Rattle.job_table.specs.Held.{sumsFor}
 use Rattle.scatter.specs.Table.{S, scatter, shift}
 use Rattle.scatter.specs.Tabulate.{tabulate}
 use Rattle.text.specs.Line.{numberLine, lineX}
+use Rattle.text.specs.Lines.{lines}
 use Rattle.scatter_text.specs.declared.Tabled.{Tabled}
 use Rattle.scatter_text.specs.declared.Tabled.the-variants.{Written, Refused}
 
@@ -17,15 +18,14 @@ use Rattle.scatter_text.specs.declared.Tabled.the-variants.{Written, Ref
 unfoldable pub lineT : ℕ → ℕ → ℕ → List ℕ
 lineT n k e = numberLine 84 (map pos (n ∷ k ∷ e ∷ []))
 
--- `S` i and n numbers, for i = 1 to `last`: channel i is at the place i − 1. 83 is `S`
-unfoldable pub linesS : ℕ → (ℕ → ℕ → ℤ) → ℕ → List ℕ
-linesS n f zero = []
-linesS n f (suc last) = linesS n f last ++ numberLine 83 (pos (last + 1) ∷ tabulate n (f last))
+-- `S` i and n numbers: channel i is at the place i − 1. 83 is `S`
+abbrev pub lineS : ℕ → (ℕ → ℕ → ℤ) → ℕ → List ℕ
+lineS n f i = numberLine 83 (pos (i + 1) ∷ tabulate n (f i))
 
 -- 'then for i = 1 to n `S`, i and the n exact sums S_i1 .. S_in'
 unfoldable pub tableText : Job → List ℕ
 tableText j =
-    lineT (j .n) (length (j .dilutions)) (shift (scatter (j .n) (sumsFor j))) ++ linesS (j .n) (S (sumsFor j)) (j .n)
+    lineT (j .n) (length (j .dilutions)) (shift (scatter (j .n) (sumsFor j))) ++ lines (lineS (j .n) (S (sumsFor j))) (j .n)
 
 -- The answer: the text's length, or a refusal and its line. A buffer that is too short is of no line, and has 0
 unfoldable pub tabledBy : Answer → ℕ → Tabled

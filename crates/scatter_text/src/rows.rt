@@ -5,9 +5,10 @@ ghost use Prim.Native.Nat.{_+_, _*_, _≤_, _<_};
 ghost use lib.IntN.{pos};
 ghost use lib.ListN.{length, getD};
 ghost use Rattle.scatter.specs.Tabulate.{tabulate};
+ghost use Rattle.text.specs.Lines.{lines};
 ghost use Rattle.text.specs.Put.{Put, Sized};
 ghost use Rattle.scatter_text.specs.Done.{numberAt};
-ghost use Rattle.scatter_text.specs.Table.{linesS};
+ghost use Rattle.scatter_text.specs.Table.{lineS};
 
 // A number, and eight numbers from a place on.
 fn row_from(number: usize, sums: &[i64; 64], at: usize) -> [i64; 9]
@@ -37,7 +38,7 @@ fn row_of(n: usize, sums: &[i64; 64], i: usize) -> [i64; 9]
 
 pub fn rows_length(n: usize, sums: &[i64; 64]) -> usize
     requires { ⌜ n ≤ 8 ⌝ }
-    ensures { λ r. ⌜ Sized (linesS n (numberAt n (now (sums .entry))) n) (191 * n) r ⌝ }
+    ensures { λ r. ⌜ Sized (lines (lineS n (numberAt n (now (sums .entry)))) n) (191 * n) r ⌝ }
 {
     let mut total = 0;
     let mut i = 0;
@@ -51,8 +52,8 @@ pub fn rows_length(n: usize, sums: &[i64; 64]) -> usize
 
 // Each line is written into the part of the buffer that starts where the last line ended.
 pub fn put_rows(buf: &mut [u8], from: usize, n: usize, sums: &[i64; 64]) -> usize
-    requires { ⌜ (n ≤ 8) × (from + length (linesS n (numberAt n (now sums)) n) ≤ length (now buf)) ⌝ }
-    ensures { λ r. ⌜ Put (linesS n (numberAt n (now (sums .entry))) n) from (now (buf .entry)) (now (buf .exit)) r ⌝ }
+    requires { ⌜ (n ≤ 8) × (from + length (lines (lineS n (numberAt n (now sums))) n) ≤ length (now buf)) ⌝ }
+    ensures { λ r. ⌜ Put (lines (lineS n (numberAt n (now (sums .entry)))) n) from (now (buf .entry)) (now (buf .exit)) r ⌝ }
 {
     let mut at = from;
     let mut i = 0;

@@ -3,6 +3,7 @@ pub mod Parts
 pub mod Numeral
 pub mod Decimal
 pub mod Line
+pub mod Lines
 pub mod Put
 pub mod Digits
 pub mod Numbers

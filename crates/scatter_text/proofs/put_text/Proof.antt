@@ -4,14 +4,15 @@ use native.Mathlib.Omega.{arith}
 use borrow.Author.Needs.{needs}
 use lib.ListN.{length, take, length-append}
 use Rattle.text.specs.Line.{numberLine}
+use Rattle.text.specs.Lines.{lines}
 use Rattle.text.specs.Put.{put-then}
 use Rattle.scatter_text.specs.Done.{numberAt, textOf}
-use Rattle.scatter_text.specs.Table.{linesS}
+use Rattle.scatter_text.specs.Table.{lineS}
 use Rattle.scatter_text.proofs.put_text.Statement.{statement}
 use Rattle.scatter_text.proofs.put_text.Tie as tie
 
 sized : (c : tie.Start)
-    → length (numberLine 84 (take 3 (c .args .head .now))) + length (linesS (c .args .n) (numberAt (c .args .n) (c .args .sums .now)) (c .args .n)) ≤ length (c .args .buf .now)
+    → length (numberLine 84 (take 3 (c .args .head .now))) + length (lines (lineS (c .args .n) (numberAt (c .args .n) (c .args .sums .now))) (c .args .n)) ≤ length (c .args .buf .now)
 unfolding textOf
 sized c = rw length-append at (c .pre .1)
 

@@ -2,24 +2,25 @@
 use Prim.Native.Nat.{_+_, _-_, _≤_}
 use mathlib.Core.Path.{_≡_, sym}
 use mathlib.Core.List.{[]}
-use lib.ListN.{length, take, getD}
+use lib.ListN.{length, getD}
 use native.Mathlib.Omega.{arith}
 use borrow.Author.Needs.{needs}
-use Rattle.text.specs.Line.{numberLine, wordLine}
+use Rattle.text.specs.Line.{wordLine}
+use Rattle.text.specs.Lines.{lines, lines-none, lines-more, line-within}
 use Rattle.text.specs.Put.{Put, put-nothing, put-part, put-then, part-size, same-size}
-use Rattle.report.specs.Lines.{axisLines, textOf}
+use Rattle.report.specs.Lines.{axisLine, textOf}
 use Rattle.report.specs.Report.{outcomeWord}
-use Rattle.report.proofs.Written.{lines-none, lines-more, line-within, text-size}
+use Rattle.report.proofs.Written.{text-size}
 use Rattle.report.proofs.lines.put_text.Statement.{statement}
 use Rattle.report.proofs.lines.put_text.Tie as tie
 
 abbrev Inv-loop : tie.InvT-loop
-Inv-loop buf₀ head axes n at₀ i₀ buf at i = (i ≤ n) × Put (axisLines n axes i) at₀ buf₀ buf at
+Inv-loop buf₀ head axes n at₀ i₀ buf at i = (i ≤ n) × Put (lines (axisLine n axes) i) at₀ buf₀ buf at
 
 abbrev μ-loop : tie.MeasureT-loop
 μ-loop buf₀ head axes n at₀ i₀ buf at i = n - i
 
-sized : (c : tie.Start Inv-loop μ-loop) → length (wordLine 82 (c .args .head .now) (outcomeWord (c .args .outcome))) + length (axisLines (c .args .n) (c .args .axes .now) (c .args .n)) ≤ length (c .args .buf .now)
+sized : (c : tie.Start Inv-loop μ-loop) → length (wordLine 82 (c .args .head .now) (outcomeWord (c .args .outcome))) + length (lines (axisLine (c .args .n) (c .args .axes .now)) (c .args .n)) ≤ length (c .args .buf .now)
 sized c = rw (text-size (c .args .head .now) (c .args .outcome) (c .args .axes .now) (c .args .n)) at (c .pre .2)
 
 put-head-requires : tie.Need-put-head-requires Inv-loop μ-loop
@@ -29,7 +30,7 @@ loop-holds : tie.Need-loop-holds Inv-loop μ-loop
 loop-holds c =
     let s = c .before .before .before .before .before in
     let p = c .before .before .put-head in
-    (omega arith, rw (lines-none (s .args .n) (s .args .axes .now)) (put-nothing (p .result) (p .last .0) (omega (arith, p .ensures .within, p .kept))))
+    (omega arith, rw (lines-none (axisLine (s .args .n) (s .args .axes .now))) (put-nothing (p .result) (p .last .0) (omega (arith, p .ensures .within, p .kept))))
 
 within : (c : tie.In-loop Inv-loop μ-loop) → c .before .loop .at ≤ length (c .before .loop .buf)
 within c = let p = c .before .loop .inv .1 in omega (arith, p .within, same-size p)
@@ -41,14 +42,14 @@ wide c =
 
 -- There is room for line i.
 room : (c : tie.In-loop Inv-loop μ-loop) → (let s = c .before .before .before .before .before .before .before in
-    c .before .loop .at + length (numberLine 65 (take (s .args .n + 3) (getD (s .args .axes .now) (c .before .loop .i) []))) ≤ length (s .args .buf .now))
+    c .before .loop .at + length (axisLine (s .args .n) (s .args .axes .now) (c .before .loop .i)) ≤ length (s .args .buf .now))
 room c =
     let s = c .before .before .before .before .before .before .before in
     let p = c .before .before .before .before .put-head in
     omega (
       arith,
       sized s,
-      line-within (s .args .n) (s .args .axes .now) (c .before .loop .i) (s .args .n) (c .loop-test .taken),
+      line-within (axisLine (s .args .n) (s .args .axes .now)) (s .args .n) (c .before .loop .i) (c .loop-test .taken),
       c .before .loop .inv .1 .answer,
       p .ensures .answer,
     )
@@ -76,7 +77,7 @@ loop-again : tie.Need-loop-again Inv-loop μ-loop
 loop-again c =
     let l = c .before .before .before .before .before .before in
     let s = l .before .before .before .before .before .before .before in
-    (omega (arith, l .loop-test .taken), rw (lines-more (s .args .n) (s .args .axes .now) (l .before .loop .i)) (put-part (l .before .loop .inv .1) (c .before .before .put-line .ensures)))
+    (omega (arith, l .loop-test .taken), rw (lines-more (axisLine (s .args .n) (s .args .axes .now)) (l .before .loop .i)) (put-part (l .before .loop .inv .1) (c .before .before .put-line .ensures)))
 
 same-length : tie.Need-same-length Inv-loop μ-loop
 same-length c = omega (arith, same-size (c .before .loop .inv .1), c .before .before .before .before .put-head .kept)

@@ -6,16 +6,17 @@ use lib.Seq.{take-length}
 use native.Mathlib.Omega.{arith}
 use borrow.Author.Needs.{needs}
 use Rattle.text.specs.Line.{wordLine}
+use Rattle.text.specs.Lines.{lines, lines-none, lines-more}
 use Rattle.text.specs.Numbers.{length-number-line, length-word-line}
-use Rattle.report.specs.Lines.{axisLines}
+use Rattle.report.specs.Lines.{axisLine}
 use Rattle.report.specs.Report.{outcomeWord}
-use Rattle.report.proofs.Written.{word-few, lines-none, lines-more, text-size}
+use Rattle.report.proofs.Written.{word-few, text-size}
 use Rattle.report.proofs.lines.text_length.Statement.{statement}
 use Rattle.report.proofs.lines.text_length.Tie as tie
 
 abbrev Inv-loop : tie.InvT-loop
 Inv-loop head axes n total₀ i₀ total i =
-    (i ≤ n) × (total ≡ total₀ + length (axisLines n axes i)) × (total ≤ total₀ + 233 * i)
+    (i ≤ n) × (total ≡ total₀ + length (lines (axisLine n axes) i)) × (total ≤ total₀ + 233 * i)
 
 abbrev μ-loop : tie.MeasureT-loop
 μ-loop head axes n total₀ i₀ total i = n - i
@@ -29,7 +30,7 @@ line-bounded c =
     omega (arith, c .numbers-length2 .ensures .bounded, c .before .before .before .before .before .before .before .pre .1)
 
 loop-holds : tie.Need-loop-holds Inv-loop μ-loop
-loop-holds c = (omega arith, rw (lines-none (c .before .before .args .n) (c .before .before .args .axes .now)) (omega arith), omega arith)
+loop-holds c = (omega arith, rw (lines-none (axisLine (c .before .before .args .n) (c .before .before .args .axes .now))) (omega arith), omega arith)
 
 slice-aggregate-numbers-length : tie.Need-slice-aggregate-numbers-length Inv-loop μ-loop
 slice-aggregate-numbers-length c =
@@ -53,7 +54,7 @@ loop-again c =
     let s = c .before .before .before .before .before .before .before in
     let l = c .before .before .before .before in (
       omega arith,
-      rw (lines-more (s .args .n) (s .args .axes .now) (l .loop .i), length-append, length-number-line)
+      rw (lines-more (axisLine (s .args .n) (s .args .axes .now)) (l .loop .i), length-append, length-number-line)
           (omega (arith, l .loop .inv .1, c .numbers-length2 .ensures .exact)),
       omega (arith, l .loop .inv .2, line-bounded c),
     )

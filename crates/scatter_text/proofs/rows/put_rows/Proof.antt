@@ -4,22 +4,22 @@ use mathlib.Core.Path.{_≡_, sym}
 use lib.ListN.{length}
 use native.Mathlib.Omega.{arith}
 use borrow.Author.Needs.{needs}
+use Rattle.text.specs.Lines.{lines, lines-none, lines-more, line-within}
 use Rattle.text.specs.Put.{Put, put-nothing, put-part, same-size, part-size}
 use Rattle.scatter_text.specs.Done.{numberAt}
-use Rattle.scatter_text.specs.Table.{linesS}
-use Rattle.scatter_text.specs.Rows.{more-lines, lines-within, row-size, row-numbers}
+use Rattle.scatter_text.specs.Table.{lineS}
+use Rattle.scatter_text.specs.Rows.{row-size, row-numbers}
 use Rattle.scatter_text.proofs.rows.put_rows.Statement.{statement}
 use Rattle.scatter_text.proofs.rows.put_rows.Tie as tie
 
 abbrev Inv-loop : tie.InvT-loop
-Inv-loop buf₀ from n sums at₀ i₀ buf at i = (i ≤ n) × Put (linesS n (numberAt n sums) i) from buf₀ buf at
+Inv-loop buf₀ from n sums at₀ i₀ buf at i = (i ≤ n) × Put (lines (lineS n (numberAt n sums)) i) from buf₀ buf at
 
 abbrev μ-loop : tie.MeasureT-loop
 μ-loop buf₀ from n sums at₀ i₀ buf at i = n - i
 
 loop-holds : tie.Need-loop-holds Inv-loop μ-loop
-unfolding linesS
-loop-holds c = (omega arith, put-nothing (c .before .args .from) (c .before .args .buf .now) (omega arith))
+loop-holds c = (omega arith, rw (lines-none (lineS _ _)) (put-nothing (c .before .args .from) (c .before .args .buf .now) (omega arith)))
 
 part-start : (c : tie.After-row-of Inv-loop μ-loop) → c .before .before .loop .at ≤ length (c .before .before .loop .buf)
 part-start c = let p = c .before .before .loop .inv .1 in omega (arith, p .within, same-size p)
@@ -34,7 +34,7 @@ put-line-requires c κs =
     let size : length (made .row-of .result) ≡ 9 = row-size _ _ (made .row-of .ensures) in (
       omega (arith, start .pre .0),
       rw (row-numbers _ f _ (start .pre .0) (made .row-of .ensures))
-          (omega (arith, lines-within (start .args .n) f (start .args .n) (made .before .loop-test .taken), p .answer, part-size p, start .pre .1)),
+          (omega (arith, line-within (lineS (start .args .n) f) (start .args .n) _ (made .before .loop-test .taken), p .answer, part-size p, start .pre .1)),
     )
 
 add-at : tie.Need-add-at Inv-loop μ-loop
@@ -51,7 +51,7 @@ loop-again c =
     let start = head .before .before in
     let f = numberAt (start .args .n) (start .args .sums .now) in (
       omega (arith, made .before .loop-test .taken),
-      rw (more-lines _ f (head .loop .i))
+      rw (lines-more (lineS _ f) (head .loop .i))
           (put-part (head .loop .inv .1) (rw (row-numbers _ f _ (start .pre .0) (made .row-of .ensures)) at (put .put-line .ensures))),
     )
 

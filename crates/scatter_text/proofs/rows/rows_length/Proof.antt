@@ -8,23 +8,23 @@ use native.Mathlib.Omega.{arith}
 use borrow.Author.Needs.{needs}
 use Rattle.scatter.specs.Tabulate.{tabulate}
 use Rattle.text.specs.Line.{numbers}
+use Rattle.text.specs.Lines.{lines, lines-none, lines-length}
 use Rattle.text.specs.Put.{Sized}
 use Rattle.text.specs.Numbers.{length-number-line}
 use Rattle.scatter_text.specs.Done.{numberAt}
-use Rattle.scatter_text.specs.Table.{linesS}
-use Rattle.scatter_text.specs.Rows.{more-length, row-size, row-numbers}
+use Rattle.scatter_text.specs.Table.{lineS}
+use Rattle.scatter_text.specs.Rows.{row-size, row-numbers}
 use Rattle.scatter_text.proofs.rows.rows_length.Statement.{statement}
 use Rattle.scatter_text.proofs.rows.rows_length.Tie as tie
 
 abbrev Inv-loop : tie.InvT-loop
-Inv-loop n sums total₀ i₀ total i = (i ≤ n) × (total ≡ length (linesS n (numberAt n sums) i)) × (total ≤ 191 * i)
+Inv-loop n sums total₀ i₀ total i = (i ≤ n) × (total ≡ length (lines (lineS n (numberAt n sums)) i)) × (total ≤ 191 * i)
 
 abbrev μ-loop : tie.MeasureT-loop
 μ-loop n sums total₀ i₀ total i = n - i
 
 loop-holds : tie.Need-loop-holds Inv-loop μ-loop
-unfolding linesS
-loop-holds c = (omega arith, omega arith, omega arith)
+loop-holds c = (omega arith, rw (lines-none (lineS _ _)) (omega arith), omega arith)
 
 numbers-length-requires : tie.Need-numbers-length-requires Inv-loop μ-loop
 numbers-length-requires c κs =
@@ -56,7 +56,7 @@ loop-again c =
     let start = head .before in
     let f = numberAt (start .args .n) (start .args .sums .now) in (
       omega (arith, c .before .before .before .loop-test .taken),
-      omega (arith, more-length (start .args .n) f (head .loop .i), length-number-line 83 (pos (head .loop .i + 1) ∷ tabulate (start .args .n) (f (head .loop .i))), sized c .exact),
+      omega (arith, lines-length (lineS (start .args .n) f) (head .loop .i), length-number-line 83 (pos (head .loop .i + 1) ∷ tabulate (start .args .n) (f (head .loop .i))), sized c .exact),
       omega (arith, sized c .bounded),
     )
 
