@@ -1,9 +1,9 @@
-mod Block
+mod Back
 mod Chosen
+mod Columns
 mod Combination
 mod Pass
-mod Placed
 mod Power
-mod Rows
 mod Search
+mod Stored
 mod Whole

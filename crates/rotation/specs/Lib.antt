@@ -7,7 +7,7 @@ pub mod Place
 pub mod Eight
 pub mod Shape
 pub mod Size
-pub mod Rows
+pub mod InPlace
 pub mod Exact
 pub mod Symmetry
 pub mod Rounded

@@ -58,8 +58,11 @@ at a i j = getD (getD a i []) j (pos 0)
 unfoldable pub eight : {A : Type 0} → (ℕ → A) → List A
 eight f = f 0 ∷ f 1 ∷ f 2 ∷ f 3 ∷ f 4 ∷ f 5 ∷ f 6 ∷ f 7 ∷ []
 
+abbrev pub square : (ℕ → ℕ → ℤ) → List (List ℤ)
+square f = eight (λ i. eight (f i))
+
 unfoldable pub array : ℕ → (ℕ → ℕ → ℤ) → (ℕ → ℕ → ℤ) → List (List ℤ)
-array n new old = eight (λ i. eight (λ j. cond (ltb i n && ltb j n) (new i j) (old i j)))
+array n new old = square (λ i j. cond (ltb i n && ltb j n) (new i j) (old i j))
 
 -- The turn takes the whole matrix and gives the whole matrix
 unfoldable pub turnMatrix : ℕ → Rotation → ℕ → ℕ → List (List ℤ) → List (List ℤ)

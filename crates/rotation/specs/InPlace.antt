@@ -1,0 +1,28 @@
+-- The turn of a lent matrix in three steps: rows p and q turned as those of the axes are, the block's second pass, and the mirrors of rows p and q.
+use Prim.Native.Nat.{ℕ, _≤_}
+use mathlib.Core.Bool.{cond}
+use mathlib.Core.List.{List}
+use lib.Dec.{ltb}
+use lib.IntN.{ℤ, natAbs}
+use Rattle.rotation.specs.Rotation.{first, second}
+use Rattle.rotation.specs.Size.{passed, widest}
+use Rattle.rotation.specs.Turn.{at, atPair}
+use Rattle.rotation.specs.declared.pair.Rotation.{Rotation}
+
+module _ (p q : ℕ) (f : ℕ → ℕ → ℤ) where
+  -- the second pass over the block that the first pass has left in f
+  unfoldable pub blockOf : Rotation → ℕ → ℕ → ℤ
+  blockOf r i j =
+      atPair p q i (atPair p q j (first r (f p p) (f p q)) (second r (f p p) (f p q)) (f p j))
+      (atPair p q j (second r (f p p) (f p q)) (second r (f q p) (f q q)) (f q j)) (f i j)
+
+  -- the first k rows take their entries in columns p and q from rows p and q
+  unfoldable pub mirrorOf : ℕ → ℕ → ℕ → ℤ
+  mirrorOf k i j = cond (ltb i k) (atPair p q j (f p i) (f q i) (f i j)) (f i j)
+
+-- the entries of the block after a first pass
+pub record Passed (r : Rotation) (p q : ℕ) (a : List (List ℤ)) : Type 0 where
+  pub pp : natAbs (at a p p) ≤ passed r widest
+  pub pq : natAbs (at a p q) ≤ passed r widest
+  pub qp : natAbs (at a q p) ≤ passed r widest
+  pub qq : natAbs (at a q q) ≤ passed r widest
