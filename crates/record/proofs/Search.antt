@@ -1,34 +1,31 @@
--- The search for a loose pair, a place of the pair order at a time.
-use mathlib.Core.Path.{_≡_}
-use Prim.Native.Nat.{ℕ, _+_, _≤_, _<_}
-use native.Mathlib.Numerals.{add-one}
+-- The search for a loose pair, a pair at a time.
+use mathlib.Core.Path.{_≡_, refl, ap₂, _∙_}
+use mathlib.Core.Bool.{cond}
+use mathlib.Core.List.{List, [], _∷_}
+use Prim.Native.Nat.{ℕ, suc, _≤_, _<_}
+use native.Mathlib.Omega.{arith}
+use lib.Dec.{ltb}
 use lib.IntN.{natAbs}
-use lib.ListN.{getD, drop}
 use borrow.Author.Tests.{lt-ltb, le-ltb}
 use Rattle.integer.specs.Matrix.{Matrix}
-use Rattle.ledger.specs.Pairs.{row, rowsFrom, cyclic}
-use Rattle.record.specs.Order.{order, inOrder, firsts, seconds, first-at, second-at, order-opens}
+use Rattle.ledger.specs.Cyclic.{Each}
+use Rattle.ledger.specs.Pairs.{Pair}
 use Rattle.record.specs.Record.{looseOf}
 use Rattle.record.specs.declared.Answer.{Answer}
 use Rattle.record.specs.declared.Answer.the-variants.{Pair as PairIs, NoPair}
 
--- the answer of the pairs from place k on
-abbrev pub looseFrom : Matrix → ℕ → ℕ → ℕ → Answer
-looseFrom a n t k = looseOf a t (inOrder n (drop k order))
-
-module _ (a : Matrix) (n t k : ℕ) (h : k < 28) where
-  pub outside : n ≤ getD seconds k 0 → looseFrom a n t k ≡ looseFrom a n t (k + 1)
-  outside e = rw (order-opens k h n, ← second-at k h, le-ltb (getD seconds k 0) n e)
-
-  pub passed : getD seconds k 0 < n → natAbs (a (getD firsts k 0) (getD seconds k 0)) ≤ t → looseFrom a n t k ≡ looseFrom a n t (k + 1)
+module _ (a : Matrix) (t : ℕ) (pair : Pair) (pairs : List Pair) where
+  pub passed : natAbs (a (pair .p) (pair .q)) ≤ t → looseOf a t (pair ∷ pairs) ≡ looseOf a t pairs
   unfolding looseOf
-  passed e l = rw (order-opens k h n, ← second-at k h, ← first-at k h, lt-ltb (getD seconds k 0) n e, le-ltb t _ l)
+  passed l = rw (le-ltb t _ l)
 
-  pub found : getD seconds k 0 < n → t < natAbs (a (getD firsts k 0) (getD seconds k 0)) → looseFrom a n t k ≡ PairIs (getD firsts k 0 + 1) (getD seconds k 0 + 1)
+  pub found : t < natAbs (a (pair .p) (pair .q)) → looseOf a t (pair ∷ pairs) ≡ PairIs (suc (pair .p)) (suc (pair .q))
   unfolding looseOf
-  found e l =
-      rw (order-opens k h n, ← second-at k h, ← first-at k h, lt-ltb (getD seconds k 0) n e, lt-ltb t _ l, add-one (getD firsts k 0), add-one (getD seconds k 0))
+  found l = rw (lt-ltb t _ l)
 
-pub exhausted : (a : Matrix) (n t k : ℕ) → k ≡ 28 → looseFrom a n t k ≡ NoPair
-unfolding looseOf inOrder order cyclic rowsFrom row
-exhausted a n t k e = rw e
+-- of two matrices that agree below n, at pairs below n
+pub same-loose : (n : ℕ) (a b : Matrix) (t : ℕ) (pairs : List Pair) → Each n pairs → ((i j : ℕ) → i < n → j < n → a i j ≡ b i j) → looseOf a t pairs ≡ looseOf b t pairs
+unfolding looseOf Each
+same-loose n a b t [] all same = refl
+same-loose n a b t (pair ∷ pairs) all same =
+    rw (same (pair .p) (pair .q) (omega (arith, all .0 .ordered, all .0 .within)) (all .0 .within), same-loose n a b t pairs (all .1) same)

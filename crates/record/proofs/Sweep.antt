@@ -1,64 +1,66 @@
--- The loop of a sweep: the work at place k of the order, and the three ways on to place k + 1.
+-- A sweep, pair by pair: the work so far, and the pairs that are left.
 use mathlib.Core.Path.{_≡_, refl, sym, ap, _∙_}
-use mathlib.Core.Bool.{Bool}
-use mathlib.Core.List.{List}
-use Prim.Native.Nat.{ℕ, suc, _+_, _≤_, _<_}
-use native.Mathlib.Numerals.{add-one}
+use mathlib.Core.List.{List, [], _∷_}
+use Prim.Native.Nat.{ℕ, _+_, _≤_, _<_}
 use native.Mathlib.Omega.{arith}
-use lib.ListN.{getD}
-use Rattle.ledger.specs.Pairs.{Pair, cyclic}
-use Rattle.rotation.specs.Size.{Small, Symmetric, Turns, rotationOf-turns}
-use Rattle.rotation.specs.Rotation.{rotationOf}
+use lib.Dec.{T, leb, leb→le}
+use lib.ListN.{length}
+use Rattle.integer.specs.Range.{below}
+use Rattle.ledger.specs.Pairs.{Pair, cyclic, row, rowsFrom}
+use Rattle.rotation.specs.Eight.{shaped-square}
+use Rattle.rotation.specs.Shape.{Shaped}
+use Rattle.rotation.specs.Turn.{array, turnAxes, turnMatrix}
 use Rattle.rotation.specs.declared.choice.Choice.{Choice}
 use Rattle.rotation.specs.declared.choice.Choice.the-variants.{NoTurn, Turn}
 use Rattle.record.specs.Kept.{KeptWork}
-use Rattle.record.specs.Order.{firsts, pair-at, second-at, second-below, seconds, tables-ordered}
-use Rattle.record.specs.Prefix.{prefix, prefix-all, prefix-few, prefix-kept, prefix-none, prefix-skipped, prefix-turned}
+use Rattle.record.specs.Turning.{work-grows, work-keeps}
 use Rattle.record.specs.Work.{Work, chosen, workBy, workPair, workPairs}
-use Rattle.record.proofs.Worked.{not-turned, turned-by}
+use Rattle.record.specs.Worked.{Ready}
 
-pub record Loop (n : ℕ) (w₀ w : Work) (k : ℕ) : Type 0 where
-  pub place : k ≤ 28
-  pub is : w ≡ prefix n w₀ k
-  pub kept : KeptWork n w₀
-  pub few : w₀ .m ≤ 448
-  pub size : n ≤ 8
+-- after a turn the rows have their shape, as before it
+module _ (n : ℕ) (w : Work) (pair : Pair) (matrix : Shaped (w .a)) (axes : Shaped (w .v)) where
+  by-shaped : (choice : Choice) → Shaped (workBy n w pair choice .a) × Shaped (workBy n w pair choice .v)
+  unfolding workBy turnMatrix turnAxes array
+  by-shaped NoTurn = (matrix, axes)
+  by-shaped (Turn l minus) = (shaped-square _, shaped-square _)
 
-pub started : (n : ℕ) (w : Work) → KeptWork n w → w .m ≤ 448 → n ≤ 8 → Loop n w w 0
-started n w k f b = record { place = omega arith; is = sym (prefix-none n w); kept = k; few = f; size = b }
+  pair-shaped : Shaped (workPair n w pair .a) × Shaped (workPair n w pair .v)
+  unfolding workPair
+  pair-shaped = by-shaped (chosen w pair)
 
-pub ended : (n : ℕ) (w₀ w : Work) (k : ℕ) → Loop n w₀ w k → k ≡ 28 → w ≡ workPairs n w₀ (cyclic n)
-ended n w₀ w k l e = l .is ∙ ap (prefix n w₀) e ∙ prefix-all n w₀ (l .size)
+-- from the work w₀ with the pairs₀ left, the work w with the pairs left
+pub record Sweeping (n : ℕ) (w₀ : Work) (pairs₀ : List Pair) (w : Work) (pairs : List Pair) : Type 0 where
+  pub same : workPairs n w pairs ≡ workPairs n w₀ pairs₀
+  pub kept : KeptWork n w
+  pub few : w .m + length pairs ≤ w₀ .m + length pairs₀
+  pub matrix : Shaped (w .a)
+  pub axes : Shaped (w .v)
 
--- the pair at place k
-abbrev pub here : ℕ → Pair
-here k = record { p = getD firsts k 0; q = getD seconds k 0 }
+pub started : (n : ℕ) (w : Work) (pairs : List Pair) → KeptWork n w → Shaped (w .a) → Shaped (w .v) → Sweeping n w pairs w pairs
+started n w pairs k a v = record { same = refl; kept = k; few = omega arith; matrix = a; axes = v }
 
-module _ (n : ℕ) (w₀ w : Work) (k : ℕ) (l : Loop n w₀ w k) where
-  pub loop-kept : KeptWork n w
-  loop-kept = rw (l .is) (prefix-kept n w₀ k (l .size) (l .place) (l .kept))
+pub then : {n : ℕ} {w₀ w₁ w₂ : Work} {pairs₀ pairs₁ pairs₂ : List Pair} → Sweeping n w₀ pairs₀ w₁ pairs₁ → Sweeping n w₁ pairs₁ w₂ pairs₂ → Sweeping n w₀ pairs₀ w₂ pairs₂
+then s t =
+    record { same = t .same ∙ s .same; kept = t .kept; few = omega (arith, s .few, t .few); matrix = t .matrix; axes = t .axes }
 
-  pub loop-few : w .m ≤ 476
-  loop-few = rw (l .is) (omega (arith, prefix-few n w₀ k (l .place), l .few, l .place))
+module _ (n : ℕ) (w₀ w : Work) (pairs₀ : List Pair) (pair : Pair) (pairs : List Pair) where
+  pub one-more : (w′ : Work) → Sweeping n w₀ pairs₀ w (pair ∷ pairs) → w′ ≡ workPair n w pair → pair .p < pair .q → pair .q < n → n ≤ 8 → Sweeping n w₀ pairs₀ w′ pairs
+  unfolding workPairs
+  one-more w′ s e h k b =
+      rw e
+      (record {
+        same = s .same;
+        kept = work-keeps n w pair b (s .kept) h k;
+        few = omega (arith, s .few, work-grows n w pair);
+        matrix = pair-shaped n w pair (s .matrix) (s .axes) .0;
+        axes = pair-shaped n w pair (s .matrix) (s .axes) .1;
+      })
 
-  module _ (h : k < 28) where
-    pub ordered : here k .p < here k .q
-    ordered = tables-ordered k h
+pub ended : (n : ℕ) (w₀ w : Work) (pairs₀ : List Pair) → Sweeping n w₀ pairs₀ w [] → w ≡ workPairs n w₀ pairs₀
+unfolding workPairs
+ended n w₀ w pairs₀ s = s .same
 
-    pub below : here k .q < 8
-    below = second-below k h
-
-    next : (w′ : Work) → w′ ≡ prefix n w₀ (k + 1) → Loop n w₀ w′ (k + 1)
-    next w′ e = record { place = omega arith; is = e; kept = l .kept; few = l .few; size = l .size }
-
-    pub skipped : n ≤ here k .q → Loop n w₀ w (k + 1)
-    skipped q = next w (l .is ∙ sym (prefix-skipped n w₀ k h (rw (second-at k h) at q)))
-
-    worked : here k .q < n → workPair n w (here k) ≡ prefix n w₀ (k + 1)
-    worked q = ap (λ x. workPair n x (here k)) (l .is) ∙ ap (workPair n (prefix n w₀ k)) (pair-at k h) ∙ sym (prefix-turned n w₀ k h (rw (second-at k h) at q))
-
-    pub unturned : here k .q < n → chosen w (here k) ≡ NoTurn → Loop n w₀ w (k + 1)
-    unturned q e = next w (sym (not-turned n w (here k) e) ∙ worked q)
-
-    pub turned : here k .q < n → (t : ℕ) (minus : Bool) → chosen w (here k) ≡ Turn t minus → Loop n w₀ (workBy n w (here k) (Turn t minus)) (k + 1)
-    turned q t minus e = next _ (sym (turned-by n w (here k) t minus e) ∙ worked q)
+-- at most 28 pairs
+pub cyclic-few : (n : ℕ) → n ≤ 8 → length (cyclic n) ≤ 28
+unfolding cyclic rowsFrom row
+cyclic-few n h = leb→le _ _ (below (λ n. leb (length (cyclic n)) 28) 9 tt n (omega arith))

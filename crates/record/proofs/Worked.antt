@@ -11,12 +11,14 @@ use lib.Seq.{ext-getD}
 use Rattle.ledger.specs.Pairs.{Pair}
 use Rattle.rotation.specs.Choice.{choose}
 use Rattle.rotation.specs.Chosen.{From, chosen-from}
+use Rattle.rotation.specs.Eight.{shaped-square}
 use Rattle.rotation.specs.Rotation.{rotationOf}
+use Rattle.rotation.specs.Shape.{Shaped}
 use Rattle.rotation.specs.Turn.{at, turnMatrix, turnAxes}
 use Rattle.rotation.specs.declared.choice.Choice.{Choice}
 use Rattle.rotation.specs.declared.choice.Choice.the-variants.{NoTurn, Turn}
 use Rattle.record.specs.Fill.{at-rowsOf, getD-tabulate, length-tabulate}
-use Rattle.record.specs.Flat.{flatOf, kept, rowsOf}
+use Rattle.record.specs.Flat.{entriesOf, flatOf, kept, rowsOf}
 use Rattle.record.specs.Work.{Work, chosen, workBy, workPair}
 
 pub flat-rows : (a : List ℤ) → length a ≡ 64 → a ≡ flatOf (at (rowsOf a))
@@ -31,6 +33,10 @@ flat-rows a h = ext-getD (pos 0) a _ (h ∙ sym (length-tabulate 64 _)) (λ k l.
 
     entry : (k : ℕ) → k < 64 → getD (flatOf (at (rowsOf a))) k (pos 0) ≡ getD a k (pos 0)
     entry k l = getD-tabulate 64 k _ l ∙ at-rowsOf a (k / 8) (k % 8) (omega arith) (omega arith) ∙ place k
+
+pub shaped-rows : (a : List ℤ) → Shaped (rowsOf a)
+unfolding rowsOf entriesOf
+shaped-rows a = shaped-square (kept a)
 
 module _ (n : ℕ) (w : Work) (pair : Pair) where
   pub not-turned : chosen w pair ≡ NoTurn → workPair n w pair ≡ w

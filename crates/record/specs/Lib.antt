@@ -10,7 +10,6 @@ pub mod Query
 pub mod Order
 pub mod Among
 pub mod Loose
-pub mod Prefix
 pub mod Worked
 pub mod After
 pub mod Agree

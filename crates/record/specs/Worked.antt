@@ -1,11 +1,13 @@
--- The matrix and axes at work, and the flat lists that hold them before and after.
+-- The matrix and axes at work: as rows, and the flat lists that hold them before and after.
 use mathlib.Core.Path.{_≡_}
 use mathlib.Core.List.{List}
-use Prim.Native.Nat.{ℕ}
+use Prim.Native.Nat.{ℕ, _≤_}
 use lib.IntN.{ℤ}
 use Rattle.record.specs.Flat.{rowsOf, flatOf}
+use Rattle.record.specs.Kept.{KeptWork}
 use Rattle.record.specs.Work.{Work}
 use Rattle.record.specs.declared.work.Worked.{Worked}
+use Rattle.rotation.specs.Shape.{Shaped}
 use Rattle.rotation.specs.Turn.{at}
 
 unfoldable pub startOf : List ℤ → List ℤ → ℕ → Work
@@ -14,3 +16,14 @@ startOf a v m = record { a = rowsOf a; v = rowsOf v; m = m }
 -- z holds w, flat
 unfoldable pub flatWork : Work → Worked
 flatWork w = record { a = flatOf (at (w .a)); v = flatOf (at (w .v)); m = w .m }
+
+-- the work that two arrays of rows and m are
+abbrev pub workAt : List (List ℤ) → List (List ℤ) → ℕ → Work
+workAt a v m = record { a = a; v = v; m = m }
+
+-- rows on which a pair may be chosen and turned: 448 turns, and those of a sweep
+pub record Ready (n : ℕ) (a v : List (List ℤ)) (m : ℕ) : Type 0 where
+  pub kept : KeptWork n (workAt a v m)
+  pub few : m ≤ 476
+  pub matrix : Shaped a
+  pub axes : Shaped v

@@ -197,8 +197,9 @@ impl Record {
             };
         }
         let a = self.a;
+        let rows = rows::unpacked(&a);
         Step {
-            answer: query::loose_pair_of(&a, n, t),
+            answer: query::loose_pair_of(&rows, n, t),
             next: self,
         }
     }

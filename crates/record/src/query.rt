@@ -8,13 +8,13 @@ ghost use Rattle.ledger.specs.Axis.{errorOf};
 ghost use Rattle.ledger.specs.Call.{loosePair, axis};
 ghost use Rattle.ledger.specs.Pairs.{cyclic};
 ghost use Rattle.ledger.specs.Refusal.{refusalOf};
+ghost use Rattle.rotation.specs.Size.{Small};
+ghost use Rattle.rotation.specs.Turn.{at};
 ghost use Rattle.record.specs.Flat.{kept};
 ghost use Rattle.record.specs.Record.{looseOf};
 ghost use Rattle.record.specs.Query.{Modest};
 use crate::Answer;
 use crate::Record;
-use crate::work::FIRST;
-use crate::work::SECOND;
 
 pub fn loose_pair_refusal(n: usize, t: u64) -> u32
     ensures { λ r. ⌜ r ≡ refusalOf n 0 (loosePair t) ⌝ }
@@ -43,6 +43,14 @@ pub fn axis_refusal(n: usize, i: usize) -> u32
     0
 }
 
+// |a_ij| of rows, i and j from 0.
+fn entry_size(a: &[[i64; 8]; 8], i: usize, j: usize) -> u64
+    requires { ⌜ (i < 8) × (j < 8) × Small (now a) ⌝ }
+    ensures { λ r. ⌜ r ≡ natAbs (at (now (a .entry)) i j) ⌝ }
+{
+    rotation::choice::magnitude(a[i][j])
+}
+
 // |a_ij| of the kept matrix, i and j from 0.
 fn magnitude_at(a: &[i64; 64], i: usize, j: usize) -> u64
     requires { ⌜ (i < 8) × (j < 8) × Modest (now a) ⌝ }
@@ -52,20 +60,20 @@ fn magnitude_at(a: &[i64; 64], i: usize, j: usize) -> u64
 }
 
 // The first pair in row order whose entry is above t in size.
-pub fn loose_pair_of(a: &[i64; 64], n: usize, t: u64) -> Answer
-    requires { ⌜ (n ≤ 8) × Modest (now a) ⌝ }
-    ensures { λ r. ⌜ r ≡ looseOf (kept (now (a .entry))) t (cyclic n) ⌝ }
+pub fn loose_pair_of(a: &[[i64; 8]; 8], n: usize, t: u64) -> Answer
+    requires { ⌜ (n ≤ 8) × Small (now a) ⌝ }
+    ensures { λ r. ⌜ r ≡ looseOf (at (now (a .entry))) t (cyclic n) ⌝ }
 {
-    let mut k = 0;
-    while k < 28 {
-        let p = FIRST[k];
-        let q = SECOND[k];
-        if q < n {
-            if t < magnitude_at(a, p, q) {
+    let mut p = 0;
+    while p < n {
+        let mut q = p + 1;
+        while q < n {
+            if t < entry_size(a, p, q) {
                 return Answer::Pair { p: p + 1, q: q + 1 };
             }
+            q += 1;
         }
-        k += 1;
+        p += 1;
     }
     Answer::NoPair
 }

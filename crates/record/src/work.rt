@@ -5,7 +5,7 @@ ghost use Rattle.ledger.specs.Call.{turn, sweep};
 ghost use Rattle.ledger.specs.Pairs.{cyclic};
 ghost use Rattle.ledger.specs.Refusal.{refusalOf};
 ghost use Rattle.record.specs.Kept.{KeptWork};
-ghost use Rattle.record.specs.Worked.{flatWork, startOf};
+ghost use Rattle.record.specs.Worked.{Ready, flatWork, startOf, workAt};
 ghost use Rattle.record.specs.Work.{workPair, workPairs};
 ghost use Rattle.rotation.specs.Choice.{choose};
 ghost use Rattle.rotation.specs.Size.{Small};
@@ -16,69 +16,6 @@ use rotation::choice;
 use rotation::choice::Choice;
 use rotation::pair::Rotation;
 use rotation::turn;
-
-// The pairs p < q of eight channels in row order, from 0. Those of n channels are the ones with q < n, in the same order.
-pub const FIRST: [usize; 28] = [
-    0,
-    0,
-    0,
-    0,
-    0,
-    0,
-    0,
-    1,
-    1,
-    1,
-    1,
-    1,
-    1,
-    2,
-    2,
-    2,
-    2,
-    2,
-    3,
-    3,
-    3,
-    3,
-    4,
-    4,
-    4,
-    5,
-    5,
-    6,
-];
-
-pub const SECOND: [usize; 28] = [
-    1,
-    2,
-    3,
-    4,
-    5,
-    6,
-    7,
-    2,
-    3,
-    4,
-    5,
-    6,
-    7,
-    3,
-    4,
-    5,
-    6,
-    7,
-    4,
-    5,
-    6,
-    7,
-    5,
-    6,
-    7,
-    6,
-    7,
-    7,
-];
 
 // The kept matrix and axes after some turns, and m.
 pub struct Worked {
@@ -129,21 +66,57 @@ fn choice_at(a: &[[i64; 8]; 8], p: usize, q: usize) -> Choice
     choice::choose_turn(a[p][p], a[q][q], a[p][q])
 }
 
+// The pair p < q chosen, and turned if a turn was chosen, in lent rows. The answer is m after it.
+fn work_pair(
+    matrix: &mut [[i64; 8]; 8],
+    axes: &mut [[i64; 8]; 8],
+    n: usize,
+    m: u64,
+    p: usize,
+    q: usize,
+) -> u64
+    requires { ⌜ (p < q) × (q < n) × (n ≤ 8) × Ready n (now matrix) (now axes) m ⌝ }
+    ensures { λ z. ⌜ workAt (now (matrix .exit)) (now (axes .exit)) z ≡ workPair n (workAt (now (matrix .entry)) (now (axes .entry)) m) (record { p = p; q = q }) ⌝ }
+{
+    let Choice::Turn { l, minus } = choice_at(matrix, p, q) else {
+        return m;
+    };
+    let r = Rotation::of(l, minus);
+    turn::turn_matrix_in_place(matrix, n, r, p, q);
+    turn::turn_axes_in_place(axes, n, r, p, q);
+    m + 1
+}
+
+// The pairs of a sweep over n channels, in lent rows, each chosen on the matrix as it then stands. The answer is m after them.
+pub fn work_pairs(matrix: &mut [[i64; 8]; 8], axes: &mut [[i64; 8]; 8], n: usize, m: u64) -> u64
+    requires { ⌜ (n ≤ 8) × (m ≤ 448) × Ready n (now matrix) (now axes) m ⌝ }
+    ensures { λ z. ⌜ workAt (now (matrix .exit)) (now (axes .exit)) z ≡ workPairs n (workAt (now (matrix .entry)) (now (axes .entry)) m) (cyclic n) ⌝ }
+{
+    let mut made = m;
+    let mut p = 0;
+    while p < n {
+        let mut q = p + 1;
+        while q < n {
+            made = work_pair(matrix, axes, n, made, p, q);
+            q += 1;
+        }
+        p += 1;
+    }
+    made
+}
+
 // The pair p < q chosen, and turned if a turn was chosen.
 pub fn turn_pair(a: [i64; 64], v: [i64; 64], n: usize, m: u64, p: usize, q: usize) -> Worked
     requires { ⌜ (p < q) × (q < n) × (n ≤ 8) × (m ≤ 448) × KeptWork n (startOf a v m) ⌝ }
     ensures { λ z. ⌜ z ≡ flatWork (workPair n (startOf a v m) (record { p = p; q = q })) ⌝ }
 {
-    let matrix = rows::unpacked(&a);
-    let Choice::Turn { l, minus } = choice_at(&matrix, p, q) else {
-        return Worked { a, v, m };
-    };
-    let r = Rotation::of(l, minus);
-    let axes = rows::unpacked(&v);
+    let mut matrix = rows::unpacked(&a);
+    let mut axes = rows::unpacked(&v);
+    let made = work_pair(&mut matrix, &mut axes, n, m, p, q);
     Worked {
-        a: rows::packed(turn::turn_matrix(matrix, n, r, p, q)),
-        v: rows::packed(turn::turn_axes(axes, n, r, p, q)),
-        m: m + 1,
+        a: rows::packed(matrix),
+        v: rows::packed(axes),
+        m: made,
     }
 }
 
@@ -154,23 +127,7 @@ pub fn sweep_pairs(a: [i64; 64], v: [i64; 64], n: usize, m: u64) -> Worked
 {
     let mut matrix = rows::unpacked(&a);
     let mut axes = rows::unpacked(&v);
-    let mut made = m;
-    let mut k = 0;
-    while k < 28 {
-        let p = FIRST[k];
-        let q = SECOND[k];
-        k += 1;
-        if q < n {
-            if let Choice::Turn { l, minus } = choice_at(&matrix, p, q) {
-                let r = Rotation::of(l, minus);
-                let turned = turn::turn_matrix(matrix, n, r, p, q);
-                let turned_axes = turn::turn_axes(axes, n, r, p, q);
-                matrix = turned;
-                axes = turned_axes;
-                made += 1;
-            }
-        }
-    }
+    let made = work_pairs(&mut matrix, &mut axes, n, m);
     Worked {
         a: rows::packed(matrix),
         v: rows::packed(axes),

@@ -1,10 +1,16 @@
 -- `record::Record::loose_pair` meets its contract.
-use mathlib.Core.Path.{_≡_, refl}
+use mathlib.Core.Path.{_≡_, refl, _∙_}
+use native.Mathlib.Omega.{arith}
 use borrow.Author.Needs.{needs}
 use Rattle.ledger.specs.Call.{loosePair}
+use Rattle.ledger.specs.Cyclic.{cyclic-pairs}
+use Rattle.ledger.specs.Pairs.{cyclic}
 use Rattle.ledger.specs.Refusal.{refusalOf}
-use Rattle.record.specs.Record.{acceptedOf, valueOf}
-use Rattle.record.proofs.Outcome.{accepted, kept-modest, refused}
+use Rattle.record.specs.Fill.{at-rowsOf}
+use Rattle.record.specs.Record.{acceptedOf, valueOf, workOf}
+use Rattle.record.specs.Turning.{matrix-small}
+use Rattle.record.proofs.Outcome.{accepted, refused}
+use Rattle.record.proofs.Search.{same-loose}
 use Rattle.record.proofs.Record.loose_pair.Statement.{statement}
 use Rattle.record.proofs.Record.loose_pair.Tie as tie
 
@@ -15,18 +21,24 @@ returns c =
     refused (s .args .self) (loosePair (s .args .t)) (s .pre) _ (c .before .before .loose-pair-refusal .ensures) _ (c .before .if1 .taken) (c .after-refusal .ensures)
 
 loose-pair-of-requires : tie.Need-loose-pair-of-requires
+unfolding workOf
 loose-pair-of-requires c κs =
-    let s = c .before .before .before .before in
-    (s .pre .size, kept-modest (s .args .self) (s .pre))
+    let s = c .before .before .before .before .before .before in
+    (s .pre .size, rw (c .before .unpacked .ensures) (matrix-small (s .args .self .n) (workOf (s .args .self)) (s .pre .work) (omega (arith, s .pre .turns))))
 
 returns-2 : tie.Need-returns-2
 unfolding refusalOf valueOf acceptedOf
 returns-2 c =
-    let s = c .before .before .before .before .before in
-    accepted (s .args .self) (loosePair (s .args .t)) (s .pre) _ (c .before .before .before .before .loose-pair-refusal .ensures) _ _
-    (c .before .before .before .if1 .left) (c .loose-pair-of .ensures) refl
+    let s = c .before .before .before .before .before .before .before in
+    let r = s .args .self in
+    accepted r (loosePair (s .args .t)) (s .pre) _ (c .before .before .before .before .before .before .loose-pair-refusal .ensures) _ _
+    (c .before .before .before .before .before .if1 .left)
+    (c .loose-pair-of .ensures ∙
+    rw (c .before .before .unpacked .ensures)
+    (same-loose (r .n) _ _ (s .args .t) (cyclic (r .n)) (cyclic-pairs (r .n)) (λ i j h l. at-rowsOf (r .a) i j (omega (arith, h, s .pre .size)) (omega (arith, l, s .pre .size)))))
+    refl
 
 pub loose-pair-spec : {M : Type 1} → statement M
 loose-pair-spec =
     tie.close
-    (tie.spec (λ c κs. search needs) (λ c κs. search needs) returns loose-pair-of-requires returns-2)
+    (tie.spec (λ c κs. search needs) (λ c κs. search needs) returns (λ c κs. search needs) loose-pair-of-requires returns-2)
