@@ -1,5 +1,6 @@
 mod Axes
 mod Checks
+mod Going
 mod Handed
 mod LentCall
 mod LentContract
@@ -8,4 +9,5 @@ mod Parameters
 mod Search
 mod Steps
 mod Sweep
+mod Told
 mod Worked

@@ -24,7 +24,7 @@ module _ (n : ℕ) (w : Work) (pair : Pair) (matrix : Shaped (w .a)) (axes : Sha
   by-shaped NoTurn = (matrix, axes)
   by-shaped (Turn l minus) = (shaped-square _, shaped-square _)
 
-  pair-shaped : Shaped (workPair n w pair .a) × Shaped (workPair n w pair .v)
+  pub pair-shaped : Shaped (workPair n w pair .a) × Shaped (workPair n w pair .v)
   unfolding workPair
   pair-shaped = by-shaped (chosen w pair)
 

@@ -15,3 +15,5 @@ pub mod After
 pub mod Agree
 pub mod Demand3
 pub mod Demand3proof
+pub mod Run
+pub mod Running

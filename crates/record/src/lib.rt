@@ -9,6 +9,7 @@ pub mod lent;
 mod load;
 mod query;
 mod rows;
+pub mod run;
 mod work;
 
 // Channels n, 0 where there is no matrix; turns made m; refused calls; the kept matrix and axes, row after row, 8 to a row.

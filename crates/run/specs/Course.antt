@@ -4,7 +4,6 @@ use mathlib.Core.Bool.{Bool, true, false, true≢false, cond}
 use mathlib.Core.List.{List}
 use Prim.Native.Nat.{ℕ, zero, suc, _+_, _≤_}
 use native.Mathlib.Nat.{add-suc, suc-add, zero-add}
-use native.Mathlib.Numerals.{add-one}
 use native.Mathlib.Omega.{arith}
 use lib.IntN.{ℤ}
 use Rattle.ledger.specs.Call.{load, sweep, loosePair}
@@ -12,10 +11,11 @@ use Rattle.record.specs.After.{after-kept, fresh-kept}
 use Rattle.record.specs.Kept.{Kept}
 use Rattle.record.specs.Record.{afterOf, answerOf, fresh}
 use Rattle.record.specs.declared.Record.{Record}
-use Rattle.run.specs.Run.{noPair, noTurn, runFrom, runOf, stop, tried}
-use Rattle.run.specs.declared.Outcome.{Outcome}
-use Rattle.run.specs.declared.Outcome.the-variants.{Settled, Still, Spent}
-use Rattle.run.specs.declared.Ran.{Ran}
+use Rattle.record.specs.Run.{noPair, noTurn, runFrom, stop, tried}
+use Rattle.run.specs.Run.{runOf}
+use Rattle.record.specs.declared.run.Outcome.{Outcome}
+use Rattle.record.specs.declared.run.Outcome.the-variants.{Settled, Still, Spent}
+use Rattle.record.specs.declared.run.Ran.{Ran}
 
 -- with tolerance t: sweeps left to the limit, sweeps run, whether the last one made no turn, the record, and how the run ends
 pub data Course (t : ℕ) : ℕ → ℕ → Bool → Record → Ran → Type 0 where
@@ -37,33 +37,6 @@ pub course : (t left sweeps : ℕ) (idle : Bool) (r : Record) → Course t left 
 unfolding runFrom
 course t zero sweeps idle r = tried-course t zero sweeps idle r _ (λ e. is-spent e)
 course t (suc left) sweeps idle r = tried-course t (suc left) sweeps idle r _ (λ e. sweeps-on e (course t left (suc sweeps) _ (afterOf r sweep)))
-
--- the run as each test decides it
-module _ (left sweeps t : ℕ) (idle : Bool) (r : Record) where
-  pub run-settled : noPair (answerOf r (loosePair t)) ≡ true → runFrom left sweeps idle t r ≡ stop Settled sweeps r
-  unfolding runFrom tried
-  run-settled e = by-limit left
-    where
-      by-limit : (left : ℕ) → runFrom left sweeps idle t r ≡ stop Settled sweeps r
-      by-limit zero = rw e
-      by-limit (suc left) = rw e
-
-  module _ (e : noPair (answerOf r (loosePair t)) ≡ false) where
-    pub run-still : idle ≡ true → runFrom left sweeps idle t r ≡ stop Still sweeps r
-    unfolding runFrom tried
-    run-still i = by-limit left
-      where
-        by-limit : (left : ℕ) → runFrom left sweeps idle t r ≡ stop Still sweeps r
-        by-limit zero = rw (e, i)
-        by-limit (suc left) = rw (e, i)
-
-    pub run-spent : idle ≡ false → left ≡ 0 → runFrom left sweeps idle t r ≡ stop Spent sweeps r
-    unfolding runFrom tried
-    run-spent i l = rw (l, e, i)
-
-    pub run-sweeps : idle ≡ false → (later : ℕ) → left ≡ later + 1 → runFrom left sweeps idle t r ≡ runFrom later (sweeps + 1) (noTurn (answerOf r sweep)) t (afterOf r sweep)
-    unfolding runFrom tried
-    run-sweeps i later l = rw (l, add-one later, add-one sweeps, e, i)
 
 -- r is what a sweep that made no turn has left
 pub record AfterIdle (r : Record) : Type 0 where

@@ -5,7 +5,7 @@ use Prim.Native.Nat.{ℕ}
 use lib.IntN.{ℤ}
 use Rattle.record.specs.Kept.{Kept}
 use Rattle.run.specs.Run.{runOf}
-use Rattle.run.specs.declared.Ran.{Ran}
+use Rattle.record.specs.declared.run.Ran.{Ran}
 
 pub record RunDone (n : ℕ) (numbers : List ℤ) (limit t : ℕ) (z : Ran) : Type 0 where
   pub is : z ≡ runOf n numbers limit t

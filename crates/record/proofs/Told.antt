@@ -5,10 +5,10 @@ use mathlib.Core.Logic.{_≢_, _⊎_, ⊎-elim}
 use Prim.Native.Nat.{ℕ}
 use native.Mathlib.Omega.{arith}
 use denote.Enum.Declared.{tagOf, declared}
 use Rattle.record.proofs.Answer.{enum}
 use Rattle.record.specs.declared.Answer.{Answer}
 use Rattle.record.specs.declared.Answer.the-variants.{Loaded, Turned, Swept, Pair, NoPair, Axis, Refused}
-use Rattle.run.specs.Run.{noPair, noTurn}
+use Rattle.record.specs.Run.{noPair}
 
 -- the number of an answer's variant
 abbrev variant : Answer → ℕ
@@ -19,17 +19,6 @@ OneOf v a b c d e f = (v ≡ a) ⊎ ((v ≡ b) ⊎ ((v ≡ c) ⊎ ((v ≡ d) ⊎
 
 none : {v a b c d e f : ℕ} → OneOf v a b c d e f → (v ≢ a) → (v ≢ b) → (v ≢ c) → (v ≢ d) → (v ≢ e) → (v ≢ f) → ⊥
 none o a b c d e f = ⊎-elim a (⊎-elim b (⊎-elim c (⊎-elim d (⊎-elim e f)))) o
-
-pub not-swept : (answer : Answer) → OneOf (variant answer) 0 1 3 4 5 6 → false ≡ noTurn answer
-unfolding noTurn
-not-swept Loaded v = refl
-not-swept (Turned made) v = refl
-not-swept (Swept made) v =
-    absurd (none v (omega arith) (omega arith) (omega arith) (omega arith) (omega arith) (omega arith))
-not-swept (Pair p q) v = refl
-not-swept NoPair v = refl
-not-swept (Axis entry error) v = refl
-not-swept (Refused number) v = refl
 
 pub not-none : (answer : Answer) → OneOf (variant answer) 0 1 2 3 5 6 → false ≡ noPair answer
 unfolding noPair
