@@ -11,7 +11,7 @@ use Rattle.rounding.specs.Cards.{Card2, card2}
 use Rattle.rounding.specs.Rounding.{rnd}
 use Rattle.run.specs.Cards as running
 use Rattle.run.specs.Run.{runOf}
-use Rattle.run.specs.declared.Outcome.the-variants.{Settled}
+use Rattle.record.specs.declared.run.Outcome.the-variants.{Settled}
 use Rattle.scatter.specs.Cards.{three, two, card-8, card-10, card-11}
 use Rattle.scatter.specs.Samples.{Sample, sumsOf}
 use Rattle.scatter.specs.Table.{largest, scatter, shift, entries}

@@ -23,9 +23,10 @@ use Rattle.record.specs.declared.Answer.the-variants.{NoPair}
 use Rattle.ledger.specs.Pairs.{cyclic}
 use Rattle.rounding.specs.Rounding.{rnd}
 use Rattle.run.specs.Accepted.{after-accepted, load-accepted, loose-pair-accepted}
-use Rattle.run.specs.Course.{run-settled}
-use Rattle.run.specs.Run.{noPair, runOf, stop}
-use Rattle.run.specs.declared.Outcome.the-variants.{Settled}
+use Rattle.record.specs.Run.{noPair, stop}
+use Rattle.record.specs.Running.{run-settled}
+use Rattle.run.specs.Run.{runOf}
+use Rattle.record.specs.declared.run.Outcome.the-variants.{Settled}
 use Rattle.scatter.specs.Entries.{rnd-zero}
 use Rattle.scatter.specs.Samples.{Sample, z, sum, sumsOf}
 use Rattle.scatter.specs.Sums.{scatter-of-samples}

@@ -13,9 +13,9 @@ use Rattle.record.specs.declared.Answer.{Answer}
 use Rattle.record.specs.declared.Answer.the-variants.{Loaded, Turned, Swept, Pair, NoPair, Axis, Refused}
 use Rattle.record.specs.declared.Record.{Record}
 use Rattle.run.specs.Run.{runOf}
-use Rattle.run.specs.declared.Outcome.{Outcome}
-use Rattle.run.specs.declared.Outcome.the-variants.{Settled, Still, Spent}
-use Rattle.run.specs.declared.Ran.{Ran}
+use Rattle.record.specs.declared.run.Outcome.{Outcome}
+use Rattle.record.specs.declared.run.Outcome.the-variants.{Settled, Still, Spent}
+use Rattle.record.specs.declared.run.Ran.{Ran}
 
 unfoldable pub outcomeNumber : Outcome → ℕ
 outcomeNumber Settled = 0

@@ -2,7 +2,7 @@
 use crate::numbers;
 use record::Answer;
 use record::Record;
-use run::Outcome;
+use record::run::Outcome;
 ghost use mathlib.Core.Path.{_≡_};
 ghost use Prim.Native.Nat.{_+_, _*_, _≤_};
 ghost use lib.IntN.{pos};

@@ -10,7 +10,7 @@ use Rattle.ledger.specs.Call.{axis}
 use Rattle.record.specs.Record.{answerOf, axisOf}
 use Rattle.record.specs.declared.Record.{Record}
 use Rattle.rotation.specs.Turn.{eight}
-use Rattle.run.specs.declared.Outcome.{Outcome}
+use Rattle.record.specs.declared.run.Outcome.{Outcome}
 use Rattle.text.specs.Line.{numberLine, wordLine}
 use Rattle.text.specs.Lines.{lines}
 use Rattle.report.specs.Report.{axisValues, outcomeWord, runFor}

@@ -13,9 +13,9 @@ use Rattle.record.specs.declared.Answer as called
 use Rattle.record.specs.declared.Answer.the-variants as variants
 use Rattle.record.specs.declared.Record.{Record}
 use Rattle.run.specs.Run.{runOf}
-use Rattle.run.specs.declared.Outcome.{Outcome}
-use Rattle.run.specs.declared.Outcome.the-variants.{Settled, Still, Spent}
-use Rattle.run.specs.declared.Ran.{Ran}
+use Rattle.record.specs.declared.run.Outcome.{Outcome}
+use Rattle.record.specs.declared.run.Outcome.the-variants.{Settled, Still, Spent}
+use Rattle.record.specs.declared.run.Ran.{Ran}
 use Rattle.text.specs.Line.{numberLine, wordLine, lineX}
 use Rattle.text.specs.Lines.{lines}
 use Rattle.report.specs.declared.Reported.{Reported}

@@ -3,7 +3,7 @@ mod lines;
 mod values;
 
 use job::Job;
-use run::Ran;
+use record::run::Ran;
 ghost use Rattle.job.specs.Job.{accepted};
 ghost use Rattle.job_table.specs.Held.{Held, jobIn};
 ghost use Rattle.text.specs.Put.{Put};

@@ -12,7 +12,7 @@ use borrow.Author.Needs.{needs}
 use Rattle.job.specs.Job.{Job}
 use Rattle.job_table.specs.Held.{jobIn}
 use Rattle.job_table.specs.Laws.{channels-held, samples-few, samples-held}
-use Rattle.run.specs.declared.Ran.{Ran}
+use Rattle.record.specs.declared.run.Ran.{Ran}
 use Rattle.text.specs.Put.{Sized}
 use Rattle.report.specs.Lines.{Wide, textOf, headOf, axesOf}
 use Rattle.report.specs.Report.{reportOf}

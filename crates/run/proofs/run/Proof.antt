@@ -11,7 +11,7 @@ unfolding runOf
 returns c =
     let s = c .before .before .before .before in
     let e : c .run-from .result ≡ runOf (s .args .n) (s .args .numbers .now) (s .args .limit) (s .args .tolerance) =
-        c .run-from .ensures ∙ rw (c .before .before .load .ensures .leaves, c .before .before .before .new .ensures .is) in
+    c .run-from .ensures ∙ rw (c .before .before .load .ensures .leaves, c .before .before .before .new .ensures .is) in
     record { is = e; keeps = rw e (run-kept (s .args .n) (s .args .numbers .now) (s .args .limit) (s .args .tolerance)) }
 
 pub run-spec : {M : Type 1} → statement M
