@@ -11,7 +11,8 @@ use Rattle.text.specs.Range.{within, allWithin}
 use Rattle.job.specs.Range.{parametersInRange, sampleInRange}
 use Rattle.job.specs.Text.{numberOf, numbersOf, isTag, recordOf, lineOf}
 use Rattle.job_table.specs.Held.{sumsFor, tableFor}
-use Rattle.report.specs.Report.{outcomeWord, runFor, lineR, axisValues, lineA, reportOf, printedBy, printedOf}
+use Rattle.record.specs.AxisNumbers.{axisValues}
+use Rattle.report.specs.Report.{outcomeWord, runFor, lineR, lineA, reportOf, printedBy, printedOf}
 use Rattle.rounding.specs.Rounding.{rnd}
 use Rattle.run.specs.Cards as running
 use Rattle.scatter.specs.Samples.{samples, sampleAt, sumsOf, sumsAt, sum, products, z}

@@ -8,10 +8,11 @@ use native.Mathlib.Omega.{arith}
 use lib.IntN.{ℤ}
 use lib.ListN.{length, take}
 use Rattle.ledger.specs.Call.{axis}
+use Rattle.record.specs.AxisNumbers.{axisValues}
 use Rattle.record.specs.Record.{answerOf, axisOf}
 use Rattle.record.specs.declared.Record.{Record}
 use Rattle.text.specs.Put.{Put, put-then, same-size}
-use Rattle.field_axes.specs.Solution.{axes, axisNumbers, axisValues}
+use Rattle.field_axes.specs.Solution.{axes, axisNumbers}
 use Rattle.field_axes.specs.Solvable.{length-axes}
 
 module _ (n : ℕ) (r : Record) (i : ℕ) {at next : ℕ} {e x : List ℤ} (p : Put (axes n r i) at e x next) where

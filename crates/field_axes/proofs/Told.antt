@@ -16,7 +16,7 @@ use Rattle.record.proofs.Answer.{enum}
 use Rattle.record.specs.Record.{answerOf, fresh, valueOf}
 use Rattle.record.specs.declared.Answer.{Answer}
 use Rattle.record.specs.declared.Answer.the-variants.{Loaded, Turned, Swept, Pair, NoPair, Axis, Refused}
-use Rattle.field_axes.specs.Solution.{axisValues, solveRefusal}
+use Rattle.field_axes.specs.Solution.{solveRefusal}
 
 -- the number of an answer's variant
 abbrev variant : Answer → ℕ
@@ -27,17 +27,6 @@ OneOf v a b c d e f = (v ≡ a) ⊎ ((v ≡ b) ⊎ ((v ≡ c) ⊎ ((v ≡ d) ⊎
 
 none : {v a b c d e f : ℕ} → OneOf v a b c d e f → (v ≢ a) → (v ≢ b) → (v ≢ c) → (v ≢ d) → (v ≢ e) → (v ≢ f) → ⊥
 none o a b c d e f = ⊎-elim a (⊎-elim b (⊎-elim c (⊎-elim d (⊎-elim e f)))) o
-
-pub not-axis : (answer : Answer) → OneOf (variant answer) 0 1 2 3 4 6 → pos 0 ∷ pos 0 ∷ [] ≡ axisValues answer
-unfolding axisValues
-not-axis Loaded v = refl
-not-axis (Turned made) v = refl
-not-axis (Swept made) v = refl
-not-axis (Pair p q) v = refl
-not-axis NoPair v = refl
-not-axis (Axis entry error) v =
-    absurd (none v (omega arith) (omega arith) (omega arith) (omega arith) (omega arith) (omega arith))
-not-axis (Refused number) v = refl
 
 module _ (n : ℕ) (numbers : List ℤ) (limit t size : ℕ) where
   pub load-refused : (number : ℕ) → Refused number ≡ answerOf fresh (load n numbers) → number ≡ solveRefusal n numbers limit t size

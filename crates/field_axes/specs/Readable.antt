@@ -9,12 +9,12 @@ use lib.Dec.{T, eqb, leb, eqb→eq, leb→le}
 use lib.ListN.{length, getD, take, length-append}
 use lib.Seq.{length-take-le}
 use mir.Facts.{and-yes}
+use Rattle.ledger.specs.Accepted.{passed}
 use Rattle.scatter.specs.Ranges.{Readings}
 use Rattle.scatter.specs.Samples.{samples, sumsOf}
 use Rattle.scatter.specs.Table.{padded, tableOf}
 use Rattle.scatter.specs.Tabulate.{length-tabulate}
 use Rattle.scatter.specs.declared.sums.Sums.{Sums}
-use Rattle.field_axes.specs.Solvable.{passed}
 use Rattle.field_axes.specs.Table.{allWithin, tableNumbers, tableNumbersOf, tableRefusal, valuesWithin}
 
 pub record Readable (n : ℕ) (dilutions counts : List ℕ) (size : ℕ) : Type 0 where

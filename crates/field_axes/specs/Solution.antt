@@ -1,5 +1,5 @@
 -- A run and its axes as numbers, and the refusals before it.
-use Prim.Native.Nat.{ℕ, zero, suc, _+_, _*_, _^_, _<_}
+use Prim.Native.Nat.{ℕ, zero, suc, _+_, _*_}
 use mathlib.Core.Bool.{cond, _&&_}
 use mathlib.Core.List.{List, [], _∷_, _++_}
 use lib.Dec.{eqb, leb}
@@ -8,9 +8,8 @@ use lib.ListN.{take}
 use Rattle.ledger.specs.Call.{axis, load}
 use Rattle.ledger.specs.Refusal.{refusalOf, unless}
 use Rattle.limits.specs.Limits.{toleranceLimit}
+use Rattle.record.specs.AxisNumbers.{axisValues}
 use Rattle.record.specs.Record.{answerOf, axisOf}
-use Rattle.record.specs.declared.Answer.{Answer}
-use Rattle.record.specs.declared.Answer.the-variants.{Loaded, Turned, Swept, Pair, NoPair, Axis, Refused}
 use Rattle.record.specs.declared.Record.{Record}
 use Rattle.run.specs.Run.{runOf}
 use Rattle.record.specs.declared.run.Outcome.{Outcome}
@@ -21,26 +20,6 @@ unfoldable pub outcomeNumber : Outcome → ℕ
 outcomeNumber Settled = 0
 outcomeNumber Still = 1
 outcomeNumber Spent = 2
-
--- a_ii and r_i, which an axis call answers; no axis of a run comes to another answer
-unfoldable pub axisValues : Answer → List ℤ
-axisValues Loaded = pos 0 ∷ pos 0 ∷ []
-axisValues (Turned made) = pos 0 ∷ pos 0 ∷ []
-axisValues (Swept made) = pos 0 ∷ pos 0 ∷ []
-axisValues (Pair p q) = pos 0 ∷ pos 0 ∷ []
-axisValues NoPair = pos 0 ∷ pos 0 ∷ []
-axisValues (Axis entry error) = entry ∷ pos error ∷ []
-axisValues (Refused number) = pos 0 ∷ pos 0 ∷ []
-
--- r_i is below 2^63
-unfoldable pub ErrorFits : Answer → Type 0
-ErrorFits Loaded = Unit
-ErrorFits (Turned made) = Unit
-ErrorFits (Swept made) = Unit
-ErrorFits (Pair p q) = Unit
-ErrorFits NoPair = Unit
-ErrorFits (Axis entry error) = error < 2 ^ 63
-ErrorFits (Refused number) = Unit
 
 -- a_ii, r_i and the n numbers of row i of v
 unfoldable pub axisNumbers : ℕ → Record → ℕ → List ℤ

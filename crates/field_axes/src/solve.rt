@@ -7,9 +7,10 @@ ghost use mathlib.Core.Path.{_≡_};
 ghost use Prim.Native.Nat.{_+_, _*_, _≤_};
 ghost use lib.IntN.{pos};
 ghost use lib.ListN.{length};
+ghost use Rattle.record.specs.AxisNumbers.{ErrorFits, axisValues};
 ghost use Rattle.record.specs.Kept.{Kept};
 ghost use Rattle.text.specs.Put.{Put};
-ghost use Rattle.field_axes.specs.Solution.{ErrorFits, axes, axisValues, outcomeNumber, solutionOf, solveRefusal};
+ghost use Rattle.field_axes.specs.Solution.{axes, outcomeNumber, solutionOf, solveRefusal};
 ghost use Rattle.field_axes.specs.Solvable.{Solvable};
 
 // The refusal's number, or 0.

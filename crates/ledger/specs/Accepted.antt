@@ -30,7 +30,7 @@ pub record Turns (n m p q : ℕ) : Type 0 where
   pub left : m < turnLimit
 
 -- a test that was passed: the number is not given, so the later tests speak
-passed : (test : Bool) (number later : ℕ) → unless test number later ≡ 0 → 0 < number → T test × (later ≡ 0)
+pub passed : (test : Bool) (number later : ℕ) → unless test number later ≡ 0 → 0 < number → T test × (later ≡ 0)
 passed true number later e l = (tt, e)
 passed false number later e l = absurd (omega arith)
 

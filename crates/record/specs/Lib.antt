@@ -10,6 +10,7 @@ pub mod Query
 pub mod Order
 pub mod Among
 pub mod Loose
+pub mod AxisNumbers
 pub mod Worked
 pub mod After
 pub mod Agree

@@ -18,13 +18,14 @@ use Rattle.ledger.specs.Ledger as book
 use Rattle.ledger.specs.Ledger.{Ledger, State, empty, loaded, ledger, ledgerFrom, ledgerStep, sizeOf, turnsOf}
 use Rattle.ledger.specs.Pairs.{cyclic}
 use Rattle.ledger.specs.Refusal.{matrixOf, refusalOf}
+use Rattle.record.specs.AxisNumbers.{axisValues}
 use Rattle.record.specs.Demand3 as three
 use Rattle.record.specs.Demand3.{AxisNear, Certifies}
 use Rattle.record.specs.Demand3proof.{demand-3}
 use Rattle.run.specs.Calls.{Allowed, AsCalls, callsOf, rounds, run-calls}
 use Rattle.run.specs.Table.{table-accepted}
 use Rattle.report.specs.Certified.{AxisCertified, Certified, JobCertified, loadedFor}
-use Rattle.report.specs.Report.{axisValues, lineA, runFor}
+use Rattle.report.specs.Report.{lineA, runFor}
 
 -- a ledger that has n channels and the given matrix
 record Has (n : ℕ) (A : Matrix) (g : Ledger) : Type 0 where

@@ -1,6 +1,5 @@
 mod Written
 mod Bounds
-mod Told
 mod Same
 mod Read
 pub mod Print

@@ -1,55 +1,39 @@
 -- The text that is written is the report: the R line's numbers and the A lines' are the job's.
-use Prim.Native.Nat.{ℕ, suc, _+_, _-_, _<_, _≤_}
-use mathlib.Core.Path.{_≡_, refl, ap, _∙_}
-use mathlib.Core.Bool.{Bool, true, false, cond}
+use Prim.Native.Nat.{ℕ, suc, _+_, _<_, _≤_}
+use mathlib.Core.Path.{_≡_, ap, _∙_}
 use mathlib.Core.List.{List, [], _∷_, _++_}
 use native.Mathlib.Nat.{zero-add}
 use native.Mathlib.Omega.{arith}
 use borrow.Author.Tests.{le-leb, lt-leb}
-use lib.Dec.{eqb}
 use lib.IntN.{ℤ, pos}
-use lib.ListN.{length, take, replicate, length-append}
+use lib.ListN.{length, take, length-append}
+use lib.Seq.{take-append-add}
 use Rattle.job.specs.Job.{Job, accepted}
 use Rattle.ledger.specs.Call.{axis}
-use Rattle.ledger.specs.Refusal.{refusalOf}
-use Rattle.record.specs.Flat.{entriesOf}
+use Rattle.record.specs.AxisNumbers.{axisValues, length-row, length-values}
 use Rattle.record.specs.Record.{answerOf, axisOf}
 use Rattle.record.specs.declared.Answer.{Answer}
-use Rattle.record.specs.declared.Answer.the-variants.{Loaded, Turned, Swept, Pair, NoPair, Axis, Refused}
 use Rattle.record.specs.declared.Record.{Record}
-use Rattle.rotation.specs.Eight.{getD-eight, length-eight}
+use Rattle.rotation.specs.Eight.{getD-eight}
 use Rattle.text.specs.Line.{numberLine}
 use Rattle.text.specs.Lines.{lines-same}
 use Rattle.text.specs.Put.{Put}
 use Rattle.report.specs.Done.{Answers}
 use Rattle.report.specs.Lines.{Wide, axesOf, axisLine, headOf, textOf, valuesOf}
-use Rattle.report.specs.Report.{Short, axisValues, bufferBy, lineA, lineR, reportOf, reportedBy, runFor}
+use Rattle.report.specs.Report.{Short, bufferBy, lineA, lineR, reportOf, reportedBy, runFor}
 use Rattle.report.specs.declared.Reported.the-variants as reported
 
 -- Two numbers stand before the row.
-two-before : (a : Answer) (n : ℕ) (row : List ℤ) → (take (suc (suc n)) (axisValues a ++ row) ≡ axisValues a ++ take n row) × (length (axisValues a) ≡ 2)
-unfolding axisValues
-two-before Loaded n row = (refl, refl)
-two-before (Turned made) n row = (refl, refl)
-two-before (Swept made) n row = (refl, refl)
-two-before (Pair p q) n row = (refl, refl)
-two-before NoPair n row = (refl, refl)
-two-before (Axis entry error) n row = (refl, refl)
-two-before (Refused number) n row = (refl, refl)
+two-before : (a : Answer) (n : ℕ) (row : List ℤ) → take (suc (suc n)) (axisValues a ++ row) ≡ axisValues a ++ take n row
+two-before a n row =
+    let e : suc (suc n) ≡ length (axisValues a) + n = omega (arith, length-values a) in
+    rw e (take-append-add (axisValues a) row n)
 
 module _ (r : Record) where
-  row-length : (i : ℕ) → length (axisOf r i) ≡ 8
-  unfolding axisOf entriesOf
-  row-length i = by-refusal (eqb (refusalOf (r .n) (r .m) (axis i)) 0)
-    where
-      by-refusal : (b : Bool) → length (cond b (entriesOf (r .v) (i - 1)) (replicate 8 (pos 0))) ≡ 8
-      by-refusal true = length-eight _
-      by-refusal false = refl
-
   values-length : (i : ℕ) → length (valuesOf r i) ≡ 11
   unfolding valuesOf
   values-length i =
-      omega (arith, length-append (axisValues (answerOf r (axis i))) (axisOf r i), two-before (answerOf r (axis i)) 0 [] .1, row-length i)
+      omega (arith, length-append (axisValues (answerOf r (axis i))) (axisOf r i), length-values (answerOf r (axis i)), length-row r i)
 
   pub axes-wide : Wide (axesOf r)
   unfolding axesOf
@@ -60,7 +44,7 @@ module _ (r : Record) where
   line-same n i h =
       let e : n + 3 ≡ suc (suc (suc n)) = omega arith in
       rw (getD-eight (λ i. valuesOf r (suc i)) i [] h, e)
-      (ap (λ (l : List ℤ). numberLine 65 (pos (suc i) ∷ l)) (two-before (answerOf r (axis (suc i))) n (axisOf r (suc i)) .0))
+      (ap (λ (l : List ℤ). numberLine 65 (pos (suc i) ∷ l)) (two-before (answerOf r (axis (suc i))) n (axisOf r (suc i))))
 
 pub text-same : (j : Job) → j .n ≤ 8 → textOf (headOf j) (runFor j .outcome) (axesOf (runFor j .last)) (j .n) ≡ reportOf j
 unfolding textOf headOf reportOf lineR

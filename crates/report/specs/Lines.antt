@@ -7,13 +7,14 @@ use lib.ListN.{length, take, getD}
 use Rattle.job.specs.Job.{Job}
 use Rattle.job_table.specs.Held.{tableFor}
 use Rattle.ledger.specs.Call.{axis}
+use Rattle.record.specs.AxisNumbers.{axisValues}
 use Rattle.record.specs.Record.{answerOf, axisOf}
 use Rattle.record.specs.declared.Record.{Record}
 use Rattle.rotation.specs.Turn.{eight}
 use Rattle.record.specs.declared.run.Outcome.{Outcome}
 use Rattle.text.specs.Line.{numberLine, wordLine}
 use Rattle.text.specs.Lines.{lines}
-use Rattle.report.specs.Report.{axisValues, outcomeWord, runFor}
+use Rattle.report.specs.Report.{outcomeWord, runFor}
 
 -- n, k, e, sweeps run and m
 unfoldable pub headOf : Job → List ℤ

@@ -8,9 +8,8 @@ use lib.ListN.{length, take, drop}
 use Rattle.job.specs.Job.{Job, Answer, refused, accepted, jobOf}
 use Rattle.job_table.specs.Held.{tableFor}
 use Rattle.ledger.specs.Call.{axis}
+use Rattle.record.specs.AxisNumbers.{axisValues}
 use Rattle.record.specs.Record.{answerOf, axisOf}
-use Rattle.record.specs.declared.Answer as called
-use Rattle.record.specs.declared.Answer.the-variants as variants
 use Rattle.record.specs.declared.Record.{Record}
 use Rattle.run.specs.Run.{runOf}
 use Rattle.record.specs.declared.run.Outcome.{Outcome}
@@ -37,16 +36,6 @@ lineR j =
     wordLine 82
     (map pos (j .n ∷ length (j .dilutions) ∷ tableFor j .e ∷ runFor j .sweeps ∷ runFor j .last .m ∷ []))
     (outcomeWord (runFor j .outcome))
-
--- a_ii and r_i, which an axis call answers; no line comes to another answer
-unfoldable pub axisValues : called.Answer → List ℤ
-axisValues variants.Loaded = pos 0 ∷ pos 0 ∷ []
-axisValues (variants.Turned made) = pos 0 ∷ pos 0 ∷ []
-axisValues (variants.Swept made) = pos 0 ∷ pos 0 ∷ []
-axisValues (variants.Pair p q) = pos 0 ∷ pos 0 ∷ []
-axisValues variants.NoPair = pos 0 ∷ pos 0 ∷ []
-axisValues (variants.Axis entry error) = entry ∷ pos error ∷ []
-axisValues (variants.Refused number) = pos 0 ∷ pos 0 ∷ []
 
 -- '`A` i a_ii r_i and row i of v', of n channels; 65 is `A`
 unfoldable pub lineA : ℕ → Record → ℕ → List ℕ

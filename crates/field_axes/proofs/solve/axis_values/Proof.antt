@@ -1,5 +1,5 @@
 -- `field_axes::solve::axis_values` meets its contract.
-use mathlib.Core.Path.{_≡_}
+use mathlib.Core.Path.{sym}
 use Prim.Native.Nat.{_<_, _^_}
 use lib.IntN.{pos}
 use mir.Syntax.{w64}
@@ -7,8 +7,8 @@ use mir.Val.{SFits}
 use mir.Facts.{toZ-ofZ, toZ-pos}
 use borrow.Author.Needs.{needs}
 use Rattle.integer.specs.Word.{held}
-use Rattle.field_axes.specs.Solution.{ErrorFits, axisValues}
-use Rattle.field_axes.proofs.Told.{not-axis}
+use Rattle.record.proofs.NotAxis.{not-axis}
+use Rattle.record.specs.AxisNumbers.{ErrorFits, axisValues}
 use Rattle.field_axes.proofs.solve.axis_values.Statement.{statement}
 use Rattle.field_axes.proofs.solve.axis_values.Tie as tie
 
@@ -25,4 +25,4 @@ returns c =
 pub axis-values-spec : {M : Type 1} → statement M
 axis-values-spec =
     tie.close
-    (tie.spec (λ c. search needs) (λ c. held (pos _) (fits c)) returns (λ c. not-axis _ (c .match .keys2)))
+    (tie.spec (λ c. search needs) (λ c. held (pos _) (fits c)) returns (λ c. sym (not-axis _ (c .match .keys2))))

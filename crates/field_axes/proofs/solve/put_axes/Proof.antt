@@ -5,9 +5,9 @@ use native.Mathlib.Omega.{arith}
 use lib.ListN.{length, take}
 use lib.Seq.{length-take-le}
 use borrow.Author.Needs.{needs}
+use Rattle.record.specs.AxisNumbers.{error-fits, length-row, length-values}
 use Rattle.text.specs.Put.{Put, put-nothing, same-size}
 use Rattle.field_axes.specs.Solution.{axes}
-use Rattle.field_axes.specs.Solvable.{error-fits, length-row, length-values}
 use Rattle.field_axes.proofs.Following.{axis-more, room}
 use Rattle.field_axes.proofs.solve.put_axes.Statement.{statement}
 use Rattle.field_axes.proofs.solve.put_axes.Tie as tie

@@ -7,19 +7,19 @@ use mir.Syntax.{w64}
 use mir.Val.{SFits}
 use mir.Facts.{toZ-ofZ, toZ-pos}
 use borrow.Author.Needs.{needs}
+use Rattle.record.proofs.NotAxis.{not-axis}
+use Rattle.record.specs.AxisNumbers.{ErrorFits, axisValues, error-fits}
 use Rattle.record.specs.Record.{axisOf}
 use Rattle.report.specs.Lines.{valuesOf}
-use Rattle.report.specs.Report.{axisValues}
-use Rattle.report.proofs.Bounds.{answer-small}
-use Rattle.report.proofs.Told.{not-axis}
 use Rattle.report.proofs.values.axis_values.Statement.{statement}
 use Rattle.report.proofs.values.axis_values.Tie as tie
 
 -- The entry and error of an answer that is an axis's.
 small : (c : tie.After-value) → SFits w64 (pos (c .value .given .0 .1 .0))
+unfolding ErrorFits
 small c =
     let s = c .before .before .before .before .before in
-    record { sfits = answer-small (s .args .last) (s .pre .0) (s .args .i) (s .pre .1) _ _ (sym (c .value .given .1) ∙ c .before .before .before .before .axis .ensures .answers) }
+    record { sfits = rw (← c .before .before .before .before .axis .ensures .answers, c .value .given .1) at (error-fits (s .args .last) (s .pre .0) (s .args .i)) }
 
 cast-joined-2 : tie.Need-cast-joined-2
 cast-joined-2 c = small (c .before)

@@ -6,10 +6,10 @@ use mathlib.Core.Logic.{_⊎_, ⊎-elim}
 use native.Mathlib.Omega.{arith}
 use lib.IntN.{pos}
 use denote.Enum.Declared.{tagOf, declared}
-use Rattle.record.proofs.Answer.{enum}
+use Rattle.record.specs.AxisNumbers.{axisValues}
 use Rattle.record.specs.declared.Answer.{Answer}
 use Rattle.record.specs.declared.Answer.the-variants.{Loaded, Turned, Swept, Pair, NoPair, Axis, Refused}
-use Rattle.report.specs.Report.{axisValues}
+use Rattle.record.proofs.Answer.{enum}
 
 abbrev Other : ℕ → Type 0
 Other v = (v ≡ 0) ⊎ ((v ≡ 1) ⊎ ((v ≡ 2) ⊎ ((v ≡ 3) ⊎ ((v ≡ 4) ⊎ (v ≡ 6)))))

@@ -1,0 +1,82 @@
+-- The numbers of an axis: a_ii and r_i, which an axis call answers, and the row beside them. How many they are, and that r_i fits 63 bits.
+use Prim.Native.Nat.{ℕ, _-_, _*_, _^_, _<_, _≤_}
+use mathlib.Core.Path.{_≡_, refl}
+use mathlib.Core.Bool.{Bool, true, false, cond}
+use mathlib.Core.List.{List, [], _∷_}
+use native.Mathlib.Nat.{le-trans}
+use native.Mathlib.Omega.{arith}
+use borrow.Author.Tests.{eqb-true}
+use lib.Dec.{eqb, lit≤}
+use lib.IntN.{ℤ, pos, natAbs}
+use lib.ListN.{length, replicate}
+use Rattle.integer.specs.Sum.{sumℕ-≤, sumℕ-const}
+use Rattle.ledger.specs.Accepted.{axis-accepted}
+use Rattle.ledger.specs.Axis.{errorOf}
+use Rattle.ledger.specs.Call.{axis}
+use Rattle.ledger.specs.Refusal.{refusalOf}
+use Rattle.rotation.specs.Eight.{length-eight}
+use Rattle.rotation.specs.Size.{widest}
+use Rattle.record.specs.Fill.{at-rowsOf}
+use Rattle.record.specs.Flat.{entriesOf, kept}
+use Rattle.record.specs.Kept.{Kept}
+use Rattle.record.specs.Record.{answerOf, axisOf, valueOf, workOf}
+use Rattle.record.specs.Turning.{matrix-small}
+use Rattle.record.specs.declared.Answer.{Answer}
+use Rattle.record.specs.declared.Answer.the-variants.{Loaded, Turned, Swept, Pair, NoPair, Axis, Refused}
+use Rattle.record.specs.declared.Record.{Record}
+
+-- a_ii and r_i; of any other answer 0 and 0
+unfoldable pub axisValues : Answer → List ℤ
+axisValues Loaded = pos 0 ∷ pos 0 ∷ []
+axisValues (Turned made) = pos 0 ∷ pos 0 ∷ []
+axisValues (Swept made) = pos 0 ∷ pos 0 ∷ []
+axisValues (Pair p q) = pos 0 ∷ pos 0 ∷ []
+axisValues NoPair = pos 0 ∷ pos 0 ∷ []
+axisValues (Axis entry error) = entry ∷ pos error ∷ []
+axisValues (Refused number) = pos 0 ∷ pos 0 ∷ []
+
+pub length-values : (answer : Answer) → length (axisValues answer) ≡ 2
+unfolding axisValues
+length-values Loaded = refl
+length-values (Turned made) = refl
+length-values (Swept made) = refl
+length-values (Pair p q) = refl
+length-values NoPair = refl
+length-values (Axis entry error) = refl
+length-values (Refused number) = refl
+
+pub length-row : (r : Record) (i : ℕ) → length (axisOf r i) ≡ 8
+unfolding axisOf entriesOf
+length-row r i = by-test (eqb (refusalOf (r .n) (r .m) (axis i)) 0)
+  where
+    by-test : (test : Bool) → length (cond test (entriesOf (r .v) (i - 1)) (replicate 8 (pos 0))) ≡ 8
+    by-test true = length-eight _
+    by-test false = refl
+
+-- r_i is below 2^63
+unfoldable pub ErrorFits : Answer → Type 0
+ErrorFits Loaded = Unit
+ErrorFits (Turned made) = Unit
+ErrorFits (Swept made) = Unit
+ErrorFits (Pair p q) = Unit
+ErrorFits NoPair = Unit
+ErrorFits (Axis entry error) = error < 2 ^ 63
+ErrorFits (Refused number) = Unit
+
+module _ (r : Record) (k : Kept r) (i : ℕ) where
+  column : (j : ℕ) → i - 1 < 8 → j < 8 → (test : Bool) → cond test 0 (natAbs (kept (r .a) (i - 1) j)) ≤ widest
+  unfolding workOf
+  column j h l true = omega arith
+  column j h l false =
+      rw (← at-rowsOf (r .a) (i - 1) j h l) (matrix-small (r .n) (workOf r) (k .work) (le-trans (k .turns) (lit≤ tt)) .small (i - 1) j)
+
+  pub error-fits : ErrorFits (answerOf r (axis i))
+  unfolding ErrorFits answerOf valueOf errorOf
+  error-fits = by-test (eqb (refusalOf (r .n) (r .m) (axis i)) 0) refl
+    where
+      by-test : (test : Bool) → eqb (refusalOf (r .n) (r .m) (axis i)) 0 ≡ test → ErrorFits (answerOf r (axis i))
+      by-test true q =
+          let a = axis-accepted (r .n) (r .m) i (eqb-true _ 0 q) in
+          rw q
+          (omega (arith, sumℕ-≤ (r .n) {g = λ j. widest} (λ j l. column j (omega (arith, a .first, a .last, k .size)) (omega (arith, k .size)) (eqb j (i - 1))), sumℕ-const (r .n) widest, k .size, k .turns))
+      by-test false q = rw q tt
