@@ -1,7 +1,7 @@
-mod Told
+mod RunRefusals
 mod Following
 mod Answered
 mod Within
-mod Refusals
+mod TableRefusals
 mod Reporting
 mod Playing

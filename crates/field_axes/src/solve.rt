@@ -17,10 +17,8 @@ ghost use Rattle.field_axes.specs.Solvable.{Solvable};
 pub fn solve_refusal(n: usize, numbers: &[i64], limit: u64, tolerance: u64, size: usize) -> u32
     ensures { λ r. ⌜ r ≡ solveRefusal n (now (numbers .entry)) limit tolerance size ⌝ }
 {
-    let fresh = Record::new();
-    let loaded = fresh.load(n, numbers);
-    let answer = loaded.answer;
-    if let Answer::Refused(number) = answer {
+    let number = record::load_refusal(n, numbers);
+    if number != 0 {
         return number;
     }
     if limit < 1 {

@@ -12,6 +12,8 @@ mod rows;
 pub mod run;
 mod work;
 
+pub use load::load_refusal;
+
 // Channels n, 0 where there is no matrix; turns made m; refused calls; the kept matrix and axes, row after row, 8 to a row.
 pub struct Record {
     n: usize,
