@@ -7,4 +7,5 @@ pub mod Pair
 pub mod Dot
 pub mod Matrix
 pub mod Range
+pub mod Tests
 pub mod Word

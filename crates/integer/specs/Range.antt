@@ -4,9 +4,10 @@ use mathlib.Core.Bool.{Bool, true, _&&_}
 use Prim.Native.Nat.{ℕ, zero, suc, _<_, _≤_}
 use native.Mathlib.Nat.{le-of-suc-le-suc, not-suc-le-zero}
 use native.Mathlib.Decide.{ℕ-discrete}
+use native.Mathlib.Omega.{arith}
 use lib.Arith.{lt-of-le-ne}
 use lib.Dec.{T}
-use mir.Facts.{and-yes}
+use mir.Facts.{and-yes, yes-and}
 
 abbrev pub all : (ℕ → Bool) → ℕ → Bool
 all f zero = true
@@ -20,3 +21,7 @@ pub below : (f : ℕ → Bool) (n : ℕ) → T (all f n) → (k : ℕ) → k < n
 below f zero t k h = absurd (not-suc-le-zero h)
 below f (suc n) t k h =
     last-or-below f n k (and-yes (all f n) (f n) t .1) (below f n (and-yes (all f n) (f n) t .0) k) h (ℕ-discrete k n)
+
+pub from-each : (f : ℕ → Bool) (n : ℕ) → ((k : ℕ) → k < n → T (f k)) → T (all f n)
+from-each f zero h = tt
+from-each f (suc n) h = yes-and (all f n) (f n) (from-each f n (λ k l. h k (omega arith))) (h n (omega arith))

@@ -4,12 +4,12 @@ use mathlib.Core.Bool.{Bool, true, false, _&&_}
 use mathlib.Core.List.{List, [], _∷_}
 use Prim.Native.Nat.{ℕ, zero, suc, _+_, _-_, _*_, _/_, _<_, _≤_}
 use native.Mathlib.Omega.{arith}
-use lib.Dec.{T, eqb, leb, ltb, eqb→eq, leb→le, ltb→lt}
+use lib.Dec.{T, eqb, leb, ltb, eqb→eq, eqb-refl, leb→le, ltb→lt}
 use lib.IntN.{ℤ, pos, negsuc, natAbs}
 use lib.ListN.{length, getD}
 use mir.Facts.{and-yes}
 use Rattle.integer.specs.Matrix.{Matrix, Symmetric}
-use Rattle.integer.specs.Range.{all, below}
+use Rattle.integer.specs.Range.{all, below, from-each}
 use Rattle.ledger.specs.Call.{load, turn, sweep, axis}
 use Rattle.limits.specs.Limits.{entryLimit, turnLimit}
 use Rattle.ledger.specs.Refusal.{matrixOf, equal, symmetric, within, unless, refusalOf}
@@ -41,9 +41,21 @@ equal-same (pos x) (negsuc y) t = absurd t
 equal-same (negsuc x) (pos y) t = absurd t
 equal-same (negsuc x) (negsuc y) t = ap negsuc (eqb→eq x y t)
 
+pub equal-of : (x y : ℤ) → x ≡ y → T (equal x y)
+unfolding equal
+equal-of x y e = rw e (itself y)
+  where
+    itself : (z : ℤ) → T (equal z z)
+    itself (pos n) = eqb-refl n
+    itself (negsuc n) = eqb-refl n
+
 symmetric-same : (n : ℕ) (a : Matrix) → T (symmetric n a) → Symmetric n a
 unfolding symmetric
 symmetric-same n a t i j o m = equal-same (a i j) (a j i) (below (λ j. equal (a i j) (a j i)) n (below (λ i. all (λ j. equal (a i j) (a j i)) n) n t i o) j m)
+
+pub symmetric-of : (n : ℕ) (a : Matrix) → Symmetric n a → T (symmetric n a)
+unfolding symmetric
+symmetric-of n a s = from-each _ n (λ i h. from-each _ n (λ j k. equal-of (a i j) (a j i) (s i j h k)))
 
 pub within-small : (numbers : List ℤ) → T (within numbers) → (i : ℕ) → natAbs (getD numbers i (pos 0)) ≤ entryLimit
 unfolding within

@@ -2,23 +2,23 @@
 use mathlib.Core.Path.{_≡_, refl, sym, ap, _∙_}
 use mathlib.Core.Bool.{Bool, true, false, true≢false, _&&_}
 use mathlib.Core.List.{List}
-use Prim.Native.Nat.{ℕ, zero, suc, _+_, _*_, _<_, _≤_}
+use Prim.Native.Nat.{ℕ, suc, _+_, _*_, _<_, _≤_}
 use native.Mathlib.Decide.{decLt}
 use native.Mathlib.Nat.{mul-le-mul, le-refl}
 use native.Mathlib.Numerals.{add-one}
 use native.Mathlib.Omega.{arith}
-use lib.Dec.{T, leb, eqb-refl}
+use lib.Dec.{T, leb}
 use lib.IntN.{ℤ, pos, negsuc, natAbs}
 use lib.ListN.{length, getD, drop}
 use lib.Seq.{drop-cons}
 use lib.Signed.{ltZ, leZ}
 use mir.Syntax.{w64}
 use mir.Val.{SFits, toZ, ofZ}
-use mir.Facts.{toZ-ofZ, yes-and}
+use mir.Facts.{toZ-ofZ}
 use borrow.Author.Tests.{ltb-true, ltb-false, le-leb, lt-leb, eq-eqb}
 use Rattle.integer.specs.Matrix.{Matrix}
-use Rattle.integer.specs.Range.{all, below}
-use Rattle.ledger.specs.Accepted.{equal-same}
+use Rattle.integer.specs.Range.{all, below, from-each}
+use Rattle.ledger.specs.Accepted.{equal-of, equal-same}
 use Rattle.ledger.specs.Call.{load}
 use Rattle.limits.specs.Limits.{entryLimit}
 use Rattle.ledger.specs.Refusal.{equal, matrixOf, refusalOf, symmetric, unless, within}
@@ -37,19 +37,7 @@ all-more f k e t = rw (add-one, e, t)
 pub all-fails : (f : ℕ → Bool) (n k : ℕ) → k < n → f k ≡ false → false ≡ all f n
 all-fails f n k h e = same-test false (all f n) (λ t. absurd t) (λ t. rw e at (below f n t k h))
 
-all-yes : (f : ℕ → Bool) (n : ℕ) → ((k : ℕ) → k < n → T (f k)) → T (all f n)
-all-yes f zero h = tt
-all-yes f (suc n) h = yes-and (all f n) (f n) (all-yes f n (λ k l. h k (omega arith))) (h n (omega arith))
-
 -- the test of equality
-equal-of : (x y : ℤ) → x ≡ y → T (equal x y)
-unfolding equal
-equal-of x y e = rw e (itself y)
-  where
-    itself : (z : ℤ) → T (equal z z)
-    itself (pos n) = eqb-refl n
-    itself (negsuc n) = eqb-refl n
-
 pub equal-yes : (x y : ℤ) → x ≡ y → equal x y ≡ true
 equal-yes x y e = same-test (equal x y) true (λ t. tt) (λ t. equal-of x y e)
 
@@ -69,10 +57,10 @@ unfolding symmetric
 symmetric-left n a = same-test _ _ from-all from-left
   where
     from-all : T (all (λ i. all (mirrored a i) n) n) → T (all (λ i. all (mirrored a i) i) n)
-    from-all t = all-yes _ n (λ i h. all-yes _ i (λ j k. below _ n (below _ n t i h) j (omega arith)))
+    from-all t = from-each _ n (λ i h. from-each _ i (λ j k. below _ n (below _ n t i h) j (omega arith)))
 
     from-left : T (all (λ i. all (mirrored a i) i) n) → T (all (λ i. all (mirrored a i) n) n)
-    from-left t = all-yes _ n (λ i h. all-yes _ n (λ j k. by-order i j h k (decLt j i) (decLt i j)))
+    from-left t = from-each _ n (λ i h. from-each _ n (λ j k. by-order i j h k (decLt j i) (decLt i j)))
       where
         left : (i j : ℕ) → i < n → j < i → T (mirrored a i j)
         left i j h l = below _ i (below _ n t i h) j l

@@ -1,5 +1,6 @@
 mod Axes
 mod Checks
+mod Filled
 mod Going
 mod Handed
 mod LentCall

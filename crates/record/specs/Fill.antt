@@ -1,4 +1,4 @@
--- Laws of tabulated lists: what stands at a place, and how a list is filled from the front.
+-- Laws of tabulated lists: what stands at a place.
 use mathlib.Core.Path.{_≡_, refl, sym, ap, _∙_}
 use mathlib.Core.List.{List, [], _∷_, _++_}
 use Prim.Native.Nat.{ℕ, zero, suc, _+_, _*_, _/_, _%_, _<_, _≤_}
@@ -7,8 +7,8 @@ use native.Mathlib.Nat.{not-suc-le-zero, le-of-suc-le-suc}
 use native.Mathlib.Numerals.{add-one}
 use native.Mathlib.Omega.{arith}
 use lib.IntN.{ℤ, pos}
-use lib.ListN.{length, getD, take, set, length-append, List·getD-append}
-use lib.Seq.{take-suc-set, take-all, getD-at}
+use lib.ListN.{length, getD, length-append, List·getD-append}
+use lib.Seq.{getD-at}
 use Rattle.rotation.specs.Eight.{at-eight}
 use Rattle.rotation.specs.Turn.{at, eight}
 use Rattle.record.specs.Flat.{kept, entriesOf, rowsOf, tabulate, flatOf}
@@ -28,14 +28,6 @@ pub getD-tabulate : (n k : ℕ) (f : ℕ → ℤ) → k < n → getD (tabulate n
 unfolding tabulate
 getD-tabulate zero k f h = absurd (not-suc-le-zero h)
 getD-tabulate (suc n) k f h = last-or-before n k f (getD-tabulate n k f) h (ℕ-discrete k n)
-
--- a list that holds f below k, after a store of f k at k
-pub filled-more : (f : ℕ → ℤ) (a : List ℤ) (k : ℕ) (x : ℤ) → k < length a → take k a ≡ tabulate k f → x ≡ f k → take (k + 1) (set a k x) ≡ tabulate (k + 1) f
-unfolding tabulate
-filled-more f a k x h e p = rw (add-one, take-suc-set a k x h, e, p)
-
-pub filled-all : (f : ℕ → ℤ) (a : List ℤ) (n : ℕ) → length a ≡ n → take n a ≡ tabulate n f → a ≡ tabulate n f
-filled-all f a n h e = sym (take-all n a (omega arith)) ∙ e
 
 -- entries of a flat list and of its rows
 pub kept-flatOf : (f : ℕ → ℕ → ℤ) (i j : ℕ) → i < 8 → j < 8 → kept (flatOf f) i j ≡ f i j

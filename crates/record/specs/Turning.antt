@@ -13,6 +13,7 @@ use borrow.Author.Tests.{lt-ltb, le-ltb, ltb-true}
 use Rattle.integer.specs.Matrix.{Matrix, Symmetric as SymmetricBelow, squares, squares-cong}
 use Rattle.integer.specs.Square.{sq, sq-pos, natAbs-≤}
 use Rattle.integer.specs.Sum.{sumℕ, sumℕ-cong, sumℕ-const, term-≤-sumℕ}
+use Rattle.integer.specs.Tests.{cond-same}
 use Rattle.ledger.specs.Cyclic.{Each, Ordered}
 use Rattle.ledger.specs.Pairs.{Pair}
 use Rattle.ledger.specs.Sound.{matrixBound, axesBound}
@@ -70,10 +71,6 @@ inUse-inside n x i j h k = rw (lt-ltb i n h, lt-ltb j n k)
 pub inUse-outside : (n : ℕ) (x : Matrix) (i j : ℕ) → (ltb i n && ltb j n) ≡ false → inUse n x i j ≡ pos 0
 unfolding inUse
 inUse-outside n x i j e = rw e
-
-cond-same : {A : Type 0} (t : Bool) (z : A) → cond t z z ≡ z
-cond-same true z = refl
-cond-same false z = refl
 
 -- a matrix that is 0 outside, after a change inside
 pub at-array : (n : ℕ) (new old : Matrix) → n ≤ 8 → ((i j : ℕ) → (ltb i n && ltb j n) ≡ false → old i j ≡ pos 0) → (i j : ℕ) → at (array n new old) i j ≡ inUse n new i j

@@ -1,7 +1,7 @@
 // What a load checks and makes.
 ghost use mathlib.Core.Path.{_≡_};
 ghost use mathlib.Core.Bool.{true};
-ghost use Prim.Native.Nat.{_*_, _/_, _%_, _<_, _≤_};
+ghost use Prim.Native.Nat.{_*_, _<_, _≤_};
 ghost use Rattle.integer.specs.Matrix.{diagonal};
 ghost use Rattle.integer.specs.Range.{all};
 ghost use Rattle.ledger.specs.Call.{load};
@@ -88,19 +88,11 @@ pub fn load_refusal(n: usize, numbers: &[i64]) -> u32
     0
 }
 
-// The kept entry at place k of the flat matrix.
-fn loaded_entry(n: usize, numbers: &[i64], k: usize) -> i64
-    requires { ⌜ (k < 64) × (n ≤ 8) × (length (now numbers) ≡ n * n) × (within (now numbers) ≡ true) ⌝ }
-    ensures { λ r. ⌜ r ≡ inUse n (λ i j. pos units *ℤ matrixOf n (now (numbers .entry)) i j) (k / 8) (k % 8) ⌝ }
+// The kept entry in row i and column j.
+fn loaded_entry(n: usize, numbers: &[i64], i: usize, j: usize) -> i64
+    requires { ⌜ (i < n) × (j < n) × (n ≤ 8) × (length (now numbers) ≡ n * n) × (within (now numbers) ≡ true) ⌝ }
+    ensures { λ r. ⌜ r ≡ pos units *ℤ matrixOf n (now (numbers .entry)) i j ⌝ }
 {
-    let i = k / 8;
-    let j = k % 8;
-    if n <= i {
-        return 0;
-    }
-    if n <= j {
-        return 0;
-    }
     Record::UNITS * numbers[i * n + j]
 }
 
@@ -109,10 +101,15 @@ pub fn loaded_matrix(n: usize, numbers: &[i64]) -> [i64; 64]
     ensures { λ r. ⌜ r ≡ flatOf (inUse n (λ i j. pos units *ℤ matrixOf n (now (numbers .entry)) i j)) ⌝ }
 {
     let mut a = [0i64; 64];
-    let mut k = 0;
-    while k < 64 {
-        a[k] = loaded_entry(n, numbers, k);
-        k += 1;
+    let mut i = 0;
+    while i < n {
+        let start = 8 * i;
+        let mut j = 0;
+        while j < n {
+            a[start + j] = loaded_entry(n, numbers, i, j);
+            j += 1;
+        }
+        i += 1;
     }
     a
 }

@@ -40,10 +40,15 @@ pub fn packed(b: [[i64; 8]; 8]) -> [i64; 64]
     ensures { λ r. ⌜ r ≡ flatOf (at b) ⌝ }
 {
     let mut a = [0i64; 64];
-    let mut k = 0;
-    while k < 64 {
-        a[k] = b[k / 8][k % 8];
-        k += 1;
+    let mut i = 0;
+    while i < 8 {
+        let start = 8 * i;
+        let mut j = 0;
+        while j < 8 {
+            a[start + j] = b[i][j];
+            j += 1;
+        }
+        i += 1;
     }
     a
 }

@@ -1,6 +1,6 @@
 -- Rows p and q turned column by column.
 use mathlib.Core.Path.{_≡_, refl, sym, ap, _∙_}
-use mathlib.Core.Bool.{Bool, true, false, cond, _&&_}
+use mathlib.Core.Bool.{cond, _&&_}
 use mathlib.Core.List.{List, []}
 use Prim.Native.Nat.{ℕ, _+_, _<_, _≤_}
 use native.Mathlib.Decide.{decLt, ℕ-discrete}
@@ -9,6 +9,7 @@ use lib.Dec.{ltb}
 use lib.IntN.{ℤ}
 use lib.ListN.{getD, set}
 use borrow.Author.Tests.{lt-ltb, le-ltb}
+use Rattle.integer.specs.Tests.{cond-same, next-test}
 use Rattle.rotation.specs.Eight.{at-eight, shaped-square, square-cong, square-of}
 use Rattle.rotation.specs.Place.{Place, at-p, at-q, neither, place, atPair-p, atPair-q, atPair-neither}
 use Rattle.rotation.specs.Rotation.{first, second, inverse}
@@ -17,18 +18,6 @@ use Rattle.rotation.specs.Turn.{array, at, square, turnAxes, turnedAxes}
 use Rattle.rotation.specs.declared.pair.Rotation.{Rotation}
 use Rattle.rotation.proofs.Back.{inverse-first}
 use Rattle.rotation.proofs.Stored.{store, stored, stored-column, stored-here, stored-row}
-
-pub cond-same : {A : Type 0} (t : Bool) (z : A) → cond t z z ≡ z
-cond-same true z = refl
-cond-same false z = refl
-
--- a test of an index against k and against k + 1
-pub next-test : (k j : ℕ) → (j ≡ k → ⊥) → ltb j (k + 1) ≡ ltb j k
-next-test k j d = by (decLt j k)
-  where
-    by : Dec (j < k) → ltb j (k + 1) ≡ ltb j k
-    by (yes h) = rw (lt-ltb j k h, lt-ltb j (k + 1) (omega arith))
-    by (no h) = rw (le-ltb j k (omega arith), le-ltb j (k + 1) (omega arith))
 
 module _ (r : Rotation) (p q : ℕ) (v : List (List ℤ)) where
   -- the first k columns turned

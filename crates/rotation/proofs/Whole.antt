@@ -9,6 +9,7 @@ use lib.Dec.{ltb}
 use lib.IntN.{ℤ, natAbs}
 use lib.ListN.{getD, set}
 use borrow.Author.Tests.{lt-ltb, le-ltb}
+use Rattle.integer.specs.Tests.{cond-same, next-test}
 use Rattle.rotation.specs.Eight.{at-eight, square-cong, square-of}
 use Rattle.rotation.specs.InPlace.{Passed, blockOf, mirrorOf}
 use Rattle.rotation.specs.Place.{Place, at-p, at-q, neither, place, atPair-p, atPair-q, atPair-neither}
@@ -19,7 +20,6 @@ use Rattle.rotation.specs.Turn.{array, at, atPair, hpp, hpq, hqp, hqq, n
 use Rattle.rotation.specs.declared.pair.Rotation.{Rotation}
 use Rattle.rotation.proofs.Back.{back-of, inverse-first}
 use Rattle.rotation.proofs.Pass.{first-size}
-use Rattle.rotation.proofs.Columns.{cond-same, next-test}
 use Rattle.rotation.proofs.Stored.{store, stored, stored-column, stored-here, stored-row}
 
 -- the four stores of the block

@@ -1,17 +1,14 @@
 -- Calls that no refusal applies to, by their arguments and the record's n and m.
-use mathlib.Core.Path.{_≡_, refl}
-use mathlib.Core.Bool.{Bool, true}
+use mathlib.Core.Path.{_≡_}
 use mathlib.Core.List.{List}
-use Prim.Native.Nat.{ℕ, zero, suc, _+_, _-_, _*_, _/_, _<_, _≤_}
-use native.Mathlib.Omega.{arith}
-use lib.IntN.{ℤ, pos, negsuc}
+use Prim.Native.Nat.{ℕ, _+_, _-_, _*_, _/_, _≤_}
+use lib.IntN.{ℤ}
+use lib.Ieee.Bits.{is-true}
 use borrow.Author.Tests.{eq-eqb, le-leb, lt-ltb}
-use Rattle.integer.specs.Matrix.{Matrix, Symmetric}
-use Rattle.integer.specs.Range.{all}
-use Rattle.ledger.specs.Accepted.{Loads}
+use Rattle.ledger.specs.Accepted.{Loads, symmetric-of}
 use Rattle.ledger.specs.Call.{Call, axis, load, loosePair, sweep}
 use Rattle.limits.specs.Limits.{toleranceLimit, turnLimit}
-use Rattle.ledger.specs.Refusal.{equal, matrixOf, refusalOf, symmetric}
+use Rattle.ledger.specs.Refusal.{matrixOf, refusalOf, symmetric}
 use Rattle.record.specs.Loading.{loads-within}
 use Rattle.record.specs.Record.{acceptedOf, afterOf}
 use Rattle.record.specs.declared.Record.{Record}
@@ -35,19 +32,6 @@ module _ (n m : ℕ) (h : 1 ≤ n) where
   unfolding refusalOf
   axis-accepted i k l = rw (lt-ltb 0 n h, le-leb 1 i k, le-leb i n l)
 
-all-true : (f : ℕ → Bool) (n : ℕ) → ((k : ℕ) → k < n → f k ≡ true) → all f n ≡ true
-all-true f zero h = refl
-all-true f (suc n) h = rw (all-true f n (λ k l. h k (omega arith)), h n (omega arith))
-
-equal-itself : (z : ℤ) → equal z z ≡ true
-unfolding equal
-equal-itself (pos n) = eq-eqb n n refl
-equal-itself (negsuc n) = eq-eqb n n refl
-
-symmetric-true : (n : ℕ) (a : Matrix) → Symmetric n a → symmetric n a ≡ true
-unfolding symmetric
-symmetric-true n a s = all-true _ n (λ i h. all-true _ n (λ j k. rw (s i j h k) (equal-itself (a j i))))
-
 pub load-accepted : (n m k : ℕ) (numbers : List ℤ) → Loads k numbers → refusalOf n m (load k numbers) ≡ 0
 unfolding refusalOf
 load-accepted n m k numbers l =
@@ -56,5 +40,5 @@ load-accepted n m k numbers l =
       le-leb k 8 (l .high),
       eq-eqb _ (k * k) (l .count),
       loads-within l,
-      symmetric-true k (matrixOf k numbers) (l .same),
+      is-true (symmetric k (matrixOf k numbers)) (symmetric-of k (matrixOf k numbers) (l .same)),
     )

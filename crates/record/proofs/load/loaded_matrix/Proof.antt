@@ -1,59 +1,81 @@
--- `record::load::loaded_matrix` meets its contract: the loop fills the flat list from the front.
-use mathlib.Core.Path.{_≡_, refl}
-use Prim.Native.Nat.{_-_, _/_, _%_, _≤_}
+-- `record::load::loaded_matrix` meets its contract: the flat matrix is filled row by row.
+use mathlib.Core.Path.{_≡_, sym, _∙_}
+use mathlib.Core.List.{List}
+use Prim.Native.Nat.{ℕ, _-_, _≤_}
 use native.Mathlib.Omega.{arith}
-use lib.IntN.{pos, _*ℤ_}
-use lib.ListN.{length, take, length-set}
+use lib.IntN.{ℤ, pos, _*ℤ_}
 use mir.Syntax.{w64}
 use mir.Val.{SFits}
+use mir.Facts.{toZ-ofZ}
 use borrow.Author.Needs.{needs}
-use Rattle.integer.specs.Word.{word}
-use Rattle.limits.specs.Limits.{units}
+use Rattle.integer.specs.Matrix.{Matrix}
 use Rattle.ledger.specs.Refusal.{matrixOf}
-use Rattle.record.specs.Fill.{filled-more, filled-all}
-use Rattle.record.specs.Flat.{tabulate, flatOf}
-use Rattle.record.specs.Record.{inUse}
+use Rattle.limits.specs.Limits.{units}
+use Rattle.record.specs.Flat.{flatOf}
+use Rattle.record.proofs.Filled.{filled-all, filled-none, filled-one, filled-row, filledTo}
 use Rattle.record.proofs.load.loaded_matrix.Statement.{statement}
 use Rattle.record.proofs.load.loaded_matrix.Tie as tie
 
+-- the numbers in units
+abbrev loaded : ℕ → List ℤ → Matrix
+loaded n numbers i j = pos units *ℤ matrixOf n numbers i j
+
+-- The inner loop knows the matrix as it was where it began.
+abbrev Inv-loop2 : tie.InvT-loop2
+Inv-loop2 n numbers a₀ i start j₀ a j =
+    (j ≤ n) × (a₀ ≡ flatOf (filledTo n (loaded n numbers) i 0) → a ≡ flatOf (filledTo n (loaded n numbers) i j))
+
+abbrev μ-loop2 : tie.MeasureT-loop2
+μ-loop2 n numbers a₀ i start j₀ a j = n - j
+
 abbrev Inv-loop : tie.InvT-loop
-Inv-loop n numbers a₀ k₀ a k =
-    (k ≤ 64) × (length a ≡ 64) × (take k a ≡ tabulate k (λ l. inUse n (λ i j. pos units *ℤ matrixOf n numbers i j) (l / 8) (l % 8)))
+Inv-loop n numbers a₀ i₀ a i = (i ≤ n) × (a ≡ flatOf (filledTo n (loaded n numbers) i 0))
 
 abbrev μ-loop : tie.MeasureT-loop
-μ-loop n numbers a₀ k₀ a k = 64 - k
+μ-loop n numbers a₀ i₀ a i = n - i
 
-loop-holds : tie.Need-loop-holds Inv-loop μ-loop
-unfolding tabulate
-loop-holds c = (omega arith, refl, refl)
-
-loop-again : tie.Need-loop-again Inv-loop μ-loop
-loop-again c =
-    let i = c .before .before .loop .inv in
+loop2-again : tie.Need-loop2-again Inv-loop2 μ-loop2 Inv-loop μ-loop
+loop2-again c =
+    let l = c .before .before .loop2 in
     let f : SFits w64 (c .loaded-entry .result) = record { sfits = omega (arith, c .loaded-entry .ok) } in (
       omega arith,
-      simp length-set (i .1),
-      filled-more _ _ _ _ (omega (arith, i .1)) (i .2) (word f (c .loaded-entry .ensures)),
+      λ e.
+          rw (l .inv .1 e, toZ-ofZ f, c .loaded-entry .ensures)
+          (filled-one _ _ (c .before .before .before .before .loop .i) (l .j) (omega arith) (omega arith)),
     )
 
-returns : tie.Need-returns Inv-loop μ-loop
-unfolding flatOf
+loop-again : tie.Need-loop-again Inv-loop2 μ-loop2 Inv-loop μ-loop
+loop-again c =
+    let l = c .before .before .before .loop in
+    let s = c .before .before .before .before in
+    let e : c .before .loop2 .j ≡ s .args .n = omega arith in
+    (omega arith, (rw e at (c .before .loop2 .inv .1 (l .inv .1))) ∙ filled-row (s .args .n) _ (l .i) (omega arith))
+
+returns : tie.Need-returns Inv-loop2 μ-loop2 Inv-loop μ-loop
 returns c =
-    let i = c .before .loop .inv in
-    let e : c .before .loop .k ≡ 64 = omega arith in
-    filled-all _ _ _ (i .1) (rw e at (i .2))
+    let s = c .before .before in
+    let e : c .before .loop .i ≡ s .args .n = omega arith in
+    (rw e at (c .before .loop .inv .1)) ∙ filled-all (s .args .n) _
 
 pub loaded-matrix-spec : {M : Type 1} → statement M
 loaded-matrix-spec =
     tie.close
     (tie.spec
+    Inv-loop2
+    μ-loop2
     Inv-loop
     μ-loop
-    loop-holds
+    (λ c. (omega arith, sym (filled-none _ _)))
+    (λ c. search needs)
+    (λ c. (omega arith, λ e. e))
     (λ c κs. search needs)
-    (λ c. omega arith)
-    (λ c. omega arith)
-    (λ c. omega arith)
-    (λ c. omega arith)
+    (λ c. search needs)
+    (λ c. search needs)
+    (λ c. search needs)
+    (λ c. search needs)
+    (λ c. search needs)
+    loop2-again
+    (λ c. search needs)
+    (λ c. search needs)
     loop-again
     returns)

@@ -1,63 +1,76 @@
--- `record::rows::packed` meets its contract: the loop fills the flat list from the front.
-use mathlib.Core.Path.{_≡_, refl}
+-- `record::rows::packed` meets its contract: the flat matrix is filled row by row.
+use mathlib.Core.Path.{_≡_, sym, _∙_}
 use mathlib.Core.List.{[]}
-use Prim.Native.Nat.{ℕ, _-_, _/_, _%_, _≤_}
+use Prim.Native.Nat.{_-_, _≤_}
 use native.Mathlib.Omega.{arith}
 use lib.IntN.{pos}
-use lib.ListN.{length, getD, take, length-set}
+use lib.ListN.{getD}
 use mir.Syntax.{w64}
 use mir.Val.{SFits}
+use mir.Facts.{toZ-ofZ}
 use borrow.Author.Needs.{needs}
-use Rattle.integer.specs.Word.{word}
 use Rattle.rotation.specs.Turn.{at}
-use Rattle.record.specs.Flat.{tabulate, flatOf}
-use Rattle.record.specs.Fill.{filled-more, filled-all}
+use Rattle.record.specs.Flat.{flatOf}
+use Rattle.record.specs.Turning.{inUse-inside}
+use Rattle.record.proofs.Filled.{filled-all, filled-none, filled-one, filled-row, filledTo, flat-cong}
 use Rattle.record.proofs.rows.packed.Statement.{statement}
 use Rattle.record.proofs.rows.packed.Tie as tie
 
+-- The inner loop knows the matrix as it was where it began.
+abbrev Inv-loop2 : tie.InvT-loop2
+Inv-loop2 b a₀ i start j₀ a j = (j ≤ 8) × (a₀ ≡ flatOf (filledTo 8 (at b) i 0) → a ≡ flatOf (filledTo 8 (at b) i j))
+
+abbrev μ-loop2 : tie.MeasureT-loop2
+μ-loop2 b a₀ i start j₀ a j = 8 - j
+
 abbrev Inv-loop : tie.InvT-loop
-Inv-loop b a₀ k₀ a k = (k ≤ 64) × (length a ≡ 64) × (take k a ≡ tabulate k (λ l. at b (l / 8) (l % 8)))
+Inv-loop b a₀ i₀ a i = (i ≤ 8) × (a ≡ flatOf (filledTo 8 (at b) i 0))
 
 abbrev μ-loop : tie.MeasureT-loop
-μ-loop b a₀ k₀ a k = 64 - k
+μ-loop b a₀ i₀ a i = 8 - i
 
-loop-holds : tie.Need-loop-holds Inv-loop μ-loop
-unfolding tabulate
-loop-holds c = (omega arith, refl, refl)
-
-loop-again : tie.Need-loop-again Inv-loop μ-loop
+loop2-again : tie.Need-loop2-again Inv-loop2 μ-loop2 Inv-loop μ-loop
 unfolding at
-loop-again c =
-    let i = c .before .before .loop .inv in
-    let k = c .before .before .loop .k in
-    let b = c .before .before .before .args .t1 in
-    let f : SFits w64 (getD (getD b (k / 8) []) (k % 8) (pos 0)) = search needs in (
-      omega arith,
-      simp length-set (i .1),
-      filled-more _ _ _ _ (omega (arith, i .1)) (i .2) (word f refl),
-    )
+loop2-again c =
+    let l = c .before .before .loop2 in
+    let b = c .before .before .before .before .before .args .t1 in
+    let i = c .before .before .before .before .loop .i in
+    let f : SFits w64 (getD (getD b i []) (l .j) (pos 0)) = search needs in
+    (omega arith, λ e. rw (l .inv .1 e, toZ-ofZ f) (filled-one 8 (at b) i (l .j) (omega arith) (omega arith)))
 
-returns : tie.Need-returns Inv-loop μ-loop
-unfolding flatOf
+loop-again : tie.Need-loop-again Inv-loop2 μ-loop2 Inv-loop μ-loop
+loop-again c =
+    let l = c .before .before .before .loop in
+    let e : c .before .loop2 .j ≡ 8 = omega arith in
+    (omega arith, (rw e at (c .before .loop2 .inv .1 (l .inv .1))) ∙ filled-row 8 _ (l .i) (omega arith))
+
+returns : tie.Need-returns Inv-loop2 μ-loop2 Inv-loop μ-loop
 returns c =
-    let i = c .before .loop .inv in
-    let e : c .before .loop .k ≡ 64 = omega arith in
-    filled-all _ _ _ (i .1) (rw e at (i .2))
+    let e : c .before .loop .i ≡ 8 = omega arith in
+    (rw e at (c .before .loop .inv .1)) ∙ filled-all 8 _ ∙ flat-cong _ _ (λ i j h l. inUse-inside 8 _ i j h l)
 
 pub packed-spec : {M : Type 1} → statement M
 packed-spec =
     tie.close
     (tie.spec
+    Inv-loop2
+    μ-loop2
     Inv-loop
     μ-loop
-    loop-holds
-    (λ c. omega arith)
-    (λ c. omega arith)
-    (λ c. omega arith)
-    (λ c. omega arith)
+    (λ c. (omega arith, sym (filled-none 8 _)))
     (λ c. search needs)
-    (λ c. omega arith)
-    (λ c. omega arith)
-    (λ c. omega arith)
+    (λ c. (omega arith, λ e. e))
+    (λ c. search needs)
+    (λ c. search needs)
+    (λ c. search needs)
+    (λ c. search needs)
+    (λ c. search needs)
+    (λ c. search needs)
+    (λ c. search needs)
+    (λ c. search needs)
+    (λ c. search needs)
+    loop2-again
+    (λ c. search needs)
+    (λ c. search needs)
     loop-again
     returns)
