@@ -17,9 +17,10 @@ use Rattle.record.specs.declared.Record.{Record}
 use Rattle.rotation.specs.Eight.{getD-eight}
 use Rattle.text.specs.Line.{numberLine}
 use Rattle.text.specs.Lines.{lines-same}
+use Rattle.text.specs.Rows.{Wide, rowLine}
 use Rattle.text.specs.Put.{Put}
 use Rattle.report.specs.Done.{Answers}
-use Rattle.report.specs.Lines.{Wide, axesOf, axisLine, headOf, textOf, valuesOf}
+use Rattle.report.specs.Lines.{axesOf, headOf, textOf, valuesOf}
 use Rattle.report.specs.Report.{Short, bufferBy, lineA, lineR, reportOf, reportedBy, runFor}
 use Rattle.report.specs.declared.Reported.the-variants as reported
 
@@ -39,7 +40,7 @@ module _ (r : Record) where
   unfolding axesOf
   axes-wide = record { wide = λ i h. rw (getD-eight (λ i. valuesOf r (suc i)) i [] h) (values-length (suc i)) }
 
-  line-same : (n i : ℕ) → i < 8 → axisLine n (axesOf r) i ≡ lineA n r (suc i)
+  line-same : (n i : ℕ) → i < 8 → rowLine 65 (n + 3) (axesOf r) i ≡ lineA n r (suc i)
   unfolding axesOf valuesOf lineA
   line-same n i h =
       let e : n + 3 ≡ suc (suc (suc n)) = omega arith in

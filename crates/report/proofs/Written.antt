@@ -9,7 +9,8 @@ use Rattle.record.specs.declared.run.Outcome.{Outcome}
 use Rattle.record.specs.declared.run.Outcome.the-variants.{Settled, Still, Spent}
 use Rattle.text.specs.Line.{wordLine}
 use Rattle.text.specs.Lines.{lines}
-use Rattle.report.specs.Lines.{axisLine, textOf}
+use Rattle.text.specs.Rows.{rowLine}
+use Rattle.report.specs.Lines.{textOf}
 use Rattle.report.specs.Report.{outcomeWord}
 
 pub word-few : (outcome : Outcome) → length (outcomeWord outcome) ≤ 7
@@ -18,6 +19,6 @@ word-few Settled = omega arith
 word-few Still = omega arith
 word-few Spent = omega arith
 
-pub text-size : (head : List ℤ) (outcome : Outcome) (axes : List (List ℤ)) (n : ℕ) → length (textOf head outcome axes n) ≡ length (wordLine 82 head (outcomeWord outcome)) + length (lines (axisLine n axes) n)
+pub text-size : (head : List ℤ) (outcome : Outcome) (axes : List (List ℤ)) (n : ℕ) → length (textOf head outcome axes n) ≡ length (wordLine 82 head (outcomeWord outcome)) + length (lines (rowLine 65 (n + 3) axes) n)
 unfolding textOf
-text-size head outcome axes n = length-append (wordLine 82 head (outcomeWord outcome)) (lines (axisLine n axes) n)
+text-size head outcome axes n = length-append (wordLine 82 head (outcomeWord outcome)) (lines (rowLine 65 (n + 3) axes) n)

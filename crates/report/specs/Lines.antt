@@ -1,9 +1,8 @@
 -- The report's lines from their values, as the writer gets them: the numbers of the R line, the outcome, and eleven numbers for each A line.
-use Prim.Native.Nat.{ℕ, suc, _+_, _<_}
-use mathlib.Core.Path.{_≡_}
+use Prim.Native.Nat.{ℕ, suc, _+_}
 use mathlib.Core.List.{List, [], _∷_, _++_, map}
 use lib.IntN.{ℤ, pos}
-use lib.ListN.{length, take, getD}
+use lib.ListN.{length}
 use Rattle.job.specs.Job.{Job}
 use Rattle.job_table.specs.Held.{tableFor}
 use Rattle.ledger.specs.Call.{axis}
@@ -12,8 +11,9 @@ use Rattle.record.specs.Record.{answerOf, axisOf}
 use Rattle.record.specs.declared.Record.{Record}
 use Rattle.rotation.specs.Turn.{eight}
 use Rattle.record.specs.declared.run.Outcome.{Outcome}
-use Rattle.text.specs.Line.{numberLine, wordLine}
+use Rattle.text.specs.Line.{wordLine}
 use Rattle.text.specs.Lines.{lines}
+use Rattle.text.specs.Rows.{rowLine}
 use Rattle.report.specs.Report.{outcomeWord, runFor}
 
 -- n, k, e, sweeps run and m
@@ -28,13 +28,5 @@ valuesOf r i = pos i ∷ (axisValues (answerOf r (axis i)) ++ axisOf r i)
 unfoldable pub axesOf : Record → List (List ℤ)
 axesOf r = eight (λ i. valuesOf r (suc i))
 
--- the A line of the axis at a place, of n channels
-abbrev pub axisLine : ℕ → List (List ℤ) → ℕ → List ℕ
-axisLine n axes i = numberLine 65 (take (n + 3) (getD axes i []))
-
 unfoldable pub textOf : List ℤ → Outcome → List (List ℤ) → ℕ → List ℕ
-textOf head outcome axes n = wordLine 82 head (outcomeWord outcome) ++ lines (axisLine n axes) n
-
--- eleven numbers for each of eight lines
-pub record Wide (axes : List (List ℤ)) : Type 0 where
-  pub wide : (i : ℕ) → i < 8 → length (getD axes i []) ≡ 11
+textOf head outcome axes n = wordLine 82 head (outcomeWord outcome) ++ lines (rowLine 65 (n + 3) axes) n

@@ -5,7 +5,8 @@ ghost use Prim.Native.Nat.{_≤_};
 ghost use lib.ListN.{length};
 ghost use Rattle.text.specs.Line.{wordLine};
 ghost use Rattle.text.specs.Put.{Put, Sized};
-ghost use Rattle.report.specs.Lines.{Wide, textOf};
+ghost use Rattle.text.specs.Rows.{Wide};
+ghost use Rattle.report.specs.Lines.{textOf};
 ghost use Rattle.report.specs.Report.{outcomeWord};
 
 fn word_length(outcome: Outcome) -> usize
@@ -22,14 +23,8 @@ pub fn text_length(head: &[i64], outcome: Outcome, axes: &[[i64; 11]; 8], n: usi
     requires { ⌜ (length (now head) ≡ 5) × (n ≤ 8) × Wide (now axes) ⌝ }
     ensures { λ r. ⌜ Sized (textOf (now (head .entry)) outcome (now (axes .entry)) n) 2048 r ⌝ }
 {
-    let mut total = text::numbers_length(head, head.len()) + word_length(outcome) + 3;
-    let mut i = 0;
-    while i < n {
-        let values = axes[i];
-        total = total + text::numbers_length(&values, n + 3) + 2;
-        i += 1;
-    }
-    total
+    let first = text::numbers_length(head, head.len()) + word_length(outcome) + 3;
+    first + text::rows::rows_length(axes, n, n + 3)
 }
 
 fn put_head(buf: &mut [u8], head: &[i64], outcome: Outcome) -> usize
@@ -43,7 +38,7 @@ fn put_head(buf: &mut [u8], head: &[i64], outcome: Outcome) -> usize
     }
 }
 
-// Each line's writer gets the buffer's part from where the last line ended.
+// The A lines are written after the R line.
 pub fn put_text(
     buf: &mut [u8],
     head: &[i64],
@@ -54,12 +49,6 @@ pub fn put_text(
     requires { ⌜ (n ≤ 8) × Wide (now axes) × (length (textOf (now head) outcome (now axes) n) ≤ length (now buf)) ⌝ }
     ensures { λ r. ⌜ Put (textOf (now (head .entry)) outcome (now (axes .entry)) n) 0 (now (buf .entry)) (now (buf .exit)) r ⌝ }
 {
-    let mut at = put_head(buf, head, outcome);
-    let mut i = 0;
-    while i < n {
-        let values = axes[i];
-        at += text::put_line(&mut buf[at..], b'A', &values, n + 3);
-        i += 1;
-    }
-    at
+    let at = put_head(buf, head, outcome);
+    text::rows::put_rows(buf, at, b'A', axes, n, n + 3)
 }

@@ -2,5 +2,4 @@ pub mod Table
 pub mod Done
 pub mod Rows
 pub mod Laws
-pub mod Lengths
 pub mod Printed

@@ -1,24 +1,37 @@
--- The numbers of a table's row, and nine places that hold them.
+-- The numbers of a table's rows, in eleven places each, and the lines that are made from them.
+use Prim.Native.Nat.{ℕ, zero, suc, _+_, _*_, _≤_, _<_}
 use mathlib.Core.Path.{_≡_, refl, ap}
-use mathlib.Core.List.{List, _∷_}
-use Prim.Native.Nat.{ℕ, zero, suc, _+_, _≤_}
+use mathlib.Core.List.{List, [], _∷_, _++_}
 use native.Mathlib.Numerals.{add-one}
 use native.Mathlib.Omega.{arith}
 use lib.IntN.{ℤ, pos}
-use lib.ListN.{length, take}
-use Rattle.scatter.specs.Tabulate.{tabulate}
+use lib.ListN.{take, getD, length-append}
+use Rattle.scatter.specs.Tabulate.{tabulate, getD-tabulate, length-tabulate}
+use Rattle.text.specs.Rows.{Wide, rowLine}
+use Rattle.scatter_text.specs.Table.{lineS}
 
-take-tabulate : {A : Type 0} (n m : ℕ) (f : ℕ → A) → n ≤ m → take n (tabulate m f) ≡ tabulate n f
+-- Number i, j of n × n numbers row after row, from 0
+abbrev pub numberAt : ℕ → List ℤ → ℕ → ℕ → ℤ
+numberAt n us i j = getD us (i * n + j) (pos 0)
+
+-- The channel, eight numbers of which the first n are its row, and two that no line has
+unfoldable pub rowOf : ℕ → List ℤ → ℕ → List ℤ
+rowOf n us i = pos (i + 1) ∷ (tabulate 8 (numberAt n us i) ++ (pos 0 ∷ pos 0 ∷ []))
+
+unfoldable pub rowsOf : ℕ → List ℤ → List (List ℤ)
+rowsOf n us = tabulate 8 (rowOf n us)
+
+take-front : {A : Type 0} (n m : ℕ) (f : ℕ → A) (xs : List A) → n ≤ m → take n (tabulate m f ++ xs) ≡ tabulate n f
 unfolding tabulate
-take-tabulate zero zero f h = refl
-take-tabulate zero (suc m) f h = refl
-take-tabulate (suc n) zero f h = absurd (omega arith)
-take-tabulate (suc n) (suc m) f h = ap (λ l. f zero ∷ l) (take-tabulate n m (λ i. f (suc i)) (omega arith))
+take-front zero m f xs h = refl
+take-front (suc n) zero f xs h = absurd (omega arith)
+take-front (suc n) (suc m) f xs h = ap (λ l. f zero ∷ l) (take-front n m (λ i. f (suc i)) xs (omega arith))
 
-pub row-size : {r : List ℤ} (z : ℤ) (f : ℕ → ℤ) → r ≡ z ∷ tabulate 8 f → length r ≡ 9
-unfolding tabulate
-row-size z f e = ap length e
+module _ (n : ℕ) (us : List ℤ) where
+  pub rows-wide : Wide (rowsOf n us)
+  unfolding rowsOf rowOf
+  rows-wide = record { wide = λ i h. rw (getD-tabulate 8 (rowOf n us) i [] h, length-append, length-tabulate) }
 
--- The numbers that a line is made from, in nine places
-pub row-numbers : (n : ℕ) (f : ℕ → ℕ → ℤ) {r : List ℤ} (i : ℕ) → n ≤ 8 → r ≡ pos (i + 1) ∷ tabulate 8 (f i) → take (n + 1) r ≡ pos (i + 1) ∷ tabulate n (f i)
-row-numbers n f i h e = rw (e, add-one n, take-tabulate n 8 (f i) h)
+  pub row-line : n ≤ 8 → (i : ℕ) → i < 8 → rowLine 83 (n + 1) (rowsOf n us) i ≡ lineS n (numberAt n us) i
+  unfolding rowsOf rowOf
+  row-line h i l = rw (getD-tabulate 8 (rowOf n us) i [] l, add-one n, take-front n 8 (numberAt n us i) (pos 0 ∷ pos 0 ∷ []) h)

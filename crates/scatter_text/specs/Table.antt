@@ -1,5 +1,5 @@
 -- The text of a job's table, what a job text is answered with, and what the lent buffer then holds.
-use Prim.Native.Nat.{ℕ, _+_}
+use Prim.Native.Nat.{ℕ, _+_, _≤_}
 use mathlib.Core.Bool.{cond}
 use mathlib.Core.List.{List, [], _∷_, _++_, map}
 use lib.Dec.{leb}
@@ -44,6 +44,11 @@ bufferBy (accepted j) entry =
 
 unfoldable pub bufferOf : List ℕ → List ℕ → List ℕ
 bufferOf text entry = bufferBy (jobOf text) entry
+
+-- Whatever job a text holds, the text of its table is short
+unfoldable pub Short : Answer → Type 0
+Short (refused number line) = Unit
+Short (accepted j) = length (tableText j) ≤ 2048
 
 -- What the program prints
 unfoldable pub printedBy : Answer → List ℕ

@@ -7,6 +7,7 @@ ghost use lib.ListN.{length, take};
 ghost use Rattle.job.specs.Job.{accepted};
 ghost use Rattle.job_table.specs.Held.{Held, jobIn};
 ghost use Rattle.text.specs.Put.{Put, Sized};
+ghost use Rattle.text.specs.Rows.{Wide};
 ghost use Rattle.scatter_text.specs.Done.{Answers, Tables, textOf};
 ghost use Rattle.scatter_text.specs.Table.{printedOf};
 
@@ -16,19 +17,19 @@ pub enum Tabled {
     Refused(u8, usize),
 }
 
-fn text_length(head: &[i64; 3], n: usize, sums: &[i64; 64]) -> usize
-    requires { ⌜ n ≤ 8 ⌝ }
-    ensures { λ r. ⌜ Sized (textOf (take 3 (now (head .entry))) n (now (sums .entry))) 2048 r ⌝ }
+fn text_length(head: &[i64; 3], n: usize, rows: &[[i64; 11]; 8]) -> usize
+    requires { ⌜ (n ≤ 8) × Wide (now rows) ⌝ }
+    ensures { λ r. ⌜ Sized (textOf (take 3 (now (head .entry))) n (now (rows .entry))) 2048 r ⌝ }
 {
-    text::numbers_length(head, 3) + 2 + rows::rows_length(n, sums)
+    text::numbers_length(head, 3) + 2 + text::rows::rows_length(rows, n, n + 1)
 }
 
-fn put_text(buf: &mut [u8], head: &[i64; 3], n: usize, sums: &[i64; 64]) -> usize
-    requires { ⌜ (n ≤ 8) × (length (textOf (take 3 (now head)) n (now sums)) ≤ length (now buf)) ⌝ }
-    ensures { λ r. ⌜ Put (textOf (take 3 (now (head .entry))) n (now (sums .entry))) 0 (now (buf .entry)) (now (buf .exit)) r ⌝ }
+fn put_text(buf: &mut [u8], head: &[i64; 3], n: usize, rows: &[[i64; 11]; 8]) -> usize
+    requires { ⌜ (n ≤ 8) × Wide (now rows) × (length (textOf (take 3 (now head)) n (now rows)) ≤ length (now buf)) ⌝ }
+    ensures { λ r. ⌜ Put (textOf (take 3 (now (head .entry))) n (now (rows .entry))) 0 (now (buf .entry)) (now (buf .exit)) r ⌝ }
 {
     let at = text::put_line(buf, b'T', head, 3);
-    rows::put_rows(buf, at, n, sums)
+    text::rows::put_rows(buf, at, b'S', rows, n, n + 1)
 }
 
 // The length is known before the first byte is written, so a buffer that is too short stays as it is.
@@ -40,11 +41,12 @@ fn table_job(job: Job, buf: &mut [u8]) -> Tabled
     let table = job_table::table_of(job);
     let sums = table.scatter;
     let head = [n as i64, job.k as i64, table.e as i64];
-    let length = text_length(&head, n, &sums);
+    let rows = rows::rows_of(n, &sums);
+    let length = text_length(&head, n, &rows);
     if buf.len() < length {
         return Tabled::Refused(12, 0);
     }
-    Tabled::Written(put_text(buf, &head, n, &sums))
+    Tabled::Written(put_text(buf, &head, n, &rows))
 }
 
 pub fn table_text(text: &[u8], buf: &mut [u8]) -> Tabled

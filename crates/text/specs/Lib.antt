@@ -4,6 +4,7 @@ pub mod Numeral
 pub mod Decimal
 pub mod Line
 pub mod Lines
+pub mod Rows
 pub mod Put
 pub mod Digits
 pub mod Numbers

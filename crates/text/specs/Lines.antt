@@ -1,5 +1,5 @@
--- Lines one after another, and their laws: one line more, the room that a line has among the others, how long they are together.
-use Prim.Native.Nat.{ℕ, zero, suc, _+_, _*_, _<_, _≤_}
+-- Lines one after another, and their laws: one line more, and the room that a line has among the others.
+use Prim.Native.Nat.{ℕ, zero, suc, _+_, _<_, _≤_}
 use mathlib.Core.Path.{_≡_, refl}
 use mathlib.Core.List.{List, [], _++_}
 use native.Mathlib.Decide.{decLt}
@@ -33,11 +33,6 @@ module _ (f : ℕ → List ℕ) where
       by-place : (i < k → length (lines f i) + length (f i) ≤ length (lines f k)) → Dec (i < k) → length (lines f i) + length (f i) ≤ length (lines f k ++ f k)
       by-place below (yes l) = rw length-append (omega (arith, below l))
       by-place below (no l) = let e : i ≡ k = omega arith in rw (e, length-append) (omega arith)
-
-  pub lines-few : (most k : ℕ) → ((i : ℕ) → i < k → length (f i) ≤ most) → length (lines f k) ≤ most * k
-  unfolding lines
-  lines-few most zero h = omega arith
-  lines-few most (suc k) h = rw length-append (omega (arith, lines-few most k (λ i l. h i (omega arith)), h k (omega arith)))
 
 pub lines-same : (k : ℕ) (f g : ℕ → List ℕ) → ((i : ℕ) → i < k → f i ≡ g i) → lines f k ≡ lines g k
 unfolding lines

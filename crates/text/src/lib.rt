@@ -1,4 +1,6 @@
 // Writers of text into a lent buffer: bytes, decimal numbers, and lines of tab-parted fields.
+pub mod rows;
+
 ghost use mathlib.Core.Path.{_≡_};
 ghost use mathlib.Core.List.{_∷_, []};
 ghost use Prim.Native.Nat.{_+_, _*_, _≤_, _<_, _^_};

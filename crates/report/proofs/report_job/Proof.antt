@@ -14,7 +14,8 @@ use Rattle.job_table.specs.Held.{jobIn}
 use Rattle.job_table.specs.Laws.{channels-held, samples-few, samples-held}
 use Rattle.record.specs.declared.run.Ran.{Ran}
 use Rattle.text.specs.Put.{Sized}
-use Rattle.report.specs.Lines.{Wide, textOf, headOf, axesOf}
+use Rattle.text.specs.Rows.{Wide}
+use Rattle.report.specs.Lines.{textOf, headOf, axesOf}
 use Rattle.report.specs.Report.{reportOf}
 use Rattle.report.proofs.Bounds.{sweeps-most}
 use Rattle.report.proofs.Same.{axes-wide, text-same, too-short, put-whole}

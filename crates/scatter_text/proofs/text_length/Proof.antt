@@ -12,9 +12,9 @@ unfolding textOf
 returns c =
     let first = c .before .numbers-length .ensures in
     let rows = c .rows-length .ensures in
-    let n = c .before .before .before .pre in
+    let n = c .before .before .before .pre .0 in
     record {
-      exact = rw (length-append, length-number-line) (omega (arith, first .exact, rows .exact));
+      exact = rw (length-append, length-number-line) (omega (arith, first .exact, rows .exact 83));
       bounded = omega (arith, first .bounded, rows .bounded);
     }
 
@@ -23,6 +23,7 @@ text-length-spec =
     tie.close
     (tie.spec
     (λ c κs. search needs)
+    (λ c. search needs)
     (λ c. search needs)
     (λ c κs. search needs)
     (λ c. search needs)

@@ -13,8 +13,6 @@ use Rattle.text.specs.Numbers.{numbers-more, number-within}
 use Rattle.text.specs.Put.{Put, put-nothing, put-then, same-size}
 use Rattle.text.proofs.put_numbers.Statement.{statement}
 use Rattle.text.proofs.put_numbers.Tie as tie
-use Rattle.text.proofs.put_numbers.Reads as reads
-use Rattle.text.proofs.put_numbers.Lts as lts
 
 abbrev Inv-loop : tie.InvT-loop
 Inv-loop buf₀ at values n next₀ i₀ buf next i = (i ≤ n) × Put (numbers (take i values)) at buf₀ buf next

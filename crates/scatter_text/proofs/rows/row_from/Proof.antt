@@ -34,6 +34,8 @@ returns c =
     ∷ back us (a + 5) (c .before .before .t33 .given) i
     ∷ back us (a + 6) (c .before .t38 .given) i
     ∷ back us (a + 7) (c .t43 .given) i
+    ∷ pos 0
+    ∷ pos 0
     ∷ [])
 
 pub row-from-spec : {M : Type 1} → statement M
