@@ -1,7 +1,7 @@
 -- The parts of a table, as the functions give them, are those of the definition.
 use mathlib.Core.Path.{_≡_, sym, ap, _∙_}
 use mathlib.Core.List.{List}
-use Prim.Native.Nat.{ℕ, _-_, _^_, _<_, _≤_}
+use Prim.Native.Nat.{ℕ, _-_, _*_, _^_, _<_, _≤_}
 use native.Mathlib.Nat.{mul-le-mul}
 use native.Mathlib.Omega.{arith}
 use lib.IntN.{ℤ, pos}
@@ -12,9 +12,10 @@ use Rattle.scatter.specs.declared.sums.Sums.{Sums}
 use Rattle.scatter.specs.declared.table.Table.{Table}
 use Rattle.scatter.specs.Table.{scatter, largest, shift, entries, padded, tableOf}
 use Rattle.scatter.specs.Entries.{entry-at, padded-at, length-scatter, largest-padded}
-use Rattle.scatter.specs.Ranges.{Bounded, Small}
+use Rattle.scatter.specs.Ranges.{Bounded, Small, ZeroFrom}
 use Rattle.scatter.specs.Bounds.{padded-small}
 use Rattle.scatter.specs.Shift.{Smallest, shift-is, shift-small, largest-least}
+use Rattle.scatter.proofs.Places.{no-entry, zero-at}
 
 rounded-all : (us : List ℤ) → tabulate 64 (λ p. rnd (getD (padded us) p (pos 0)) (2 ^ shift us)) ≡ padded (entries us)
 unfolding padded
@@ -23,6 +24,9 @@ rounded-all us = tabulate-ext 64 _ _ (λ p h. ap (λ u. rnd u (2 ^ shift us)) (p
 module _ (n : ℕ) (t : Sums) (h : n ≤ 8) (b : Bounded t) {s : List ℤ} (is : s ≡ padded (scatter n t)) where
   pub scatter-small : Small s
   scatter-small = rw is (padded-small t b n)
+
+  pub zero-from : ZeroFrom (n * n) s
+  zero-from = record { most = mul-le-mul h h; zero = λ p l. rw is (no-entry n t p l ∙ zero-at p) }
 
   fits : length (scatter n t) ≤ 64
   fits = rw length-scatter (mul-le-mul h h)

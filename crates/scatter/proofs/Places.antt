@@ -15,7 +15,7 @@ use Rattle.rounding.specs.Nearest.{rnd-bound}
 use Rattle.scatter.specs.Tabulate.{tabulate, getD-tabulate}
 use Rattle.scatter.specs.declared.sums.Sums.{Sums}
 use Rattle.scatter.specs.Table.{S, scatter, padded}
-use Rattle.scatter.specs.Entries.{padded-at, scatter-at, length-scatter, length-padded, place-below}
+use Rattle.scatter.specs.Entries.{padded-at, scatter-at, length-scatter, length-padded, place-below, rnd-zero}
 use Rattle.scatter.specs.Ranges.{Small, Bounded}
 use Rattle.scatter.specs.Bounds.{S-small}
 use Rattle.scatter.proofs.Filled.{Filled, filled-skip, filled-all}
@@ -24,7 +24,7 @@ use Rattle.scatter.proofs.Signed.{back, element}
 abbrev pub zeros : List ℤ
 zeros = replicate 64 (pos 0)
 
-zero-at : (p : ℕ) → getD zeros p (pos 0) ≡ pos 0
+pub zero-at : (p : ℕ) → getD zeros p (pos 0) ≡ pos 0
 zero-at p = go (decLt p 64)
   where
     go : Dec (p < 64) → getD zeros p (pos 0) ≡ pos 0
@@ -41,7 +41,7 @@ module _ (n : ℕ) (t : Sums) where
         rw (is, a) (back (S t i j) (omega (arith, S-small t b i j)) ∙ sym (padded-at (scatter n t) (i * n + j) (place-below n i j h g f) ∙ scatter-at n t i j g f))
 
   -- past the last row
-  no-entry : (p : ℕ) → n * n ≤ p → getD (padded (scatter n t)) p (pos 0) ≡ getD zeros p (pos 0)
+  pub no-entry : (p : ℕ) → n * n ≤ p → getD (padded (scatter n t)) p (pos 0) ≡ getD zeros p (pos 0)
   no-entry p h = go (decLt p 64) ∙ sym (zero-at p)
     where
       go : Dec (p < 64) → getD (padded (scatter n t)) p (pos 0) ≡ pos 0
@@ -74,3 +74,8 @@ module _ (s : List ℤ) (small : Small s) (e : ℕ) (h : e < 62) (p : ℕ) where
 
       size : natAbs (rnd (getD s p (pos 0)) (2 ^ e)) ≤ natAbs (getD s p (pos 0))
       size = rnd-bound (getD s p (pos 0)) (2 ^ e) (natAbs (getD s p (pos 0))) (pow-pos e) grows
+
+-- where there is a zero, one is rounded
+pub rounded-zero : (s : List ℤ) (e p : ℕ) → getD s p (pos 0) ≡ pos 0 → p < 64 → getD (tabulate 64 (λ p. rnd (getD s p (pos 0)) (2 ^ e))) p (pos 0) ≡ getD zeros p (pos 0)
+rounded-zero s e p z h =
+    getD-tabulate 64 (λ p. rnd (getD s p (pos 0)) (2 ^ e)) p (pos 0) h ∙ rw z (rnd-zero (2 ^ e) (pow-pos e)) ∙ sym (zero-at p)

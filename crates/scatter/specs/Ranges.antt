@@ -47,3 +47,8 @@ pub record Room (m b : ℕ) (xs : List ℕ) : Type 0 where
 pub record Small (us : List ℤ) : Type 0 where
   pub size : length us ≡ 64
   pub small : (p : ℕ) → natAbs (getD us p (pos 0)) < 2 ^ 62
+
+-- At most 64 numbers, and zeros after them
+pub record ZeroFrom (size : ℕ) (us : List ℤ) : Type 0 where
+  pub most : size ≤ 64
+  pub zero : (p : ℕ) → size ≤ p → getD us p (pos 0) ≡ pos 0

@@ -8,7 +8,7 @@ ghost use Rattle.rounding.specs.Rounding.{rnd};
 ghost use Rattle.scatter.specs.Tabulate.{tabulate};
 ghost use Rattle.scatter.specs.Samples.{samples, sumsOf};
 ghost use Rattle.scatter.specs.Table.{scatter, largest, padded, tableOf};
-ghost use Rattle.scatter.specs.Ranges.{Readings, Bounded, Small};
+ghost use Rattle.scatter.specs.Ranges.{Readings, Bounded, Small, ZeroFrom};
 ghost use Rattle.scatter.specs.Shift.{Smallest};
 
 // n × n numbers, row after row, and zeros after them: the entries, and the exact S_ij that they are rounded from.
@@ -94,15 +94,15 @@ fn shift_of(m: u64) -> u32
     e
 }
 
-// rnd(S_ij / 2^e), place after place.
-fn entries_of(s: &[i64; 64], e: u32) -> [i64; 64]
-    requires { ⌜ Small (now s) × (e < 62) ⌝ }
+// rnd(S_ij / 2^e), place after place; from `size` on there are zeros.
+fn entries_of(s: &[i64; 64], size: usize, e: u32) -> [i64; 64]
+    requires { ⌜ Small (now s) × ZeroFrom size (now s) × (e < 62) ⌝ }
     ensures { λ r. ⌜ r ≡ tabulate 64 (λ p. rnd (getD (now (s .entry)) p (pos 0)) (2 ^ e)) ⌝ }
 {
     let w = 1u64 << e;
     let mut entries = [0i64; 64];
     let mut p = 0;
-    while p < 64 {
+    while p < size {
         entries[p] = rounding::nearest(s[p], w);
         p += 1;
     }
@@ -115,7 +115,7 @@ pub fn table_of(n: usize, t: Sums) -> Table
 {
     let scatter = scatter_of(n, t);
     let e = shift_of(largest_of(&scatter));
-    let entries = entries_of(&scatter, e);
+    let entries = entries_of(&scatter, n * n, e);
     Table {
         e,
         entries,

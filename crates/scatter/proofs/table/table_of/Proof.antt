@@ -1,6 +1,7 @@
 -- `scatter::table::table_of` meets its contract: each part is the definition's.
+use native.Mathlib.Omega.{arith}
 use borrow.Author.Needs.{needs}
-use Rattle.scatter.proofs.Assembled.{scatter-small, most-small, shift-below, assembled}
+use Rattle.scatter.proofs.Assembled.{scatter-small, zero-from, most-small, shift-below, assembled}
 use Rattle.scatter.proofs.table.table_of.Statement.{statement}
 use Rattle.scatter.proofs.table.table_of.Tie as tie
 
@@ -14,11 +15,18 @@ shift-of-requires c κs =
     let a = c .before .before .before in
     most-small (a .args .n) (a .args .t) (a .pre .0) (a .pre .1) (c .before .before .scatter-of .ensures) (c .largest-of .ensures)
 
+mul-entries-of : tie.Need-mul-entries-of
+mul-entries-of c =
+    let s = c .before .before .before .before in
+    let a = s .before in
+    record { fits = omega (arith, zero-from (a .args .n) (a .args .t) (a .pre .0) (a .pre .1) (s .scatter-of .ensures) .most) }
+
 entries-of-requires : tie.Need-entries-of-requires
 entries-of-requires c κs =
     let s = c .before .before .before .before in
     let a = s .before in (
       scatter-small (a .args .n) (a .args .t) (a .pre .0) (a .pre .1) (s .scatter-of .ensures),
+      zero-from (a .args .n) (a .args .t) (a .pre .0) (a .pre .1) (s .scatter-of .ensures),
       shift-below (a .args .n) (a .args .t) (a .pre .0) (a .pre .1) (s .scatter-of .ensures) (c .before .before .largest-of .ensures) (c .before .shift-of .ensures),
     )
 
@@ -31,4 +39,4 @@ returns c =
 
 pub table-of-spec : {M : Type 1} → statement M
 table-of-spec =
-    tie.close (tie.spec (λ c κs. search needs) largest-of-requires shift-of-requires entries-of-requires returns)
+    tie.close (tie.spec (λ c κs. search needs) largest-of-requires shift-of-requires mul-entries-of entries-of-requires returns)
