@@ -8,11 +8,11 @@ use lib.Dec.{leb}
 use lib.ListN.{length, getD, drop}
 use lib.Seq.{drop-cons}
 use borrow.Author.Tests.{le-leb, lt-leb}
-use Rattle.field_axes.specs.Table.{allWithin}
+use Rattle.text.specs.Range.{allWithin, within}
 
 module _ (low high : ℕ) (values : List ℕ) (i : ℕ) (h : i < length values) where
-  here : allWithin low high (drop i values) ≡ (leb low (getD values i 0) && (leb (getD values i 0) high && allWithin low high (drop (i + 1) values)))
-  unfolding allWithin
+  here : allWithin low high (drop i values) ≡ ((leb low (getD values i 0) && leb (getD values i 0) high) && allWithin low high (drop (i + 1) values))
+  unfolding allWithin within
   here = rw (drop-cons values i 0 h, add-one)
 
   pub too-low : getD values i 0 < low → allWithin low high (drop i values) ≡ false

@@ -1,31 +1,31 @@
 -- Readings that are not refused: what they keep to, and how many numbers their table gives.
-use Prim.Native.Nat.{ℕ, zero, suc, _+_, _*_, _≤_}
-use mathlib.Core.Path.{_≡_}
-use mathlib.Core.Bool.{_&&_}
-use mathlib.Core.List.{List, [], _∷_}
+use Prim.Native.Nat.{ℕ, _+_, _*_, _≤_}
+use mathlib.Core.Path.{_≡_, refl}
+use mathlib.Core.Bool.{Bool, true, false, _&&_}
+use mathlib.Core.List.{List}
 use native.Mathlib.Nat.{mul-le-mul}
 use native.Mathlib.Omega.{arith}
 use lib.Dec.{T, eqb, leb, eqb→eq, leb→le}
-use lib.ListN.{length, getD, take, length-append}
+use lib.ListN.{length, take, length-append}
 use lib.Seq.{length-take-le}
 use mir.Facts.{and-yes}
+use Rattle.job_table.specs.Laws.{all-at}
 use Rattle.ledger.specs.Accepted.{passed}
 use Rattle.scatter.specs.Ranges.{Readings}
 use Rattle.scatter.specs.Samples.{samples, sumsOf}
 use Rattle.scatter.specs.Table.{padded, tableOf}
 use Rattle.scatter.specs.Tabulate.{length-tabulate}
 use Rattle.scatter.specs.declared.sums.Sums.{Sums}
-use Rattle.field_axes.specs.Table.{allWithin, tableNumbers, tableNumbersOf, tableRefusal, valuesWithin}
+use Rattle.text.specs.Range.{allWithin}
+use Rattle.field_axes.specs.Table.{tableNumbers, tableNumbersOf, tableRefusal, valuesWithin}
 
 pub record Readable (n : ℕ) (dilutions counts : List ℕ) (size : ℕ) : Type 0 where
   pub readings : Readings n dilutions counts
   pub room : 1 + 2 * (n * n) ≤ size
 
-at-most : (low high : ℕ) (values : List ℕ) → T (allWithin low high values) → (i : ℕ) → getD values i 0 ≤ high
-unfolding allWithin
-at-most low high [] t i = omega arith
-at-most low high (x ∷ xs) t zero = leb→le x high (and-yes (leb x high) _ (and-yes (leb low x) _ t .1) .0)
-at-most low high (x ∷ xs) t (suc i) = at-most low high xs (and-yes (leb x high) _ (and-yes (leb low x) _ t .1) .1) i
+is-true : (b : Bool) → T b → b ≡ true
+is-true true t = refl
+is-true false t = absurd t
 
 pub readable : (n : ℕ) (dilutions counts : List ℕ) (size : ℕ) → tableRefusal n dilutions counts size ≡ 0 → Readable n dilutions counts size
 unfolding tableRefusal valuesWithin
@@ -41,8 +41,8 @@ readable n dilutions counts size e =
             channels = leb→le n 8 (channels .0);
             number = leb→le _ 256 (and-yes (leb 2 (length dilutions)) _ (number .0) .1);
             counted = eqb→eq _ _ (counted .0);
-            dilution = at-most 1 100 dilutions (both .0);
-            count = at-most 0 65_535 counts (both .1);
+            dilution = all-at 1 100 dilutions (is-true _ (both .0));
+            count = all-at 0 65_535 counts (is-true _ (both .1));
           };
       room = leb→le _ size (passed (leb (1 + 2 * (n * n)) size) 12 0 (number .1) (omega arith) .0);
     }

@@ -1,6 +1,6 @@
 -- A table from readings as numbers, and the refusals before it.
 use Prim.Native.Nat.{ℕ, _+_, _*_}
-use mathlib.Core.Bool.{Bool, true, _&&_}
+use mathlib.Core.Bool.{Bool, _&&_}
 use mathlib.Core.List.{List, [], _∷_, _++_}
 use lib.Dec.{eqb, leb}
 use lib.IntN.{ℤ, pos}
@@ -9,11 +9,7 @@ use Rattle.ledger.specs.Refusal.{unless}
 use Rattle.scatter.specs.Samples.{samples, sumsOf}
 use Rattle.scatter.specs.Table.{tableOf}
 use Rattle.scatter.specs.declared.table.Table.{Table}
-
--- each value is from low to high
-unfoldable pub allWithin : ℕ → ℕ → List ℕ → Bool
-allWithin low high [] = true
-allWithin low high (x ∷ xs) = leb low x && (leb x high && allWithin low high xs)
+use Rattle.text.specs.Range.{allWithin}
 
 -- n from 2 to 8, dilutions from 1 to 100, counts up to 65,535
 unfoldable pub valuesWithin : ℕ → List ℕ → List ℕ → Bool

@@ -3,8 +3,9 @@ use crate::numbers;
 ghost use mathlib.Core.Path.{_≡_};
 ghost use lib.ListN.{length};
 ghost use Rattle.text.specs.Put.{Put};
+ghost use Rattle.text.specs.Range.{allWithin};
 ghost use Rattle.field_axes.specs.Readable.{Readable};
-ghost use Rattle.field_axes.specs.Table.{allWithin, tableNumbersOf, tableRefusal};
+ghost use Rattle.field_axes.specs.Table.{tableNumbersOf, tableRefusal};
 
 // Whether each value is from low to high.
 fn all_within(low: u64, high: u64, values: &[u64]) -> bool

@@ -21,7 +21,7 @@ use Rattle.scatter.specs.Ranges.{Readings}
 use Rattle.scatter.specs.Table.{tableOf}
 use Rattle.job_table.specs.Held.{Held, jobIn, sumsFor, tableFor}
 
-all-at : (low high : ℕ) (xs : List ℕ) → allWithin low high xs ≡ true → (i : ℕ) → getD xs i 0 ≤ high
+pub all-at : (low high : ℕ) (xs : List ℕ) → allWithin low high xs ≡ true → (i : ℕ) → getD xs i 0 ≤ high
 all-at low high xs p i =
     subst (λ l. getD l i 0 ≤ high) (padded-take 0 xs) (take-bound high (length xs) (padded 0 xs) (padded-at 0 low high xs p) i)
 

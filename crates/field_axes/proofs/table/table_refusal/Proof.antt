@@ -6,7 +6,8 @@ use native.Mathlib.Omega.{arith}
 use borrow.Author.Needs.{needs}
 use borrow.Author.Tests.{not-false, not-true}
 use Rattle.field_axes.specs.Readable.{square-small}
-use Rattle.field_axes.specs.Table.{allWithin, valuesWithin}
+use Rattle.text.specs.Range.{allWithin}
+use Rattle.field_axes.specs.Table.{valuesWithin}
 use Rattle.field_axes.proofs.TableRefusals.{buffer-short, count-off, dilution-off, few-samples, left-over, many-samples, n-high, n-low, none-refused, other-number, values-good}
 use Rattle.field_axes.proofs.table.table_refusal.Statement.{statement}
 use Rattle.field_axes.proofs.table.table_refusal.Tie as tie
