@@ -135,13 +135,13 @@ pub fn solve<const NO_BRANCH: bool>(
 
 /// What `field_axes_table` writes, for arguments that nothing refuses.
 #[inline(never)]
-pub fn table(n: usize, dilutions: &[u64], counts: &[u64], out: &mut [i64]) -> usize {
+pub fn table(n: usize, dilutions: &[u32], counts: &[u32], out: &mut [i64]) -> usize {
     let mut channel = [0u64; 8];
     let mut cross = [[0u64; 8]; 8];
-    for (dilution, sample) in dilutions.iter().zip(counts.chunks_exact(n)) {
+    for (&dilution, sample) in dilutions.iter().zip(counts.chunks_exact(n)) {
         let mut z = [0; 8];
         for i in 0..n {
-            z[i] = sample[i] * dilution;
+            z[i] = u64::from(sample[i] * dilution);
             channel[i] += z[i];
         }
         for i in 0..n {

@@ -23,7 +23,7 @@ int64_t field_axes_solve(size_t n, const int64_t *numbers, size_t numbers_length
    The answer is how many they are, or a refusal's number negated: 2 where n is outside 2 to 8, a dilution outside 1 to 100 or a count
    above 65,535, then 6 where the counts are not n to a sample, then 3 for fewer than 2 or more than 256 samples, then 12 for a short
    buffer. At a refusal the buffer stays. */
-int64_t field_axes_table(size_t n, const uint64_t *dilutions, size_t dilutions_length, const uint64_t *counts,
+int64_t field_axes_table(size_t n, const uint32_t *dilutions, size_t dilutions_length, const uint32_t *counts,
                          size_t counts_length, int64_t *out, size_t out_length);
 
 #define FIELD_AXES_MOST_TABLE_NUMBERS 129

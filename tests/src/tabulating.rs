@@ -23,7 +23,7 @@ pub fn case(seed: u64) -> Result<String, String> {
         dilutions.push(match kind {
             0 => 1,
             1 => 100,
-            _ => random.between(1, 100) as u64,
+            _ => random.between(1, 100) as u32,
         });
         for _ in 0..n {
             counts.push(match kind {
@@ -32,7 +32,7 @@ pub fn case(seed: u64) -> Result<String, String> {
                 2 => 65_535,
                 3 => random.sized(65_535),
                 _ => random.between(0, 65_535),
-            } as u64);
+            } as u32);
         }
     }
     let mut size = field_axes::MOST_TABLE_NUMBERS;
@@ -40,8 +40,8 @@ pub fn case(seed: u64) -> Result<String, String> {
         for _ in 0..random.between(1, 2) {
             match random.between(0, 6) {
                 0 => n = random.pick(&[0, 1, 2, 3, 8, 9, usize::MAX]),
-                1 => *random.place(&mut dilutions) = random.pick(&[0, 101, u64::MAX]),
-                2 => *random.place(&mut counts) = random.pick(&[65_536, u64::MAX]),
+                1 => *random.place(&mut dilutions) = random.pick(&[0, 101, u32::MAX]),
+                2 => *random.place(&mut counts) = random.pick(&[65_536, u32::MAX]),
                 3 => counts.truncate(random.between(1, counts.len() as i64) as usize),
                 4 => counts.push(0),
                 5 => {
@@ -70,8 +70,8 @@ pub fn case(seed: u64) -> Result<String, String> {
 
 fn by_reference(
     n: usize,
-    dilutions: &[u64],
-    counts: &[u64],
+    dilutions: &[u32],
+    counts: &[u32],
     out: &mut [i64],
 ) -> Result<usize, Refused> {
     let ranges = (2..=8).contains(&n)

@@ -6,8 +6,8 @@ struct Job {
     n: usize,
     limit: u64,
     tolerance: u64,
-    dilutions: Vec<u64>,
-    counts: Vec<u64>,
+    dilutions: Vec<u32>,
+    counts: Vec<u32>,
 }
 
 /// The text that is still to be read.
@@ -26,14 +26,14 @@ impl Reader<'_> {
     }
 
     /// A number of 1 to 7 digits with no leading zero, and the byte `end` after it; or 1.
-    fn number(&mut self, end: u8) -> Result<u64, u32> {
+    fn number(&mut self, end: u8) -> Result<u32, u32> {
         let mut value = 0;
         for (at, &byte) in self.rest.iter().enumerate() {
             if byte.is_ascii_digit() {
                 if at == 7 || (at == 1 && value == 0) {
                     return Err(1);
                 }
-                value = 10 * value + u64::from(byte - b'0');
+                value = 10 * value + u32::from(byte - b'0');
             } else if byte == end && at > 0 {
                 self.rest = &self.rest[at + 1..];
                 return Ok(value);
@@ -57,8 +57,8 @@ impl Reader<'_> {
         }
         Ok(Job {
             n: n as usize,
-            limit,
-            tolerance,
+            limit: limit.into(),
+            tolerance: tolerance.into(),
             dilutions: Vec::new(),
             counts: Vec::new(),
         })
@@ -89,7 +89,7 @@ impl Reader<'_> {
         if job.dilutions.len() < 2 {
             return Err(3);
         }
-        if count != job.dilutions.len() as u64 || !self.rest.is_empty() {
+        if count as usize != job.dilutions.len() || !self.rest.is_empty() {
             return Err(4);
         }
         Ok(())

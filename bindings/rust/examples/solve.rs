@@ -20,7 +20,7 @@ fn main() {
     print!("{}", calls(b"L\t2\t50\t25\t25\t50\nT\t1\t2\nA\t1\n"));
 }
 
-fn show(n: usize, dilutions: &[u64], counts: &[u64]) -> Result<(), Refused> {
+fn show(n: usize, dilutions: &[u32], counts: &[u32]) -> Result<(), Refused> {
     let table = table(n, dilutions, counts)?;
     println!("sums {:?}, shift {}", table.sums, table.e);
     let solution = solve(n, &table.entries, 1, 0)?;

@@ -18,9 +18,9 @@ mod raw {
 
         pub fn field_axes_table(
             n: usize,
-            dilutions: *const u64,
+            dilutions: *const u32,
             dilutions_length: usize,
-            counts: *const u64,
+            counts: *const u32,
             counts_length: usize,
             out: *mut i64,
             out_length: usize,
@@ -134,7 +134,7 @@ pub const MOST_TABLE_NUMBERS: usize = 1 + 2 * 64;
 /// The table of samples: a dilution each, and n counts each, sample after sample. Refused 2 where n is outside 2 to 8, a dilution
 /// outside 1 to 100 or a count above 65,535, then 6 where the counts are not n to a sample, then 3 for fewer than 2 or more than 256
 /// samples.
-pub fn table(n: usize, dilutions: &[u64], counts: &[u64]) -> Result<Table, Refused> {
+pub fn table(n: usize, dilutions: &[u32], counts: &[u32]) -> Result<Table, Refused> {
     let mut out = [0; MOST_TABLE_NUMBERS];
     let count = table_into(n, dilutions, counts, &mut out)?;
     let (sums, entries) = out[1..count].split_at(n * n);
@@ -149,8 +149,8 @@ pub fn table(n: usize, dilutions: &[u64], counts: &[u64]) -> Result<Table, Refus
 /// where `out` is too short; at a refusal it stays as it was.
 pub fn table_into(
     n: usize,
-    dilutions: &[u64],
-    counts: &[u64],
+    dilutions: &[u32],
+    counts: &[u32],
     out: &mut [i64],
 ) -> Result<usize, Refused> {
     // Safe: the slices are whole, and borrowed for the call; the function has no other requirement.

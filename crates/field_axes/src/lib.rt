@@ -31,8 +31,8 @@ pub extern "C" fn field_axes_solve(
 #[no_mangle]
 pub extern "C" fn field_axes_table(
     n: usize,
-    dilutions: &[u64],
-    counts: &[u64],
+    dilutions: &[u32],
+    counts: &[u32],
     out: &mut [i64],
 ) -> i64
     ensures { λ r. ⌜ Tabulates n (now (dilutions .entry)) (now (counts .entry)) (now (out .entry)) (now (out .exit)) r ⌝ }

@@ -8,7 +8,7 @@ ghost use Rattle.field_axes.specs.Readable.{Readable};
 ghost use Rattle.field_axes.specs.Table.{tableNumbersOf, tableRefusal};
 
 // Whether each value is from low to high.
-fn all_within(low: u64, high: u64, values: &[u64]) -> bool
+fn all_within(low: u32, high: u32, values: &[u32]) -> bool
     ensures { λ r. ⌜ r ≡ allWithin low high (now (values .entry)) ⌝ }
 {
     let mut i = 0;
@@ -25,7 +25,7 @@ fn all_within(low: u64, high: u64, values: &[u64]) -> bool
 }
 
 // The refusal's number, or 0.
-pub fn table_refusal(n: usize, dilutions: &[u64], counts: &[u64], size: usize) -> u32
+pub fn table_refusal(n: usize, dilutions: &[u32], counts: &[u32], size: usize) -> u32
     ensures { λ r. ⌜ r ≡ tableRefusal n (now (dilutions .entry)) (now (counts .entry)) size ⌝ }
 {
     if n < 2 {
@@ -59,7 +59,7 @@ pub fn table_refusal(n: usize, dilutions: &[u64], counts: &[u64], size: usize) -
 }
 
 // The numbers of a table that is not refused.
-pub fn put_table(n: usize, dilutions: &[u64], counts: &[u64], out: &mut [i64]) -> usize
+pub fn put_table(n: usize, dilutions: &[u32], counts: &[u32], out: &mut [i64]) -> usize
     requires { ⌜ Readable n (now dilutions) (now counts) (length (now out)) ⌝ }
     ensures { λ r. ⌜ Put (tableNumbersOf n (now (dilutions .entry)) (now (counts .entry))) 0 (now (out .entry)) (now (out .exit)) r ⌝ }
 {

@@ -23,21 +23,21 @@ pub fn tagged(text: &[u8], at: usize, tag: u8) -> bool
 
 pub enum Field {
     // The number, and the place after the tab that parts it from the next field.
-    Inner(u64, usize),
+    Inner(u32, usize),
     // The number, and the place after the line feed that ends its line.
-    Last(u64, usize),
+    Last(u32, usize),
     // No number of document 01, or neither a tab nor a line feed after it.
     Bad,
 }
 
-fn wide(b: u8) -> u64
+fn wide(b: u8) -> u32
     ensures { λ r. ⌜ r ≡ b ⌝ }
 {
-    b as u64
+    b as u32
 }
 
 // Whether a byte is a digit that may follow digits of this value: 7 digits at most, and none after a leading zero.
-fn may_follow(value: u64, b: u64) -> bool
+fn may_follow(value: u32, b: u32) -> bool
     ensures { λ r. ⌜ r ≡ mayFollow value b ⌝ }
 {
     if value < 1 {
@@ -50,7 +50,7 @@ fn may_follow(value: u64, b: u64) -> bool
 }
 
 // The rest of a field after digits of this value.
-fn digits(text: &[u8], from: usize, start: u64) -> Field
+fn digits(text: &[u8], from: usize, start: u32) -> Field
     ensures { λ r. ⌜ r ≡ digitsAt (now (text .entry)) from start ⌝ }
 {
     let mut value = start;

@@ -35,8 +35,8 @@ pub fn first_line(text: &[u8]) -> Parameters
     if parameters_within(n, limit, tolerance) {
         Parameters::Read {
             n: n as usize,
-            limit,
-            tolerance,
+            limit: limit as u64,
+            tolerance: tolerance as u64,
             next,
         }
     } else {

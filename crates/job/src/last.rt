@@ -24,7 +24,7 @@ pub fn last_line(text: &[u8], at: usize, k: usize) -> Ending
     if k < 2 {
         return Ending::Refused(3);
     }
-    if count != k as u64 {
+    if count as usize != k {
         return Ending::Refused(4);
     }
     if next < text.len() {

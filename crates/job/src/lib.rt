@@ -20,8 +20,8 @@ pub struct Job {
     pub limit: u64,
     pub tolerance: u64,
     pub k: usize,
-    pub dilutions: [u64; 256],
-    pub counts: [u64; 2048],
+    pub dilutions: [u32; 256],
+    pub counts: [u32; 2048],
 }
 
 pub enum Outcome {
@@ -40,8 +40,8 @@ pub struct Reading {
 fn new_job(n: usize, limit: u64, tolerance: u64) -> Job
     ensures { λ r. ⌜ r ≡ newJob n limit tolerance ⌝ }
 {
-    let dilutions = [0u64; 256];
-    let counts = [0u64; 2048];
+    let dilutions = [0u32; 256];
+    let counts = [0u32; 2048];
     Job {
         n,
         limit,

@@ -6,14 +6,14 @@ ghost use Rattle.text.specs.Range.{within, allWithin};
 ghost use Rattle.job.specs.Range.{parametersInRange};
 ghost use Rattle.job.specs.Scan.{sampleWithin};
 
-pub fn is_within(low: u64, high: u64, x: u64) -> bool
+pub fn is_within(low: u32, high: u32, x: u32) -> bool
     ensures { λ r. ⌜ r ≡ within low high x ⌝ }
 {
     if x < low { false } else { x <= high }
 }
 
 // "`P` n (2..8), sweep limit (1..16), tolerance t in units (0..1,048,576)."
-pub fn parameters_within(n: u64, limit: u64, tolerance: u64) -> bool
+pub fn parameters_within(n: u32, limit: u32, tolerance: u32) -> bool
     ensures { λ r. ⌜ r ≡ parametersInRange n limit tolerance ⌝ }
 {
     if !is_within(2, 8, n) {
@@ -25,7 +25,7 @@ pub fn parameters_within(n: u64, limit: u64, tolerance: u64) -> bool
     is_within(0, 1_048_576, tolerance)
 }
 
-fn counts_within(numbers: [u64; 9], n: usize) -> bool
+fn counts_within(numbers: [u32; 9], n: usize) -> bool
     requires { ⌜ n ≤ 8 ⌝ }
     ensures { λ r. ⌜ r ≡ allWithin 0 65535 (slice 1 (n + 1) numbers) ⌝ }
 {
@@ -41,7 +41,7 @@ fn counts_within(numbers: [u64; 9], n: usize) -> bool
 }
 
 // "dilution (1..100) and n counts (0..65,535)"
-pub fn sample_within(numbers: [u64; 9], n: usize) -> bool
+pub fn sample_within(numbers: [u32; 9], n: usize) -> bool
     requires { ⌜ n ≤ 8 ⌝ }
     ensures { λ r. ⌜ r ≡ sampleWithin n numbers ⌝ }
 {

@@ -17,14 +17,14 @@ pub enum Extent {
 // The dilution and the counts, and 0 past the last of them. A malformed line has none.
 pub struct Line {
     pub extent: Extent,
-    pub numbers: [u64; 9],
+    pub numbers: [u32; 9],
 }
 
 fn malformed() -> Line
     ensures { λ r. ⌜ r ≡ malformedLine ⌝ }
 {
     let extent = Extent::Malformed;
-    let numbers = [0u64; 9];
+    let numbers = [0u32; 9];
     Line { extent, numbers }
 }
 
@@ -33,7 +33,7 @@ fn numbers_at(text: &[u8], from: usize, inner: usize) -> Line
     requires { ⌜ inner ≤ 8 ⌝ }
     ensures { λ r. ⌜ r ≡ numbersAt (now (text .entry)) (replicate 9 0) from 0 inner ⌝ }
 {
-    let mut numbers = [0u64; 9];
+    let mut numbers = [0u32; 9];
     let mut at = from;
     let mut i = 0;
     let mut left = inner;

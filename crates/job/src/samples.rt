@@ -14,7 +14,7 @@ ghost use lib.Seq.{slice, sets};
 ghost use Rattle.job.specs.Scan.{finishedAt, samplesAt};
 
 // The n counts of a sample are kept from a place on.
-fn keep(counts: &mut [u64; 2048], numbers: [u64; 9], from: usize, n: usize)
+fn keep(counts: &mut [u32; 2048], numbers: [u32; 9], from: usize, n: usize)
     requires { ⌜ (n ≤ 8) × (from + n ≤ 2048) ⌝ }
     ensures { λ _. ⌜ now (counts .exit) ≡ sets (now (counts .entry)) from (slice 1 (n + 1) numbers) ⌝ }
 {

@@ -9,7 +9,7 @@ ghost use Rattle.scatter.specs.Table.{tableOf};
 ghost use Rattle.job_table.specs.Held.{Held, Within, jobIn, tableFor};
 
 // That of the first k dilutions and the first k × n counts. The arrays are lent, since a copy of them costs more than a small table.
-fn table_in<'a>(n: usize, k: usize, dilutions: &'a [u64], counts: &'a [u64]) -> Table
+fn table_in<'a>(n: usize, k: usize, dilutions: &'a [u32], counts: &'a [u32]) -> Table
     requires { ⌜ Within n k (now dilutions) (now counts) ⌝ }
     ensures { λ r. ⌜ r ≡ tableOf n (sumsOf (samples n (take k (now (dilutions .entry))) (take (k * n) (now (counts .entry))))) ⌝ }
 {

@@ -1,6 +1,6 @@
 // The sums of samples: their number, channel sums and cross sums, in one pass over the samples.
 ghost use mathlib.Core.Path.{_≡_};
-ghost use Prim.Native.Nat.{_*_, _^_, _<_};
+ghost use Prim.Native.Nat.{_*_};
 ghost use Rattle.scatter.specs.Samples.{sample, samples, sumsOf, raised, z, products};
 ghost use Rattle.scatter.specs.Ranges.{Readings, InRange, Room, zLimit};
 
@@ -12,27 +12,26 @@ pub struct Sums {
 }
 
 // a × b, in 64 bits.
-fn product(a: u64, b: u64) -> u64
-    requires { ⌜ a * b < 2 ^ 64 ⌝ }
+fn product(a: u32, b: u32) -> u64
     ensures { λ r. ⌜ r ≡ a * b ⌝ }
 {
-    a * b
+    a as u64 * b as u64
 }
 
 // A sample's values, added to the channel sums.
-fn add_values(dilution: u64, counts: &[u64], channel: &mut [u64; 8])
+fn add_values(dilution: u32, counts: &[u32], channel: &mut [u64; 8])
     requires { ⌜ InRange (sample dilution (now counts)) × Room 8 (256 * zLimit) (now channel) ⌝ }
     ensures { λ r. ⌜ now (channel .exit) ≡ raised 8 (z (sample dilution (now (counts .entry)))) (now (channel .entry)) ⌝ }
 {
     let mut i = 0;
     while i < counts.len() {
-        channel[i] += counts[i] * dilution;
+        channel[i] += product(counts[i], dilution);
         i += 1;
     }
 }
 
-// A sample's products, added to the cross sums: z_i × z_j as (z_i × dilution) × count_j, so that each is one multiplication.
-fn add_products(dilution: u64, counts: &[u64], cross: &mut [u64; 64])
+// A sample's products, added to the cross sums: z_i × z_j as (z_i × dilution) × count_j, so that each is one multiplication, of 32 bits by 32.
+fn add_products(dilution: u32, counts: &[u32], cross: &mut [u64; 64])
     requires { ⌜ InRange (sample dilution (now counts)) × Room 64 (256 * (zLimit * zLimit)) (now cross) ⌝ }
     ensures { λ r. ⌜ now (cross .exit) ≡ raised 64 (products (sample dilution (now (counts .entry)))) (now (cross .entry)) ⌝ }
 {
@@ -49,7 +48,7 @@ fn add_products(dilution: u64, counts: &[u64], cross: &mut [u64; 64])
     }
 }
 
-pub fn sums_of(n: usize, dilutions: &[u64], counts: &[u64]) -> Sums
+pub fn sums_of(n: usize, dilutions: &[u32], counts: &[u32]) -> Sums
     requires { ⌜ Readings n (now dilutions) (now counts) ⌝ }
     ensures { λ r. ⌜ r ≡ sumsOf (samples n (now (dilutions .entry)) (now (counts .entry))) ⌝ }
 {

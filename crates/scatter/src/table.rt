@@ -123,7 +123,7 @@ pub fn table_of(n: usize, t: Sums) -> Table
     }
 }
 
-pub fn table_of_readings(n: usize, dilutions: &[u64], counts: &[u64]) -> Table
+pub fn table_of_readings(n: usize, dilutions: &[u32], counts: &[u32]) -> Table
     requires { ⌜ Readings n (now dilutions) (now counts) ⌝ }
     ensures { λ r. ⌜ r ≡ tableOf n (sumsOf (samples n (now (dilutions .entry)) (now (counts .entry)))) ⌝ }
 {

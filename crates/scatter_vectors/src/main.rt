@@ -80,23 +80,23 @@ fn count_at(c: u64, n: u64, p: u64) -> u64
 }
 
 // A count or a dilution.
-fn reading_at(c: u64, n: u64, counts: bool, p: u64) -> u64
+fn reading_at(c: u64, n: u64, counts: bool, p: u64) -> u32
     requires { ⌜ (c < 210) × (0 < n) × (p < 2048) ⌝ }
     ensures { λ r. ⌜ r ≤ limitOf counts ⌝ }
 {
     if counts {
-        count_at(c, n, p)
+        count_at(c, n, p) as u32
     } else {
-        dilution_at(c, p)
+        dilution_at(c, p) as u32
     }
 }
 
 // The counts or the dilutions of a set; more of them than it holds.
-fn readings_of(c: u64, n: u64, counts: bool) -> [u64; 2048]
+fn readings_of(c: u64, n: u64, counts: bool) -> [u32; 2048]
     requires { ⌜ (c < 210) × (0 < n) ⌝ }
     ensures { λ r. ⌜ Room 2048 (limitOf counts) r ⌝ }
 {
-    let mut readings = [0u64; 2048];
+    let mut readings = [0u32; 2048];
     let mut p = 0;
     while p < 2048 {
         readings[p] = reading_at(c, n, counts, p as u64);

@@ -10,4 +10,12 @@ returns-2 : tie.Need-returns-2
 returns-2 c = rw (c .before .if1 .left) (c .dilution-at .ensures)
 
 pub reading-at-spec : {M : Type 1} → statement M
-reading-at-spec = tie.close (tie.spec (λ c κs. search needs) (λ c κs. search needs) returns returns-2)
+reading-at-spec =
+    tie.close
+    (tie.spec
+    (λ c κs. search needs)
+    (λ c. search needs)
+    (λ c κs. search needs)
+    (λ c. search needs)
+    returns
+    returns-2)

@@ -80,5 +80,8 @@ first-line-spec =
     (λ c. search needs)
     returns-4
     (λ c κs. search needs)
+    (λ c. search needs)
+    (λ c. search needs)
+    (λ c. search needs)
     returns-5
     returns-6)

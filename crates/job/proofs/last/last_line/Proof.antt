@@ -69,6 +69,7 @@ last-line-spec =
     (λ c. search needs)
     returns-2
     returns-3
+    (λ c. search needs)
     returns-4
     returns-5
     returns-6)

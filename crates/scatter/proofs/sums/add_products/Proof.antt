@@ -31,7 +31,7 @@ Inv-loop dilution counts cross₀ i₀ cross i =
 abbrev μ-loop : tie.MeasureT-loop
 μ-loop dilution counts cross₀ i₀ cross i = length counts - i
 
--- What is multiplied keeps within 64 bits.
+-- What is multiplied: a value and a factor keep within 32 bits, a product within 64.
 module _ (s : tie.Start Inv-loop2 μ-loop2 Inv-loop μ-loop) where
   value : (i : ℕ) → getD (s .args .counts .now) i 0 * s .args .dilution ≤ 6_553_500
   value i = mul-le-mul (s .pre .0 .count i) (s .pre .0 .dilution)
@@ -47,10 +47,6 @@ mul-factor-2 c = record { fits = omega (arith, value (c .before .before .before 
 
 mul-factor-3 : tie.Need-mul-factor-3 Inv-loop2 μ-loop2 Inv-loop μ-loop
 mul-factor-3 c = record { fits = omega (arith, factor (c .before .before .before .before) (c .before .before .loop .i)) }
-
-product-requires : tie.Need-product-requires Inv-loop2 μ-loop2 Inv-loop μ-loop
-product-requires c κs =
-    omega (arith, product (c .before .before .before .before .before .before .before) (c .before .before .before .before .before .loop .i) (c .before .before .loop2 .j))
 
 add-cross-2 : tie.Need-add-cross-2 Inv-loop2 μ-loop2 Inv-loop μ-loop
 add-cross-2 c =
@@ -110,7 +106,7 @@ add-products-spec =
     (λ c. (search needs, search needs, λ start h f. f))
     (λ c. search needs)
     (λ c. search needs)
-    product-requires
+    (λ c κs. search needs)
     (λ c. search needs)
     (λ c. search needs)
     (λ c. search needs)

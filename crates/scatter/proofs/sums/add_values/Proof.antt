@@ -18,27 +18,23 @@ Inv-loop dilution counts channel₀ i₀ channel i =
 abbrev μ-loop : tie.MeasureT-loop
 μ-loop dilution counts channel₀ i₀ channel i = length counts - i
 
-mul-channel-2 : tie.Need-mul-channel-2 Inv-loop μ-loop
-mul-channel-2 c =
-    let i = c .before .before .loop .i in
-    record { fits = omega (arith, mul-le-mul (c .before .before .before .pre .0 .count i) (c .before .before .before .pre .0 .dilution)) }
-
 add-channel : tie.Need-add-channel Inv-loop μ-loop
 add-channel c =
-    let s = c .before .before .before .before in
-    let i = c .before .before .before .loop .i in
-    record { fits = omega (arith, mul-le-mul (s .pre .0 .count i) (s .pre .0 .dilution), s .pre .1 .most i, c .before .before .before .loop .inv .1 .after i (le-refl i)) }
+    let l = c .before .before .before .before in
+    let s = l .before .before in
+    let i = l .loop .i in
+    record { fits = omega (arith, mul-le-mul (s .pre .0 .count i) (s .pre .0 .dilution), c .before .product .ensures, s .pre .1 .most i, l .loop .inv .1 .after i (le-refl i)) }
 
 loop-again : tie.Need-loop-again Inv-loop μ-loop
 unfolding z
 loop-again c =
-    let s = c .before .before .before .before in
-    let l = c .before .before .before .loop in
-    (search needs, raised-more 8 (z (sample (s .args .dilution) (s .args .counts .now))) (s .args .channel .now) (s .pre .1 .size) (l .inv .1) (l .i) (l .i + 1) _ refl (omega arith) (omega arith) refl)
+    let s = c .before .before .before .before .before .before in
+    let l = c .before .before .before .before .loop in
+    (search needs, raised-more 8 (z (sample (s .args .dilution) (s .args .counts .now))) (s .args .channel .now) (s .pre .1 .size) (l .inv .1) (l .i) (l .i + 1) _ refl (omega arith) (omega arith) (c .before .product .ensures))
 
 returns : tie.Need-returns Inv-loop μ-loop
 returns c =
-    let s = c .before .before in
+    let s = c .before .before .before in
     let f = z (sample (s .args .dilution) (s .args .counts .now)) in
     raised-all 8 f (s .args .channel .now) (s .pre .1 .size)
     (raised-skip 8 f (s .args .channel .now) (s .pre .1 .size) (c .before .loop .inv .1) 8 (omega arith) (λ p a b. no-value (sample (s .args .dilution) (s .args .counts .now)) p (omega arith))) (omega arith)
@@ -52,7 +48,7 @@ add-values-spec =
     (λ c. (search needs, filled-none))
     (λ c. search needs)
     (λ c. search needs)
-    mul-channel-2
+    (λ c κs. search needs)
     (λ c. search needs)
     (λ c. search needs)
     add-channel
