@@ -63,14 +63,14 @@ fn scatter_of(n: usize, t: Sums) -> [i64; 64]
     s
 }
 
-// The greatest |S_ij|.
-fn largest_of(s: &[i64; 64]) -> u64
-    requires { ⌜ Small (now s) ⌝ }
+// The greatest |S_ij|; from `size` on there are zeros.
+fn largest_of(s: &[i64; 64], size: usize) -> u64
+    requires { ⌜ Small (now s) × ZeroFrom size (now s) ⌝ }
     ensures { λ r. ⌜ r ≡ largest (now (s .entry)) ⌝ }
 {
     let mut m = 0;
     let mut p = 0;
-    while p < 64 {
+    while p < size {
         let a = size_of(s[p]);
         if m < a {
             m = a;
@@ -114,8 +114,9 @@ pub fn table_of(n: usize, t: Sums) -> Table
     ensures { λ r. ⌜ r ≡ tableOf n t ⌝ }
 {
     let scatter = scatter_of(n, t);
-    let e = shift_of(largest_of(&scatter));
-    let entries = entries_of(&scatter, n * n, e);
+    let size = n * n;
+    let e = shift_of(largest_of(&scatter, size));
+    let entries = entries_of(&scatter, size, e);
     Table {
         e,
         entries,

@@ -1,13 +1,16 @@
 -- `scatter::table::largest_of` meets its contract: no size so far is above m, and m is none above the greatest.
 use mathlib.Core.Path.{_≡_, ap, _∙_}
+use mathlib.Core.List.{List}
 use mathlib.Core.Logic.{⊎-elim}
 use Prim.Native.Nat.{ℕ, _-_, _<_, _≤_}
 use native.Mathlib.Nat.{le-trans}
+use native.Mathlib.Decide.{decLt}
 use native.Mathlib.Omega.{arith}
 use borrow.Author.Count.{below-more}
 use borrow.Author.Needs.{needs}
-use lib.IntN.{pos, natAbs}
-use lib.ListN.{getD}
+use lib.IntN.{ℤ, pos, natAbs}
+use lib.ListN.{length, getD}
+use Rattle.scatter.specs.Ranges.{ZeroFrom}
 use Rattle.scatter.specs.Table.{largest}
 use Rattle.scatter.specs.Shift.{largest-bounds, largest-is}
 use Rattle.scatter.proofs.Signed.{element}
@@ -15,10 +18,10 @@ use Rattle.scatter.proofs.table.largest_of.Statement.{statement}
 use Rattle.scatter.proofs.table.largest_of.Tie as tie
 
 abbrev Inv-loop : tie.InvT-loop
-Inv-loop s m₀ p₀ m p = (p ≤ 64) × (m ≤ largest s) × ((q : ℕ) → q < p → natAbs (getD s q (pos 0)) ≤ m)
+Inv-loop s size m₀ p₀ m p = (p ≤ size) × (m ≤ largest s) × ((q : ℕ) → q < p → natAbs (getD s q (pos 0)) ≤ m)
 
 abbrev μ-loop : tie.MeasureT-loop
-μ-loop s m₀ p₀ m p = 64 - p
+μ-loop s size m₀ p₀ m p = size - p
 
 loop-holds : tie.Need-loop-holds Inv-loop μ-loop
 loop-holds c = (search needs, search needs, λ q h. absurd (omega arith))
@@ -27,14 +30,14 @@ size-of-requires : tie.Need-size-of-requires Inv-loop μ-loop
 size-of-requires c κs =
     let a = c .before .before .before in
     let p = c .before .before .loop .p in
-    rw (element (a .args .s .now) (a .pre) p) (omega (arith, a .pre .small p))
+    rw (element (a .args .s .now) (a .pre .0) p) (omega (arith, a .pre .0 .small p))
 
 -- Where the arms meet: m is at least what it was and the size that was read, and at most the greatest.
 met : (c : tie.Joined1 Inv-loop μ-loop) → (c .before .before .before .before .loop .m ≤ c .if1 .m) × (natAbs (getD (c .before .before .before .before .before .args .s .now) (c .before .before .before .before .loop .p) (pos 0)) ≤ c .if1 .m) × (c .if1 .m ≤ largest (c .before .before .before .before .before .args .s .now))
 met c =
     let s = c .before .before .before .before .before .args .s .now in
     let p = c .before .before .before .before .loop .p in
-    let a : c .before .size-of .result ≡ natAbs (getD s p (pos 0)) = c .before .size-of .ensures ∙ ap natAbs (element s (c .before .before .before .before .before .pre) p) in
+    let a : c .before .size-of .result ≡ natAbs (getD s p (pos 0)) = c .before .size-of .ensures ∙ ap natAbs (element s (c .before .before .before .before .before .pre .0) p) in
     let b : natAbs (getD s p (pos 0)) ≤ largest s = largest-bounds s p in
     ⊎-elim (λ w. (omega (arith, w .0 .taken, w .1), omega (arith, w .1), omega (arith, w .1))) (λ w. (omega (arith, w .1), omega (arith, w .0 .left, w .1), omega (arith, w .1))) (c .if1 .came)
 
@@ -42,8 +45,19 @@ loop-again : tie.Need-loop-again Inv-loop μ-loop
 loop-again c =
     (search needs, met c .2, below-more _ _ (λ q h. le-trans (c .before .before .before .before .loop .inv .2 q h) (met c .0)) (met c .1))
 
+-- From `size` on there are zeros, and they are above nothing.
+all-sizes : (s : List ℤ) {size m : ℕ} → ZeroFrom size s → ((p : ℕ) → p < size → natAbs (getD s p (pos 0)) ≤ m) → (p : ℕ) → p < length s → natAbs (getD s p (pos 0)) ≤ m
+all-sizes s {size} {m} z f p h = by (decLt p size)
+  where
+    by : Dec (p < size) → natAbs (getD s p (pos 0)) ≤ m
+    by (yes i) = f p i
+    by (no i) = rw (z .zero p (omega arith)) (omega arith)
+
 returns : tie.Need-returns Inv-loop μ-loop
-returns c = largest-is _ _ (c .before .loop .inv .1) (λ p h. c .before .loop .inv .2 p (omega (arith, c .before .before .pre .size)))
+returns c =
+    let l = c .before .loop in
+    let a = c .before .before in
+    largest-is _ _ (l .inv .1) (all-sizes (a .args .s .now) (a .pre .1) (λ p h. l .inv .2 p (omega arith)))
 
 pub largest-of-spec : {M : Type 1} → statement M
 largest-of-spec =

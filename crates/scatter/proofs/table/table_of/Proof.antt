@@ -5,21 +5,21 @@ use Rattle.scatter.proofs.Assembled.{scatter-small, zero-from, most-sma
 use Rattle.scatter.proofs.table.table_of.Statement.{statement}
 use Rattle.scatter.proofs.table.table_of.Tie as tie
 
+mul-size : tie.Need-mul-size
+mul-size c =
+    let a = c .before in
+    record { fits = omega (arith, zero-from (a .args .n) (a .args .t) (a .pre .0) (a .pre .1) (c .scatter-of .ensures) .most) }
+
 largest-of-requires : tie.Need-largest-of-requires
 largest-of-requires c κs =
-    let a = c .before .before in
-    scatter-small (a .args .n) (a .args .t) (a .pre .0) (a .pre .1) (c .before .scatter-of .ensures)
+    let s = c .before in
+    let a = s .before in
+    (scatter-small (a .args .n) (a .args .t) (a .pre .0) (a .pre .1) (s .scatter-of .ensures), zero-from (a .args .n) (a .args .t) (a .pre .0) (a .pre .1) (s .scatter-of .ensures))
 
 shift-of-requires : tie.Need-shift-of-requires
 shift-of-requires c κs =
     let a = c .before .before .before in
     most-small (a .args .n) (a .args .t) (a .pre .0) (a .pre .1) (c .before .before .scatter-of .ensures) (c .largest-of .ensures)
-
-mul-entries-of : tie.Need-mul-entries-of
-mul-entries-of c =
-    let s = c .before .before .before .before in
-    let a = s .before in
-    record { fits = omega (arith, zero-from (a .args .n) (a .args .t) (a .pre .0) (a .pre .1) (s .scatter-of .ensures) .most) }
 
 entries-of-requires : tie.Need-entries-of-requires
 entries-of-requires c κs =
@@ -39,4 +39,4 @@ returns c =
 
 pub table-of-spec : {M : Type 1} → statement M
 table-of-spec =
-    tie.close (tie.spec (λ c κs. search needs) largest-of-requires shift-of-requires mul-entries-of entries-of-requires returns)
+    tie.close (tie.spec (λ c κs. search needs) mul-size largest-of-requires shift-of-requires entries-of-requires returns)
