@@ -1,12 +1,14 @@
 -- The text that is written is the report: the R line's numbers and the A lines' are the job's.
 use Prim.Native.Nat.{ℕ, suc, _+_, _<_, _≤_}
-use mathlib.Core.Path.{_≡_, ap, _∙_}
+use mathlib.Core.Path.{_≡_, refl, ap, _∙_}
+use mathlib.Core.Bool.{Bool, true, false, cond}
 use mathlib.Core.List.{List, [], _∷_, _++_}
 use native.Mathlib.Nat.{zero-add}
 use native.Mathlib.Omega.{arith}
-use borrow.Author.Tests.{le-leb, lt-leb}
+use borrow.Author.Tests.{le-leb, lt-leb, lt-ltb}
+use lib.Dec.{ltb}
 use lib.IntN.{ℤ, pos}
-use lib.ListN.{length, take, length-append}
+use lib.ListN.{length, take, length-append, replicate}
 use lib.Seq.{take-append-add}
 use Rattle.job.specs.Job.{Job, accepted}
 use Rattle.ledger.specs.Call.{axis}
@@ -36,20 +38,32 @@ module _ (r : Record) where
   values-length i =
       omega (arith, length-append (axisValues (answerOf r (axis i))) (axisOf r i), length-values (answerOf r (axis i)), length-row r i)
 
-  pub axes-wide : Wide (axesOf r)
-  unfolding axesOf
-  axes-wide = record { wide = λ i h. rw (getD-eight (λ i. valuesOf r (suc i)) i [] h) (values-length (suc i)) }
+  module _ (n : ℕ) where
+    row : ℕ → List ℤ
+    row i = cond (ltb i n) (valuesOf r (suc i)) (replicate 11 (pos 0))
 
-  line-same : (n i : ℕ) → i < 8 → rowLine 65 (n + 3) (axesOf r) i ≡ lineA n r (suc i)
-  unfolding axesOf valuesOf lineA
-  line-same n i h =
+    row-length : (i : ℕ) → length (row i) ≡ 11
+    unfolding row
+    row-length i = by (ltb i n)
+      where
+        by : (t : Bool) → length (cond t (valuesOf r (suc i)) (replicate 11 (pos 0))) ≡ 11
+        by true = values-length (suc i)
+        by false = refl
+
+    pub axes-wide : Wide (axesOf n r)
+    unfolding axesOf row
+    axes-wide = record { wide = λ i h. rw (getD-eight row i [] h) (row-length i) }
+
+  line-same : (n i : ℕ) → i < n → n ≤ 8 → rowLine 65 (n + 3) (axesOf n r) i ≡ lineA n r (suc i)
+  unfolding axesOf row valuesOf lineA
+  line-same n i l h =
       let e : n + 3 ≡ suc (suc (suc n)) = omega arith in
-      rw (getD-eight (λ i. valuesOf r (suc i)) i [] h, e)
+      rw (getD-eight (row n) i [] (omega arith), lt-ltb i n l, e)
       (ap (λ (l : List ℤ). numberLine 65 (pos (suc i) ∷ l)) (two-before (answerOf r (axis (suc i))) n (axisOf r (suc i))))
 
-pub text-same : (j : Job) → j .n ≤ 8 → textOf (headOf j) (runFor j .outcome) (axesOf (runFor j .last)) (j .n) ≡ reportOf j
+pub text-same : (j : Job) → j .n ≤ 8 → textOf (headOf j) (runFor j .outcome) (axesOf (j .n) (runFor j .last)) (j .n) ≡ reportOf j
 unfolding textOf headOf reportOf lineR
-text-same j h = ap (λ l. lineR j ++ l) (lines-same (j .n) _ _ (λ i l. line-same (runFor j .last) (j .n) i (omega arith)))
+text-same j h = ap (λ l. lineR j ++ l) (lines-same (j .n) _ _ (λ i l. line-same (runFor j .last) (j .n) i l h))
 
 module _ (j : Job) (short : length (reportOf j) ≤ 2048) (entry : List ℕ) where
   pub too-short : length entry < length (reportOf j) → Answers (accepted j) entry entry (reported.Refused 12 0)

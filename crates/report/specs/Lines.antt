@@ -1,8 +1,10 @@
 -- The report's lines from their values, as the writer gets them: the numbers of the R line, the outcome, and eleven numbers for each A line.
 use Prim.Native.Nat.{ℕ, suc, _+_}
+use mathlib.Core.Bool.{cond}
 use mathlib.Core.List.{List, [], _∷_, _++_, map}
+use lib.Dec.{ltb}
 use lib.IntN.{ℤ, pos}
-use lib.ListN.{length}
+use lib.ListN.{length, replicate}
 use Rattle.job.specs.Job.{Job}
 use Rattle.job_table.specs.Held.{tableFor}
 use Rattle.ledger.specs.Call.{axis}
@@ -24,9 +26,9 @@ headOf j = map pos (j .n ∷ length (j .dilutions) ∷ tableFor j .e ∷ runFor 
 unfoldable pub valuesOf : Record → ℕ → List ℤ
 valuesOf r i = pos i ∷ (axisValues (answerOf r (axis i)) ++ axisOf r i)
 
--- those of axes 1 to 8
-unfoldable pub axesOf : Record → List (List ℤ)
-axesOf r = eight (λ i. valuesOf r (suc i))
+-- those of axes 1 to n, and zeros after them
+unfoldable pub axesOf : ℕ → Record → List (List ℤ)
+axesOf n r = eight (λ i. cond (ltb i n) (valuesOf r (suc i)) (replicate 11 (pos 0)))
 
 unfoldable pub textOf : List ℤ → Outcome → List (List ℤ) → ℕ → List ℕ
 textOf head outcome axes n = wordLine 82 head (outcomeWord outcome) ++ lines (rowLine 65 (n + 3) axes) n

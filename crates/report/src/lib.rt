@@ -51,7 +51,7 @@ fn report_job(job: Job, buf: &mut [u8]) -> Reported
         ran.sweeps as i64,
         last.turns() as i64,
     ];
-    let axes = values::axes_values(last);
+    let axes = values::axes_values(last, n);
     let length = lines::text_length(&head, outcome, &axes, n);
     if buf.len() < length {
         return Reported::Refused(12, 0);

@@ -41,19 +41,16 @@ fn axis_values(last: Record, i: usize) -> [i64; 11]
     joined(i as i64, 0, 0, row)
 }
 
-// Those of axes 1 to 8. A call beyond n is refused, and no line has its values.
-pub fn axes_values(last: Record) -> [[i64; 11]; 8]
-    requires { ⌜ Kept last ⌝ }
-    ensures { λ r. ⌜ r ≡ axesOf last ⌝ }
+// Those of axes 1 to n.
+pub fn axes_values(last: Record, n: usize) -> [[i64; 11]; 8]
+    requires { ⌜ Kept last × (n ≤ 8) ⌝ }
+    ensures { λ r. ⌜ r ≡ axesOf n last ⌝ }
 {
-    [
-        axis_values(last, 1),
-        axis_values(last, 2),
-        axis_values(last, 3),
-        axis_values(last, 4),
-        axis_values(last, 5),
-        axis_values(last, 6),
-        axis_values(last, 7),
-        axis_values(last, 8),
-    ]
+    let mut axes = [[0i64; 11]; 8];
+    let mut i = 0;
+    while i < n {
+        axes[i] = axis_values(last, i + 1);
+        i += 1;
+    }
+    axes
 }

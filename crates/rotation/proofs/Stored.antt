@@ -1,28 +1,17 @@
 -- Stores into an 8 by 8 array of arrays.
 use mathlib.Core.Path.{_≡_, sym, ap, _∙_}
-use mathlib.Core.Bool.{cond}
-use mathlib.Core.List.{List, []}
+use mathlib.Core.List.{[]}
 use Prim.Native.Nat.{ℕ, _<_}
 use native.Mathlib.Decide.{ℕ-discrete}
-use lib.Dec.{eqb}
 use lib.IntN.{ℤ}
-use lib.ListN.{getD, set, length-set}
-use lib.Seq.{getD-set-same, getD-set-other}
+use lib.ListN.{getD, set}
 use Rattle.integer.specs.Sum.{update, update-same, update-other}
-use Rattle.rotation.specs.Eight.{eight-cong, eight-of, getD-eight, length-eight}
+use Rattle.rotation.specs.Eight.{eight-cong, getD-eight, set-eight}
 use Rattle.rotation.specs.Turn.{eight, square}
 
 -- f with x in row p and column k
 unfoldable pub stored : ℕ → ℕ → ℤ → (ℕ → ℕ → ℤ) → ℕ → ℕ → ℤ
 stored p k x f i = update f p (update (f p) k x) i
-
-set-eight : {A : Type 0} (f : ℕ → A) (p : ℕ) (x : A) → p < 8 → set (eight f) p x ≡ eight (update f p x)
-set-eight f p x h =
-    eight-of (set (eight f) p x) x (simp (length-set, length-eight)) ∙ eight-cong (λ i k. by i k (ℕ-discrete i p))
-  where
-    by : (i : ℕ) → i < 8 → Dec (i ≡ p) → getD (set (eight f) p x) i x ≡ update f p x i
-    by i k (yes e) = rw e (getD-set-same (eight f) p x x (rw length-eight h) ∙ sym (update-same f p x))
-    by i k (no d) = getD-set-other (eight f) p i x x d ∙ getD-eight f i x k ∙ sym (update-other f p x i d)
 
 pub store : (f : ℕ → ℕ → ℤ) (p k : ℕ) (x : ℤ) → p < 8 → k < 8 → set (square f) p (set (getD (square f) p []) k x) ≡ square (stored p k x f)
 unfolding stored

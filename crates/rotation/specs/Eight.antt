@@ -2,11 +2,13 @@
 use mathlib.Core.Path.{_≡_, refl, sym, ap, _∙_}
 use mathlib.Core.List.{List, [], _∷_}
 use Prim.Native.Nat.{ℕ, zero, suc, _<_}
+use native.Mathlib.Decide.{ℕ-discrete}
 use native.Mathlib.Omega.{arith}
 use lib.Dec.{lit<}
 use lib.IntN.{ℤ, pos}
-use lib.ListN.{length, getD}
-use lib.Seq.{ext-getD}
+use lib.ListN.{length, getD, length-set, set}
+use lib.Seq.{ext-getD, getD-set-other, getD-set-same}
+use Rattle.integer.specs.Sum.{update, update-other, update-same}
 use Rattle.rotation.specs.Shape.{Shaped}
 use Rattle.rotation.specs.Turn.{at, eight, square}
 
@@ -38,6 +40,14 @@ pub eight-of : {A : Type 0} (l : List A) (d : A) → length l ≡ 8 → l ≡ ei
 eight-of l d h =
     ext-getD d l (eight (λ i. getD l i d)) (h ∙ sym (length-eight (λ i. getD l i d)))
     (λ i k. sym (getD-eight (λ i. getD l i d) i d (rw h at k)))
+
+pub set-eight : {A : Type 0} (f : ℕ → A) (p : ℕ) (x : A) → p < 8 → set (eight f) p x ≡ eight (update f p x)
+set-eight f p x h =
+    eight-of (set (eight f) p x) x (simp (length-set, length-eight)) ∙ eight-cong (λ i k. by i k (ℕ-discrete i p))
+  where
+    by : (i : ℕ) → i < 8 → Dec (i ≡ p) → getD (set (eight f) p x) i x ≡ update f p x i
+    by i k (yes e) = rw e (getD-set-same (eight f) p x x (rw length-eight h) ∙ sym (update-same f p x))
+    by i k (no d) = getD-set-other (eight f) p i x x d ∙ getD-eight f i x k ∙ sym (update-other f p x i d)
 
 pub at-eight : (f : ℕ → ℕ → ℤ) (i j : ℕ) → i < 8 → j < 8 → at (square f) i j ≡ f i j
 unfolding at

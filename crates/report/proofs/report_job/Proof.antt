@@ -73,11 +73,11 @@ module _ (c : tie.After-axes-values) where
   text : textOf head (solved .solve .result .ran .outcome) (c .axes-values .result) (start .args .job .n) ≡ reportOf j
   unfolding jobIn
   text =
-      (λ k. textOf (head-same k) (solved .solve .ensures .is k .outcome) ((c .axes-values .ensures ∙ ap (λ (z : Ran). axesOf (z .last)) (solved .solve .ensures .is)) k) (start .args .job .n))
+      (λ k. textOf (head-same k) (solved .solve .ensures .is k .outcome) ((c .axes-values .ensures ∙ ap (λ (z : Ran). axesOf (start .args .job .n) (z .last)) (solved .solve .ensures .is)) k) (start .args .job .n))
       ∙ text-same j (high start)
 
   axes-are-wide : Wide (c .axes-values .result)
-  axes-are-wide = rw (c .axes-values .ensures) (axes-wide (solved .solve .result .ran .last))
+  axes-are-wide = rw (c .axes-values .ensures) (axes-wide (solved .solve .result .ran .last) (start .args .job .n))
 
 text-length-requires : tie.Need-text-length-requires
 text-length-requires c κs = let a = c .before .before in (refl, high (start a), axes-are-wide a)
@@ -117,7 +117,7 @@ report-job-spec =
     (λ c. sweeps (c .before .before .before .before .before))
     (λ c κs. search needs)
     (λ c. search needs)
-    (λ c κs. search needs)
+    (λ c κs. (search needs, high (c .before .before .before .before .before .before .before .before)))
     (λ c. search needs)
     text-length-requires
     returns
