@@ -222,14 +222,12 @@ impl Record {
                 next: self.after_refusal(),
             };
         }
-        let a = self.a;
-        let v = self.v;
-        let entry = a[9 * (i - 1)];
-        let error = query::error_of(&a, n, self.m, i - 1);
+        let entry = self.a[9 * (i - 1)];
+        let error = query::error_of(&self.a, n, self.m, i - 1);
         AxisStep {
             answer: AxisAnswer {
                 value: Answer::Axis { entry, error },
-                row: rows::row(&v, i - 1),
+                row: rows::row(&self.v, i - 1),
             },
             next: self,
         }

@@ -79,11 +79,9 @@ pub fn run_from(r: Record, limit: u64, tolerance: u64) -> Ran
     ensures { λ z. ⌜ z ≡ runFrom limit 0 false tolerance r ⌝ }
 {
     let n = r.n;
-    let a = r.a;
-    let v = r.v;
     let number = query::loose_pair_refusal(n, tolerance);
-    let mut matrix = rows::unpacked(&a);
-    let mut axes = rows::unpacked(&v);
+    let mut matrix = rows::unpacked(&r.a);
+    let mut axes = rows::unpacked(&r.v);
     let mut m = r.m;
     let mut refused = r.refused;
     let mut sweeps = 0;
