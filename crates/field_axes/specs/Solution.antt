@@ -22,13 +22,13 @@ outcomeNumber Still = 1
 outcomeNumber Spent = 2
 
 -- a_ii, r_i and the n numbers of row i of v
-unfoldable pub axisNumbers : ℕ → Record → ℕ → List ℤ
-axisNumbers n r i = axisValues (answerOf r (axis i)) ++ take n (axisOf r i)
+unfoldable pub axisSolution : ℕ → Record → ℕ → List ℤ
+axisSolution n r i = axisValues (answerOf r (axis i)) ++ take n (axisOf r i)
 
 -- for i = 1 to `last`
 unfoldable pub axes : ℕ → Record → ℕ → List ℤ
 axes n r zero = []
-axes n r (suc last) = axes n r last ++ axisNumbers n r (suc last)
+axes n r (suc last) = axes n r last ++ axisSolution n r (suc last)
 
 -- outcome, sweeps run, m, and the axes 1 to n
 unfoldable pub solution : ℕ → Ran → List ℤ

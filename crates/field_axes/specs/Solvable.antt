@@ -19,7 +19,7 @@ use Rattle.record.specs.AxisNumbers.{length-row, length-values}
 use Rattle.record.specs.Record.{axisOf}
 use Rattle.record.specs.declared.Record.{Record}
 use Rattle.run.specs.Calls.{Allowed}
-use Rattle.field_axes.specs.Solution.{axes, axisNumbers, solution, solutionOf, solveRefusal}
+use Rattle.field_axes.specs.Solution.{axes, axisSolution, solution, solutionOf, solveRefusal}
 
 pub record Solvable (n : ℕ) (numbers : List ℤ) (limit t size : ℕ) : Type 0 where
   pub allowed : Allowed n numbers limit t
@@ -45,11 +45,14 @@ solvable n numbers limit t size e =
     }
 
 -- how many numbers
+pub length-axis : (n : ℕ) (r : Record) (i : ℕ) → n ≤ 8 → length (axisSolution n r i) ≡ n + 2
+unfolding axisSolution
+length-axis n r i h = simp (length-append, length-values, length-take-le n (axisOf r i) (rw length-row h)) (omega arith)
+
 pub length-axes : (n : ℕ) (r : Record) (last : ℕ) → n ≤ 8 → length (axes n r last) ≡ last * (n + 2)
-unfolding axes axisNumbers
+unfolding axes
 length-axes n r zero h = omega arith
-length-axes n r (suc last) h =
-    simp (length-append, length-values, length-take-le n (axisOf r (suc last)) (rw length-row h), length-axes n r last h) (omega arith)
+length-axes n r (suc last) h = simp (length-append, length-axis n r (suc last) h, length-axes n r last h) (omega arith)
 
 module _ (n : ℕ) (numbers : List ℤ) (limit t size : ℕ) (s : Solvable n numbers limit t size) where
   pub channels : n ≤ 8

@@ -1,13 +1,11 @@
 // A run and its axes: the refusal, and the numbers.
 use crate::numbers;
-use record::Answer;
 use record::Record;
 use record::run::Outcome;
 ghost use mathlib.Core.Path.{_≡_};
 ghost use Prim.Native.Nat.{_+_, _*_, _≤_};
 ghost use lib.IntN.{pos};
 ghost use lib.ListN.{length};
-ghost use Rattle.record.specs.AxisNumbers.{ErrorFits, axisValues};
 ghost use Rattle.record.specs.Kept.{Kept};
 ghost use Rattle.text.specs.Put.{Put};
 ghost use Rattle.field_axes.specs.Solution.{axes, outcomeNumber, solutionOf, solveRefusal};
@@ -46,33 +44,19 @@ fn outcome_number(outcome: Outcome) -> i64
     }
 }
 
-// a_ii and r_i.
-fn axis_values(value: Answer) -> [i64; 2]
-    requires { ⌜ ErrorFits value ⌝ }
-    ensures { λ r. ⌜ r ≡ axisValues value ⌝ }
-{
-    if let Answer::Axis { entry, error } = value {
-        return [entry, error as i64];
-    }
-    [0, 0]
-}
-
 // The axes 1 to n, each after the one before it.
 fn put_axes(n: usize, last: Record, out: &mut [i64], at: usize) -> usize
-    requires { ⌜ (n ≤ 8) × Kept last × (at + n * (n + 2) ≤ length (now out)) ⌝ }
+    requires { ⌜ (last .n ≡ n) × Kept last × (at + n * (n + 2) ≤ length (now out)) ⌝ }
     ensures { λ r. ⌜ Put (axes n last n) at (now (out .entry)) (now (out .exit)) r ⌝ }
 {
+    let axes = last.axes_numbers();
+    let end = n + 3;
     let mut next = at;
     let mut i = 0;
     while i < n {
+        let numbers = axes[i];
+        next = numbers::put(out, next, &numbers[1..end]);
         i += 1;
-        let asked = last.axis(i);
-        let answer = asked.answer;
-        let value = answer.value;
-        let row = answer.row;
-        let values = axis_values(value);
-        next = numbers::put(out, next, &values);
-        next = numbers::put(out, next, &row[..n]);
     }
     next
 }

@@ -8,6 +8,7 @@ use lib.Dec.{T, eqb, leb, ltb, eqb→eq, eqb-refl, leb→le, ltb→lt}
 use lib.IntN.{ℤ, pos, negsuc, natAbs}
 use lib.ListN.{length, getD}
 use mir.Facts.{and-yes}
+use borrow.Author.Tests.{le-leb, lt-ltb}
 use Rattle.integer.specs.Matrix.{Matrix, Symmetric}
 use Rattle.integer.specs.Range.{all, below, from-each}
 use Rattle.ledger.specs.Call.{load, turn, sweep, axis}
@@ -113,3 +114,7 @@ axis-accepted n m i e =
     let held = passed (ltb 0 n) 10 _ e (omega arith) in
     let place = and-yes (leb 1 i) (leb i n) (passed (leb 1 i && leb i n) 9 _ (held .1) (omega arith) .0) in
     record { first = leb→le 1 i (place .0); last = leb→le i n (place .1) }
+
+pub axis-taken : (n m i : ℕ) → 1 ≤ i → i ≤ n → refusalOf n m (axis i) ≡ 0
+unfolding refusalOf
+axis-taken n m i k l = rw (lt-ltb 0 n (omega arith), le-leb 1 i k, le-leb i n l)

@@ -5,7 +5,6 @@ mod Going
 mod Handed
 mod LentCall
 mod LentContract
-pub mod NotAxis
 pub mod Outcome
 mod Parameters
 mod Search

@@ -1,20 +1,21 @@
 -- The numbers of an axis: a_ii and r_i, which an axis call answers, and the row beside them. How many they are, and that r_i fits 63 bits.
-use Prim.Native.Nat.{ℕ, _-_, _*_, _^_, _<_, _≤_}
+use Prim.Native.Nat.{ℕ, suc, _+_, _-_, _*_, _^_, _<_, _≤_}
 use mathlib.Core.Path.{_≡_, refl}
 use mathlib.Core.Bool.{Bool, true, false, cond}
-use mathlib.Core.List.{List, [], _∷_}
+use mathlib.Core.List.{List, [], _∷_, _++_}
 use native.Mathlib.Nat.{le-trans}
 use native.Mathlib.Omega.{arith}
-use borrow.Author.Tests.{eqb-true}
+use borrow.Author.Tests.{eq-eqb, eqb-true}
 use lib.Dec.{eqb, lit≤}
 use lib.IntN.{ℤ, pos, natAbs}
-use lib.ListN.{length, replicate}
+use lib.ListN.{length, length-append, replicate, take}
+use lib.Seq.{take-append-add}
 use Rattle.integer.specs.Sum.{sumℕ-≤, sumℕ-const}
-use Rattle.ledger.specs.Accepted.{axis-accepted}
+use Rattle.ledger.specs.Accepted.{axis-accepted, axis-taken}
 use Rattle.ledger.specs.Axis.{errorOf}
 use Rattle.ledger.specs.Call.{axis}
 use Rattle.ledger.specs.Refusal.{refusalOf}
-use Rattle.rotation.specs.Eight.{length-eight}
+use Rattle.rotation.specs.Eight.{front, length-eight}
 use Rattle.rotation.specs.Size.{widest}
 use Rattle.record.specs.Fill.{at-rowsOf}
 use Rattle.record.specs.Flat.{entriesOf, kept}
@@ -45,6 +46,12 @@ length-values NoPair = refl
 length-values (Axis entry error) = refl
 length-values (Refused number) = refl
 
+-- two numbers stand before the row
+pub two-before : (a : Answer) (n : ℕ) (row : List ℤ) → take (suc (suc n)) (axisValues a ++ row) ≡ axisValues a ++ take n row
+two-before a n row =
+    let e : suc (suc n) ≡ length (axisValues a) + n = omega (arith, length-values a) in
+    rw e (take-append-add (axisValues a) row n)
+
 pub length-row : (r : Record) (i : ℕ) → length (axisOf r i) ≡ 8
 unfolding axisOf entriesOf
 length-row r i = by-test (eqb (refusalOf (r .n) (r .m) (axis i)) 0)
@@ -52,6 +59,19 @@ length-row r i = by-test (eqb (refusalOf (r .n) (r .m) (axis i)) 0)
     by-test : (test : Bool) → length (cond test (entriesOf (r .v) (i - 1)) (replicate 8 (pos 0))) ≡ 8
     by-test true = length-eight _
     by-test false = refl
+
+-- i, a_ii, r_i and the eight entries of row i of v
+unfoldable pub axisNumbers : Record → ℕ → List ℤ
+axisNumbers r i = pos i ∷ (axisValues (answerOf r (axis i)) ++ axisOf r i)
+
+pub length-numbers : (r : Record) (i : ℕ) → length (axisNumbers r i) ≡ 11
+unfolding axisNumbers
+length-numbers r i =
+    omega (arith, length-append (axisValues (answerOf r (axis i))) (axisOf r i), length-values (answerOf r (axis i)), length-row r i)
+
+-- those of axes 1 to n, and zeros after them
+unfoldable pub axesNumbers : Record → List (List ℤ)
+axesNumbers r = front (λ i. axisNumbers r (suc i)) (replicate 11 (pos 0)) (r .n)
 
 -- r_i is below 2^63
 unfoldable pub ErrorFits : Answer → Type 0
@@ -80,3 +100,19 @@ module _ (r : Record) (k : Kept r) (i : ℕ) where
           rw q
           (omega (arith, sumℕ-≤ (r .n) {g = λ j. widest} (λ j l. column j (omega (arith, a .first, a .last, k .size)) (omega (arith, k .size)) (eqb j (i - 1))), sumℕ-const (r .n) widest, k .size, k .turns))
       by-test false q = rw q tt
+
+-- the numbers of axis i + 1, and that its error fits
+module _ (r : Record) (i : ℕ) (h : i < r .n) where
+  taken : eqb (refusalOf (r .n) (r .m) (axis (suc i))) 0 ≡ true
+  taken = eq-eqb _ 0 (axis-taken (r .n) (r .m) (suc i) (omega arith) (omega arith))
+
+  place : suc i - 1 ≡ i
+  place = omega arith
+
+  pub numbers-are : axisNumbers r (suc i) ≡ pos (suc i) ∷ kept (r .a) i i ∷ pos (errorOf (r .n) (kept (r .a)) (r .m) i) ∷ entriesOf (r .v) i
+  unfolding axisNumbers axisValues answerOf valueOf axisOf
+  numbers-are = rw (taken, place)
+
+  pub error-small : Kept r → errorOf (r .n) (kept (r .a)) (r .m) i < 2 ^ 63
+  unfolding ErrorFits answerOf valueOf
+  error-small k = rw (taken, place) at (error-fits r k (suc i))

@@ -1,5 +1,6 @@
 // The record and its calls: one matrix with its axes, the turns made of it, and the count of refused calls.
 ghost use Rattle.ledger.specs.Call.{axis, load, loosePair, sweep, turn};
+ghost use Rattle.record.specs.AxisNumbers.{axesNumbers};
 ghost use Rattle.record.specs.Done.{AxisDone, Done, Fresh, withWork};
 ghost use Rattle.record.specs.Kept.{Kept};
 ghost use Rattle.record.specs.Record.{counted, fresh, refusedOf};
@@ -231,6 +232,24 @@ impl Record {
             },
             next: self,
         }
+    }
+
+    // What axes 1 to n answer: i, a_ii, r_i and row i of v each. Asked for at once, they cost one record.
+    pub fn axes_numbers(self) -> [[i64; 11]; 8]
+        requires { ⌜ Kept self ⌝ }
+        ensures { λ z. ⌜ z ≡ axesNumbers self ⌝ }
+    {
+        let n = self.n;
+        let mut axes = [[0i64; 11]; 8];
+        let mut i = 0;
+        while i < n {
+            let error = query::error_of(&self.a, n, self.m, i);
+            let row = rows::row(&self.v, i);
+            let number = i + 1;
+            axes[i] = query::numbers_of(number as i64, self.a[9 * i], error as i64, row);
+            i = number;
+        }
+        axes
     }
 
     fn with_work(self, done: work::Worked) -> Self

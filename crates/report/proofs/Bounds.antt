@@ -1,14 +1,35 @@
--- The sweeps of a job's run.
+-- The run of a job as calls: none is refused, its sweeps are at most 16, and its record has the job's channels.
+use mathlib.Core.Path.{_≡_}
 use Prim.Native.Nat.{_*_, _≤_}
 use native.Mathlib.Nat.{le-trans}
 use lib.ListN.{take}
 use Rattle.job.specs.Job.{Job}
 use Rattle.job.specs.Values.{Proper}
-use Rattle.job_table.specs.Held.{tableFor}
-use Rattle.job_table.specs.Laws.{limit-most}
+use Rattle.job_table.specs.Held.{sumsFor, tableFor}
+use Rattle.job_table.specs.Laws.{channels, limit-most, tolerance-most}
+use Rattle.run.specs.Calls.{Allowed, AsCalls, run-calls}
 use Rattle.run.specs.Course.{run-ends}
+use Rattle.run.specs.Table.{table-accepted}
+use Rattle.report.specs.Certified.{loadedFor}
 use Rattle.report.specs.Report.{runFor}
 
 pub sweeps-most : (j : Job) → Proper j → runFor j .sweeps ≤ 16
 unfolding runFor
 sweeps-most j p = le-trans (run-ends (j .n) (take (j .n * j .n) (tableFor j .entries)) (j .limit) (j .tolerance) .within) (limit-most j p)
+
+module _ (j : Job) (p : Proper j) where
+  pub allowed : Allowed (j .n) (loadedFor j) (j .limit) (j .tolerance)
+  unfolding loadedFor tableFor
+  allowed =
+      record {
+        matrix = table-accepted (j .n) (sumsFor j) (channels j p .0) (channels j p .1);
+        sweeps = limit-most j p;
+        tolerance = tolerance-most j p;
+      }
+
+  pub as-calls : AsCalls (j .n) (loadedFor j) (j .tolerance) (runFor j)
+  unfolding loadedFor runFor
+  as-calls = run-calls (j .n) (loadedFor j) (j .limit) (j .tolerance) allowed
+
+  pub run-channels : runFor j .last .n ≡ j .n
+  run-channels = as-calls .channels

@@ -10,8 +10,6 @@ use Rattle.integer.specs.Matrix.{Matrix}
 use Rattle.job.proofs.Accepted.{accepted-proper}
 use Rattle.job.specs.Job.{Job, accepted}
 use Rattle.job.specs.Values.{Proper}
-use Rattle.job_table.specs.Held.{sumsFor, tableFor}
-use Rattle.job_table.specs.Laws.{channels, limit-most, tolerance-most}
 use Rattle.ledger.specs.Call.{load, loosePair, sweep}
 use Rattle.ledger.specs.Invariant.{turnPairs-continues}
 use Rattle.ledger.specs.Ledger as book
@@ -22,10 +20,10 @@ use Rattle.record.specs.AxisNumbers.{axisValues}
 use Rattle.record.specs.Demand3 as three
 use Rattle.record.specs.Demand3.{AxisNear, Certifies}
 use Rattle.record.specs.Demand3proof.{demand-3}
-use Rattle.run.specs.Calls.{Allowed, AsCalls, callsOf, rounds, run-calls}
-use Rattle.run.specs.Table.{table-accepted}
+use Rattle.run.specs.Calls.{callsOf, rounds}
 use Rattle.report.specs.Certified.{AxisCertified, Certified, JobCertified, loadedFor}
 use Rattle.report.specs.Report.{lineA, runFor}
+use Rattle.report.proofs.Bounds.{allowed, as-calls}
 
 -- a ledger that has n channels and the given matrix
 record Has (n : ℕ) (A : Matrix) (g : Ledger) : Type 0 where
@@ -69,25 +67,12 @@ run-has n numbers t sweeps e = rounds-have n (matrixOf n numbers) t sweeps (ledg
     first = rw (eq-eqb (refusalOf 0 0 (load n numbers)) 0 e) (record { state = book.loadedOf n numbers; is = refl; size = refl; given = refl })
 
 module _ (j : Job) (p : Proper j) where
-  allowed : Allowed (j .n) (loadedFor j) (j .limit) (j .tolerance)
-  unfolding loadedFor tableFor
-  allowed =
-      record {
-        matrix = table-accepted (j .n) (sumsFor j) (channels j p .0) (channels j p .1);
-        sweeps = limit-most j p;
-        tolerance = tolerance-most j p;
-      }
-
-  as-calls : AsCalls (j .n) (loadedFor j) (j .tolerance) (runFor j)
-  unfolding loadedFor runFor
-  as-calls = run-calls (j .n) (loadedFor j) (j .limit) (j .tolerance) allowed
-
   has : Has (j .n) (matrixOf (j .n) (loadedFor j)) (ledger (callsOf (j .n) (loadedFor j) (j .tolerance) (runFor j .sweeps)))
-  has = run-has (j .n) (loadedFor j) (j .tolerance) (runFor j .sweeps) (allowed .matrix)
+  has = run-has (j .n) (loadedFor j) (j .tolerance) (runFor j .sweeps) (allowed j p .matrix)
 
   three-holds : three.Certified (runFor j .last) (has .state)
   unfolding Certifies
-  three-holds = rw (as-calls .leaves, has .is) at (demand-3 (callsOf (j .n) (loadedFor j) (j .tolerance) (runFor j .sweeps)))
+  three-holds = rw (as-calls j p .leaves, has .is) at (demand-3 (callsOf (j .n) (loadedFor j) (j .tolerance) (runFor j .sweeps)))
 
   axis-certified : (i : ℕ) → AxisNear (runFor j .last) (has .state) i → AxisCertified j (has .state) i
   unfolding lineA axisValues

@@ -8,13 +8,12 @@ use native.Mathlib.Omega.{arith}
 use borrow.Author.Tests.{le-leb, lt-leb, lt-ltb}
 use lib.Dec.{ltb}
 use lib.IntN.{ℤ, pos}
-use lib.ListN.{length, take, length-append, replicate}
-use lib.Seq.{take-append-add}
+use lib.ListN.{length, replicate}
 use Rattle.job.specs.Job.{Job, accepted}
+use Rattle.job.specs.Values.{Proper}
 use Rattle.ledger.specs.Call.{axis}
-use Rattle.record.specs.AxisNumbers.{axisValues, length-row, length-values}
+use Rattle.record.specs.AxisNumbers.{axesNumbers, axisNumbers, length-numbers, two-before}
 use Rattle.record.specs.Record.{answerOf, axisOf}
-use Rattle.record.specs.declared.Answer.{Answer}
 use Rattle.record.specs.declared.Record.{Record}
 use Rattle.rotation.specs.Eight.{getD-eight}
 use Rattle.text.specs.Line.{numberLine}
@@ -22,48 +21,38 @@ use Rattle.text.specs.Lines.{lines-same}
 use Rattle.text.specs.Rows.{Wide, rowLine}
 use Rattle.text.specs.Put.{Put}
 use Rattle.report.specs.Done.{Answers}
-use Rattle.report.specs.Lines.{axesOf, headOf, textOf, valuesOf}
+use Rattle.report.specs.Lines.{headOf, textOf}
 use Rattle.report.specs.Report.{Short, bufferBy, lineA, lineR, reportOf, reportedBy, runFor}
 use Rattle.report.specs.declared.Reported.the-variants as reported
-
--- Two numbers stand before the row.
-two-before : (a : Answer) (n : ℕ) (row : List ℤ) → take (suc (suc n)) (axisValues a ++ row) ≡ axisValues a ++ take n row
-two-before a n row =
-    let e : suc (suc n) ≡ length (axisValues a) + n = omega (arith, length-values a) in
-    rw e (take-append-add (axisValues a) row n)
+use Rattle.report.proofs.Bounds.{run-channels}
 
 module _ (r : Record) where
-  values-length : (i : ℕ) → length (valuesOf r i) ≡ 11
-  unfolding valuesOf
-  values-length i =
-      omega (arith, length-append (axisValues (answerOf r (axis i))) (axisOf r i), length-values (answerOf r (axis i)), length-row r i)
+  -- row i of the axes' numbers
+  row : ℕ → List ℤ
+  row i = cond (ltb i (r .n)) (axisNumbers r (suc i)) (replicate 11 (pos 0))
 
-  module _ (n : ℕ) where
-    row : ℕ → List ℤ
-    row i = cond (ltb i n) (valuesOf r (suc i)) (replicate 11 (pos 0))
+  row-length : (i : ℕ) → length (row i) ≡ 11
+  unfolding row
+  row-length i = by (ltb i (r .n))
+    where
+      by : (t : Bool) → length (cond t (axisNumbers r (suc i)) (replicate 11 (pos 0))) ≡ 11
+      by true = length-numbers r (suc i)
+      by false = refl
 
-    row-length : (i : ℕ) → length (row i) ≡ 11
-    unfolding row
-    row-length i = by (ltb i n)
-      where
-        by : (t : Bool) → length (cond t (valuesOf r (suc i)) (replicate 11 (pos 0))) ≡ 11
-        by true = values-length (suc i)
-        by false = refl
+  pub axes-wide : Wide (axesNumbers r)
+  unfolding axesNumbers row
+  axes-wide = record { wide = λ i h. rw (getD-eight row i [] h) (row-length i) }
 
-    pub axes-wide : Wide (axesOf n r)
-    unfolding axesOf row
-    axes-wide = record { wide = λ i h. rw (getD-eight row i [] h) (row-length i) }
-
-  line-same : (n i : ℕ) → i < n → n ≤ 8 → rowLine 65 (n + 3) (axesOf n r) i ≡ lineA n r (suc i)
-  unfolding axesOf row valuesOf lineA
-  line-same n i l h =
+  line-same : (n i : ℕ) → r .n ≡ n → i < n → n ≤ 8 → rowLine 65 (n + 3) (axesNumbers r) i ≡ lineA n r (suc i)
+  unfolding axesNumbers row axisNumbers lineA
+  line-same n i c l h =
       let e : n + 3 ≡ suc (suc (suc n)) = omega arith in
-      rw (getD-eight (row n) i [] (omega arith), lt-ltb i n l, e)
+      rw (getD-eight row i [] (omega arith), lt-ltb i (r .n) (omega arith), e)
       (ap (λ (l : List ℤ). numberLine 65 (pos (suc i) ∷ l)) (two-before (answerOf r (axis (suc i))) n (axisOf r (suc i))))
 
-pub text-same : (j : Job) → j .n ≤ 8 → textOf (headOf j) (runFor j .outcome) (axesOf (j .n) (runFor j .last)) (j .n) ≡ reportOf j
+pub text-same : (j : Job) → j .n ≤ 8 → Proper j → textOf (headOf j) (runFor j .outcome) (axesNumbers (runFor j .last)) (j .n) ≡ reportOf j
 unfolding textOf headOf reportOf lineR
-text-same j h = ap (λ l. lineR j ++ l) (lines-same (j .n) _ _ (λ i l. line-same (runFor j .last) (j .n) i l h))
+text-same j h p = ap (λ l. lineR j ++ l) (lines-same (j .n) _ _ (λ i l. line-same (runFor j .last) (j .n) i (run-channels j p) l h))
 
 module _ (j : Job) (short : length (reportOf j) ≤ 2048) (entry : List ℕ) where
   pub too-short : length entry < length (reportOf j) → Answers (accepted j) entry entry (reported.Refused 12 0)

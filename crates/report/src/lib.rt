@@ -1,6 +1,5 @@
 // Job text in, report or refusal out: document 01, 'Job text and report'.
 mod lines;
-mod values;
 
 use job::Job;
 use record::run::Ran;
@@ -51,7 +50,7 @@ fn report_job(job: Job, buf: &mut [u8]) -> Reported
         ran.sweeps as i64,
         last.turns() as i64,
     ];
-    let axes = values::axes_values(last, n);
+    let axes = last.axes_numbers();
     let length = lines::text_length(&head, outcome, &axes, n);
     if buf.len() < length {
         return Reported::Refused(12, 0);

@@ -1,14 +1,17 @@
 -- Laws of lists of eight, and of 8 by 8 arrays of arrays.
 use mathlib.Core.Path.{_≡_, refl, sym, ap, _∙_}
+use mathlib.Core.Bool.{cond}
 use mathlib.Core.List.{List, [], _∷_}
-use Prim.Native.Nat.{ℕ, zero, suc, _<_}
+use Prim.Native.Nat.{ℕ, zero, suc, _+_, _<_}
 use native.Mathlib.Decide.{ℕ-discrete}
 use native.Mathlib.Omega.{arith}
-use lib.Dec.{lit<}
+use lib.Dec.{lit<, ltb}
 use lib.IntN.{ℤ, pos}
 use lib.ListN.{length, getD, length-set, set}
 use lib.Seq.{ext-getD, getD-set-other, getD-set-same}
+use borrow.Author.Tests.{lt-ltb}
 use Rattle.integer.specs.Sum.{update, update-other, update-same}
+use Rattle.integer.specs.Tests.{next-test}
 use Rattle.rotation.specs.Shape.{Shaped}
 use Rattle.rotation.specs.Turn.{at, eight, square}
 
@@ -48,6 +51,17 @@ set-eight f p x h =
     by : (i : ℕ) → i < 8 → Dec (i ≡ p) → getD (set (eight f) p x) i x ≡ update f p x i
     by i k (yes e) = rw e (getD-set-same (eight f) p x x (rw length-eight h) ∙ sym (update-same f p x))
     by i k (no d) = getD-set-other (eight f) p i x x d ∙ getD-eight f i x k ∙ sym (update-other f p x i d)
+
+-- eight filled from the front: the first i are those of f, the others are z
+abbrev pub front : {A : Type 0} → (ℕ → A) → A → ℕ → List A
+front f z i = eight (λ k. cond (ltb k i) (f k) z)
+
+pub front-more : {A : Type 0} (f : ℕ → A) (z : A) (i : ℕ) (x : A) → i < 8 → x ≡ f i → set (front f z i) i x ≡ front f z (i + 1)
+front-more f z i x h e = set-eight (λ k. cond (ltb k i) (f k) z) i x h ∙ eight-cong (λ k _. by k (ℕ-discrete k i))
+  where
+    by : (k : ℕ) → Dec (k ≡ i) → update (λ k. cond (ltb k i) (f k) z) i x k ≡ cond (ltb k (i + 1)) (f k) z
+    by k (yes d) = rw (d, update-same (λ k. cond (ltb k i) (f k) z) i x, lt-ltb i (i + 1) (omega arith)) e
+    by k (no d) = update-other (λ k. cond (ltb k i) (f k) z) i x k d ∙ rw (next-test i k d)
 
 pub at-eight : (f : ℕ → ℕ → ℤ) (i j : ℕ) → i < 8 → j < 8 → at (square f) i j ≡ f i j
 unfolding at

@@ -6,7 +6,7 @@ use lib.IntN.{ℤ}
 use lib.Ieee.Bits.{is-true}
 use borrow.Author.Tests.{eq-eqb, le-leb, lt-ltb}
 use Rattle.ledger.specs.Accepted.{Loads, symmetric-of}
-use Rattle.ledger.specs.Call.{Call, axis, load, loosePair, sweep}
+use Rattle.ledger.specs.Call.{Call, load, loosePair, sweep}
 use Rattle.limits.specs.Limits.{toleranceLimit, turnLimit}
 use Rattle.ledger.specs.Refusal.{matrixOf, refusalOf, symmetric}
 use Rattle.record.specs.Loading.{loads-within}
@@ -27,10 +27,6 @@ module _ (n m : ℕ) (h : 1 ≤ n) where
   pub sweep-accepted : m + n * (n - 1) / 2 ≤ turnLimit → refusalOf n m sweep ≡ 0
   unfolding refusalOf
   sweep-accepted l = rw (lt-ltb 0 n h, le-leb (m + n * (n - 1) / 2) turnLimit l)
-
-  pub axis-accepted : (i : ℕ) → 1 ≤ i → i ≤ n → refusalOf n m (axis i) ≡ 0
-  unfolding refusalOf
-  axis-accepted i k l = rw (lt-ltb 0 n h, le-leb 1 i k, le-leb i n l)
 
 pub load-accepted : (n m k : ℕ) (numbers : List ℤ) → Loads k numbers → refusalOf n m (load k numbers) ≡ 0
 unfolding refusalOf

@@ -17,7 +17,7 @@ use Rattle.record.specs.Loading.{load-refusal-alone}
 use Rattle.record.specs.Record.{acceptedOf, after, afterFrom, afterOf, fresh, loadedOf, sweptOf, workOf, workedOf}
 use Rattle.record.specs.Turning.{works-grow}
 use Rattle.record.specs.declared.Record.{Record}
-use Rattle.run.specs.Accepted.{after-accepted, axis-accepted, loose-pair-accepted, sweep-accepted}
+use Rattle.run.specs.Accepted.{after-accepted, loose-pair-accepted, sweep-accepted}
 use Rattle.run.specs.Course.{Course, settles, is-still, is-spent, sweeps-on, course}
 use Rattle.run.specs.Run.{runOf}
 use Rattle.record.specs.declared.run.Ran.{Ran}
@@ -75,7 +75,7 @@ module _ (r : Record) (h : 1 ≤ r .n) where
   unfolding NoneRefused axesFrom afterFrom
   axes-accepted i zero k l = (tt, refl)
   axes-accepted i (suc count) k l =
-      let e = axis-accepted (r .n) (r .m) h i k (omega arith) in
+      let e = given.axis-taken (r .n) (r .m) i k (omega arith) in
       let later = axes-accepted (suc i) count (omega arith) (omega arith) in
       ((e, rw (axis-leaves i e) (later .0)), ap (λ x. afterFrom x (axesFrom (suc i) count)) (axis-leaves i e) ∙ later .1)
 

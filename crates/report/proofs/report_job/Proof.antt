@@ -12,10 +12,11 @@ use borrow.Author.Needs.{needs}
 use Rattle.job.specs.Job.{Job}
 use Rattle.job_table.specs.Held.{jobIn}
 use Rattle.job_table.specs.Laws.{channels-held, samples-few, samples-held}
+use Rattle.record.specs.AxisNumbers.{axesNumbers}
 use Rattle.record.specs.declared.run.Ran.{Ran}
 use Rattle.text.specs.Put.{Sized}
 use Rattle.text.specs.Rows.{Wide}
-use Rattle.report.specs.Lines.{textOf, headOf, axesOf}
+use Rattle.report.specs.Lines.{textOf, headOf}
 use Rattle.report.specs.Report.{reportOf}
 use Rattle.report.proofs.Bounds.{sweeps-most}
 use Rattle.report.proofs.Same.{axes-wide, text-same, too-short, put-whole}
@@ -36,7 +37,7 @@ sweeps c =
     let s = c .before .before in
     record { sfits = rw (c .solve .ensures .is) (omega (arith, sweeps-most (jobIn (s .args .job)) (s .pre .proper))) }
 
-module _ (c : tie.After-axes-values) where
+module _ (c : tie.After-axes-numbers) where
   abbrev start : tie.Start
   start = c .before .before .before .before .before .before .before .before .before
 
@@ -70,14 +71,14 @@ module _ (c : tie.After-axes-values) where
       ∷ (toZ-ofZ m-fits ∙ ap pos (c .before .turns .ensures) ∙ ap (λ (z : Ran). pos (z .last .m)) (s .is)) k
       ∷ []
 
-  text : textOf head (solved .solve .result .ran .outcome) (c .axes-values .result) (start .args .job .n) ≡ reportOf j
+  text : textOf head (solved .solve .result .ran .outcome) (c .axes-numbers .result) (start .args .job .n) ≡ reportOf j
   unfolding jobIn
   text =
-      (λ k. textOf (head-same k) (solved .solve .ensures .is k .outcome) ((c .axes-values .ensures ∙ ap (λ (z : Ran). axesOf (start .args .job .n) (z .last)) (solved .solve .ensures .is)) k) (start .args .job .n))
-      ∙ text-same j (high start)
+      (λ k. textOf (head-same k) (solved .solve .ensures .is k .outcome) ((c .axes-numbers .ensures ∙ ap (λ (z : Ran). axesNumbers (z .last)) (solved .solve .ensures .is)) k) (start .args .job .n))
+      ∙ text-same j (high start) (start .pre .proper)
 
-  axes-are-wide : Wide (c .axes-values .result)
-  axes-are-wide = rw (c .axes-values .ensures) (axes-wide (solved .solve .result .ran .last) (start .args .job .n))
+  axes-are-wide : Wide (c .axes-numbers .result)
+  axes-are-wide = rw (c .axes-numbers .ensures) (axes-wide (solved .solve .result .ran .last))
 
 text-length-requires : tie.Need-text-length-requires
 text-length-requires c κs = let a = c .before .before in (refl, high (start a), axes-are-wide a)
@@ -117,7 +118,7 @@ report-job-spec =
     (λ c. sweeps (c .before .before .before .before .before))
     (λ c κs. search needs)
     (λ c. search needs)
-    (λ c κs. (search needs, high (c .before .before .before .before .before .before .before .before)))
+    (λ c κs. search needs)
     (λ c. search needs)
     text-length-requires
     returns

@@ -9,10 +9,10 @@ use mir.Val.{SFits}
 use mir.Facts.{toZ-ofZ, toZ-pos}
 use borrow.Author.Needs.{needs}
 use Rattle.integer.specs.Word.{held}
+use Rattle.run.specs.Calls.{run-calls}
 use Rattle.run.specs.Course.{run-ends}
 use Rattle.text.specs.Put.{put-then, same-size}
 use Rattle.field_axes.specs.Solution.{outcomeNumber, solution, solutionOf}
-use Rattle.field_axes.specs.Solvable.{channels}
 use Rattle.field_axes.proofs.solve.put_solution.Statement.{statement}
 use Rattle.field_axes.proofs.solve.put_solution.Tie as tie
 
@@ -21,11 +21,17 @@ few c =
     let a = c .before .args in
     rw (c .run .ensures .is) (omega (arith, run-ends (a .n) (a .numbers .now) (a .limit) (a .tolerance) .within, c .before .pre .allowed .sweeps))
 
+-- the record of the run has its channels
+kept-channels : (c : tie.After-run) → c .run .result .last .n ≡ c .before .args .n
+kept-channels c =
+    let a = c .before .args in
+    rw (c .run .ensures .is) (run-calls (a .n) (a .numbers .now) (a .limit) (a .tolerance) (c .before .pre .allowed) .channels)
+
 put-axes-requires : tie.Need-put-axes-requires
 put-axes-requires c κs =
     let s = c .before .before .before .before .before .before .before .before .before .before in
     let head = c .before .before .put .ensures in
-    (channels _ _ _ _ _ (s .pre), c .before .before .before .before .before .before .before .before .before .run .ensures .keeps, omega (arith, head .answer, same-size head, s .pre .room))
+    (kept-channels (c .before .before .before .before .before .before .before .before .before), c .before .before .before .before .before .before .before .before .before .run .ensures .keeps, omega (arith, head .answer, same-size head, s .pre .room))
 
 returns : tie.Need-returns
 unfolding solutionOf solution

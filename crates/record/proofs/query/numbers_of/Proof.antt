@@ -1,4 +1,4 @@
--- `report::values::joined` meets its contract: numbers read back from their bits, and a row of eight is its entries.
+-- `record::query::numbers_of` meets its contract: numbers read back from their bits, and a row of eight is its entries.
 use mathlib.Core.Path.{sym, ap, _∙_}
 use mathlib.Core.List.{List, [], _∷_}
 use lib.IntN.{ℤ, pos}
@@ -9,8 +9,8 @@ use mir.Facts.{toZ-ofZ}
 use borrow.Author.Needs.{needs}
 use Rattle.rotation.specs.Eight.{eight-of}
 use Rattle.rotation.specs.Turn.{eight}
-use Rattle.report.proofs.values.joined.Statement.{statement}
-use Rattle.report.proofs.values.joined.Tie as tie
+use Rattle.record.proofs.query.numbers_of.Statement.{statement}
+use Rattle.record.proofs.query.numbers_of.Tie as tie
 
 returns : tie.Need-returns
 unfolding eight
@@ -25,12 +25,12 @@ returns c =
     let f5 : SFits w64 (getD row 5 (pos 0)) = search needs in
     let f6 : SFits w64 (getD row 6 (pos 0)) = search needs in
     let f7 : SFits w64 (getD row 7 (pos 0)) = search needs in
-    (λ k. toZ-ofZ (s .fits .first) k ∷ toZ-ofZ (s .fits .second) k ∷ toZ-ofZ (s .fits .third) k
+    (λ k. toZ-ofZ (s .fits .number) k ∷ toZ-ofZ (s .fits .entry) k ∷ toZ-ofZ (s .fits .error) k
     ∷ toZ-ofZ f0 k ∷ toZ-ofZ f1 k ∷ toZ-ofZ f2 k ∷ toZ-ofZ f3 k ∷ toZ-ofZ f4 k ∷ toZ-ofZ f5 k ∷ toZ-ofZ f6 k ∷ toZ-ofZ f7 k ∷ [])
-    ∙ ap (λ (l : List ℤ). s .args .first ∷ s .args .second ∷ s .args .third ∷ l) (sym (eight-of row (pos 0) (s .good .1 .1 .1 .0 .1 .0 .1)))
+    ∙ ap (λ (l : List ℤ). s .args .number ∷ s .args .entry ∷ s .args .error ∷ l) (sym (eight-of row (pos 0) (s .good .1 .1 .1 .0 .1 .0 .1)))
 
-pub joined-spec : {M : Type 1} → statement M
-joined-spec =
+pub numbers-of-spec : {M : Type 1} → statement M
+numbers-of-spec =
     tie.close
     (tie.spec
     (λ c. search needs)
