@@ -55,14 +55,21 @@ fn runs(n: usize, limit: u64) -> ([f64; 3], f64) {
     (least([&mut first, &mut second, &mut third]), sweeps as f64)
 }
 
-/// Prints the figures; gives the ratio of whole runs, proved to plain, by n.
-pub fn measure() -> Vec<(usize, f64)> {
+/// The proved time by the plain one's for each n: of whole runs, and of a further sweep.
+#[derive(Default)]
+pub struct Ratios {
+    pub whole: Vec<(usize, f64)>,
+    pub further: Vec<(usize, f64)>,
+}
+
+/// Prints the figures, and gives the ratios by n.
+pub fn measure() -> Ratios {
     println!("solver, ns a sweep; plain rounds by the sign, plain* without a branch");
     println!(
         "whole runs with limit 16; then a further sweep: runs with limit 3 less runs with limit 1"
     );
     println!("n  proved   plain  ratio  plain*  ratio    proved   plain  ratio  plain*  ratio");
-    let mut ratios = Vec::new();
+    let mut ratios = Ratios::default();
     for n in 2..=8 {
         let (whole, sweeps) = runs(n, 16);
         let (one, first) = runs(n, 1);
@@ -80,7 +87,8 @@ pub fn measure() -> Vec<(usize, f64)> {
             )
         };
         println!("{n} {}   {}", columns(whole), columns(further));
-        ratios.push((n, whole[0] / whole[1]));
+        ratios.whole.push((n, whole[0] / whole[1]));
+        ratios.further.push((n, further[0] / further[1]));
     }
     ratios
 }
