@@ -5,7 +5,8 @@ use mathlib.Core.List.{List, [], _∷_}
 use lib.IntN.{ℤ, pos}
 use lib.ListN.{replicate}
 use Rattle.limits.specs.Limits.{toleranceLimit}
-use Rattle.report.specs.Report.{printedOf}
+use Rattle.job.specs.Reply.{printedOf}
+use Rattle.report.specs.Report.{reportOf}
 use Rattle.rotation.specs.Cards as turning
 use Rattle.rounding.specs.Cards.{Card2, card2}
 use Rattle.rounding.specs.Rounding.{rnd}
@@ -58,7 +59,7 @@ pub record BenchCards : Type 0 where
   pub card10 : (us : List ℤ) → Card10 us
   pub card11 : Card11
   -- 12. The report above.
-  pub card12 : printedOf jobText ≡ reportText
+  pub card12 : printedOf reportOf jobText ≡ reportText
 
 equal : (n k : ℕ) (s : Sample) (limit t : ℕ) → 2 ≤ n → n ≤ 8 → t ≤ toleranceLimit → Card9 n k s limit t
 equal n k s limit t low high few =

@@ -12,7 +12,8 @@ use Rattle.job.specs.Range.{parametersInRange, sampleInRange}
 use Rattle.job.specs.Text.{numberOf, numbersOf, isTag, recordOf, lineOf}
 use Rattle.job_table.specs.Held.{sumsFor, tableFor}
 use Rattle.record.specs.AxisNumbers.{axisValues}
-use Rattle.report.specs.Report.{outcomeWord, runFor, lineR, lineA, reportOf, printedBy, printedOf}
+use Rattle.report.specs.Report.{outcomeWord, runFor, lineR, lineA, reportOf}
+use Rattle.job.specs.Reply.{printedBy, printedOf}
 use Rattle.rounding.specs.Rounding.{rnd}
 use Rattle.run.specs.Cards as running
 use Rattle.scatter.specs.Samples.{samples, sampleAt, sumsOf, sumsAt, sum, products, z}
@@ -94,6 +95,6 @@ report : reportOf job ≡ reportText
 unfolding reportOf lines
 report = rw (first, ran, axis-1, axis-2)
 
-pub prints-the-report : printedOf jobText ≡ reportText
+pub prints-the-report : printedOf reportOf jobText ≡ reportText
 unfolding printedOf printedBy
-prints-the-report = ap printedBy read ∙ report
+prints-the-report = ap (printedBy reportOf) read ∙ report

@@ -5,7 +5,8 @@ use Prim.Native.Nat.{ℕ}
 use lib.IntN.{ℤ}
 use lib.ListN.{length}
 use Rattle.play.specs.Buffer as played
-use Rattle.report.specs.Report.{bufferOf, reportedOf}
+use Rattle.job.specs.Reply.{bufferOf, replyOf}
+use Rattle.report.specs.Report.{reportOf}
 use Rattle.field_axes.specs.Answer.{answered, lent}
 use Rattle.field_axes.specs.Calls.{lengthOrShort}
 use Rattle.field_axes.specs.Report.{lengthOrNumber, refusedLine}
@@ -21,9 +22,9 @@ pub record Tabulates (n : ℕ) (dilutions counts : List ℕ) (entry exit : List 
   pub buffer : exit ≡ lent (tableRefusal n dilutions counts (length entry)) (tableNumbersOf n dilutions counts) entry
 
 pub record ReportsText (text entry exit : List ℕ) (at : ℕ) (r : ℤ) : Type 0 where
-  pub answer : r ≡ lengthOrNumber (reportedOf text (length entry))
-  pub line : at ≡ refusedLine (reportedOf text (length entry))
-  pub buffer : exit ≡ bufferOf text entry
+  pub answer : r ≡ lengthOrNumber (replyOf reportOf text (length entry))
+  pub line : at ≡ refusedLine (replyOf reportOf text (length entry))
+  pub buffer : exit ≡ bufferOf reportOf text entry
 
 pub record PlaysText (text entry exit : List ℕ) (r : ℤ) : Type 0 where
   pub answer : r ≡ lengthOrShort (played.outputOf text (length entry))

@@ -3,8 +3,8 @@ mod numbers;
 mod solve;
 mod table;
 
+use job::reply::Reply;
 use play::Output;
-use report::Reported;
 ghost use Rattle.field_axes.specs.Done.{PlaysText, ReportsText, Solves, Tabulates};
 
 // A run on n×n numbers, row after row, and its axes. Into `out`: the outcome (0 settled, 1 still, 2 spent), the sweeps run, m, then for
@@ -52,11 +52,11 @@ pub extern "C" fn field_axes_report(text: &[u8], out: &mut [u8], line: &mut usiz
 {
     let done = report::report(text, out);
     match done {
-        Reported::Written(length) => {
+        Reply::Written(length) => {
             *line = 0;
             length as i64
         }
-        Reported::Refused(number, at) => {
+        Reply::Refused(number, at) => {
             *line = at;
             numbers::refused(number as u32)
         }

@@ -5,3 +5,5 @@ pub mod Values
 pub mod Reading
 pub mod Scan
 pub mod Examples
+pub mod Reply
+pub mod Replying

@@ -3,6 +3,7 @@ mod field;
 mod first;
 mod last;
 mod ranges;
+pub mod reply;
 mod sample;
 mod samples;
 

@@ -1,6 +1,4 @@
 mod Written
 mod Bounds
 mod Same
-mod Read
-pub mod Print
 pub mod Certificate

@@ -1,15 +1,14 @@
 -- The text that is written is the report: the R line's numbers and the A lines' are the job's.
 use Prim.Native.Nat.{ℕ, suc, _+_, _<_, _≤_}
-use mathlib.Core.Path.{_≡_, refl, ap, _∙_}
+use mathlib.Core.Path.{_≡_, refl, ap}
 use mathlib.Core.Bool.{Bool, true, false, cond}
 use mathlib.Core.List.{List, [], _∷_, _++_}
-use native.Mathlib.Nat.{zero-add}
 use native.Mathlib.Omega.{arith}
-use borrow.Author.Tests.{le-leb, lt-leb, lt-ltb}
+use borrow.Author.Tests.{lt-ltb}
 use lib.Dec.{ltb}
 use lib.IntN.{ℤ, pos}
 use lib.ListN.{length, replicate}
-use Rattle.job.specs.Job.{Job, accepted}
+use Rattle.job.specs.Job.{Job}
 use Rattle.job.specs.Values.{Proper}
 use Rattle.ledger.specs.Call.{axis}
 use Rattle.record.specs.AxisNumbers.{axesNumbers, axisNumbers, length-numbers, two-before}
@@ -19,11 +18,8 @@ use Rattle.rotation.specs.Eight.{getD-eight}
 use Rattle.text.specs.Line.{numberLine}
 use Rattle.text.specs.Lines.{lines-same}
 use Rattle.text.specs.Rows.{Wide, rowLine}
-use Rattle.text.specs.Put.{Put}
-use Rattle.report.specs.Done.{Answers}
 use Rattle.report.specs.Lines.{headOf, textOf}
-use Rattle.report.specs.Report.{Short, bufferBy, lineA, lineR, reportOf, reportedBy, runFor}
-use Rattle.report.specs.declared.Reported.the-variants as reported
+use Rattle.report.specs.Report.{lineA, lineR, reportOf, runFor}
 use Rattle.report.proofs.Bounds.{run-channels}
 
 module _ (r : Record) where
@@ -53,17 +49,3 @@ module _ (r : Record) where
 pub text-same : (j : Job) → j .n ≤ 8 → Proper j → textOf (headOf j) (runFor j .outcome) (axesNumbers (runFor j .last)) (j .n) ≡ reportOf j
 unfolding textOf headOf reportOf lineR
 text-same j h p = ap (λ l. lineR j ++ l) (lines-same (j .n) _ _ (λ i l. line-same (runFor j .last) (j .n) i (run-channels j p) l h))
-
-module _ (j : Job) (short : length (reportOf j) ≤ 2048) (entry : List ℕ) where
-  pub too-short : length entry < length (reportOf j) → Answers (accepted j) entry entry (reported.Refused 12 0)
-  unfolding reportedBy bufferBy Short
-  too-short h =
-      let test = lt-leb (length (reportOf j)) (length entry) h in
-      record { answer = rw test; buffer = rw test; short = short }
-
-  pub put-whole : (exit : List ℕ) (r : ℕ) → Put (reportOf j) 0 entry exit r → Answers (accepted j) entry exit (reported.Written r)
-  unfolding reportedBy bufferBy Short
-  put-whole exit r p =
-      let e : r ≡ length (reportOf j) = p .answer ∙ zero-add _ in
-      let test = le-leb (length (reportOf j)) (length entry) (omega (arith, p .within, e)) in
-      record { answer = rw (test, e); buffer = rw test (p .bytes); short = short }

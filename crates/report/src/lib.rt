@@ -2,18 +2,14 @@
 mod lines;
 
 use job::Job;
+use job::reply::Reply;
 use record::run::Ran;
 ghost use Rattle.job.specs.Job.{accepted};
 ghost use Rattle.job_table.specs.Held.{Held, jobIn};
 ghost use Rattle.text.specs.Put.{Put};
-ghost use Rattle.report.specs.Done.{Answers, Reports, Solves};
-ghost use Rattle.report.specs.Report.{printedOf};
-
-// The report's length, or the refusal's number and the line.
-pub enum Reported {
-    Written(usize),
-    Refused(u8, usize),
-}
+ghost use Rattle.job.specs.Reply.{Answers, Replies, printedOf};
+ghost use Rattle.report.specs.Done.{Solves};
+ghost use Rattle.report.specs.Report.{reportOf};
 
 // The table's shift, and the run on the table.
 struct Solved {
@@ -34,9 +30,9 @@ fn solve(job: Job) -> Solved
 }
 
 // The length is known before the first byte is written, so a buffer that is too short stays as it is.
-fn report_job(job: Job, buf: &mut [u8]) -> Reported
+fn report_job(job: Job, buf: &mut [u8]) -> Reply
     requires { ⌜ Held job ⌝ }
-    ensures { λ r. ⌜ Answers (accepted (jobIn job)) (now (buf .entry)) (now (buf .exit)) r ⌝ }
+    ensures { λ r. ⌜ Answers reportOf (accepted (jobIn job)) (now (buf .entry)) (now (buf .exit)) r ⌝ }
 {
     let n = job.n;
     let solved = solve(job);
@@ -53,18 +49,18 @@ fn report_job(job: Job, buf: &mut [u8]) -> Reported
     let axes = last.axes_numbers();
     let length = lines::text_length(&head, outcome, &axes, n);
     if buf.len() < length {
-        return Reported::Refused(12, 0);
+        return Reply::Refused(12, 0);
     }
-    Reported::Written(lines::put_text(buf, &head, outcome, &axes, n))
+    Reply::Written(lines::put_text(buf, &head, outcome, &axes, n))
 }
 
-pub fn report(text: &[u8], buf: &mut [u8]) -> Reported
-    ensures { λ r. ⌜ Reports (now (text .entry)) (now (buf .entry)) (now (buf .exit)) r ⌝ }
+pub fn report(text: &[u8], buf: &mut [u8]) -> Reply
+    ensures { λ r. ⌜ Replies reportOf (now (text .entry)) (now (buf .entry)) (now (buf .exit)) r ⌝ }
 {
     let reading = job::read(text);
     let outcome = reading.outcome;
     if let job::Outcome::Refused(number, line) = outcome {
-        return Reported::Refused(number, line);
+        return Reply::Refused(number, line);
     }
     let job = reading.job;
     report_job(job, buf)
@@ -72,11 +68,11 @@ pub fn report(text: &[u8], buf: &mut [u8]) -> Reported
 
 // What the program prints, at the front of the buffer: the report, or the line of the refusal.
 pub fn answer(text: &[u8], out: &mut [u8; 2048]) -> usize
-    ensures { λ r. ⌜ Put (printedOf (now (text .entry))) 0 (now (out .entry)) (now (out .exit)) r ⌝ }
+    ensures { λ r. ⌜ Put (printedOf reportOf (now (text .entry))) 0 (now (out .entry)) (now (out .exit)) r ⌝ }
 {
     let done = report(text, out);
     match done {
-        Reported::Written(length) => length,
-        Reported::Refused(number, line) => text::put_refusal(out, number, line),
+        Reply::Written(length) => length,
+        Reply::Refused(number, line) => text::put_refusal(out, number, line),
     }
 }

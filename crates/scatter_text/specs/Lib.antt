@@ -2,4 +2,3 @@ pub mod Table
 pub mod Done
 pub mod Rows
 pub mod Laws
-pub mod Printed

@@ -2,20 +2,16 @@
 mod rows;
 
 use job::Job;
+use job::reply::Reply;
 ghost use Prim.Native.Nat.{_≤_};
 ghost use lib.ListN.{length, take};
 ghost use Rattle.job.specs.Job.{accepted};
 ghost use Rattle.job_table.specs.Held.{Held, jobIn};
 ghost use Rattle.text.specs.Put.{Put, Sized};
 ghost use Rattle.text.specs.Rows.{Wide};
-ghost use Rattle.scatter_text.specs.Done.{Answers, Tables, textOf};
-ghost use Rattle.scatter_text.specs.Table.{printedOf};
-
-// The text's length, or the refusal's number and the line.
-pub enum Tabled {
-    Written(usize),
-    Refused(u8, usize),
-}
+ghost use Rattle.job.specs.Reply.{Answers, Replies, printedOf};
+ghost use Rattle.scatter_text.specs.Done.{textOf};
+ghost use Rattle.scatter_text.specs.Table.{tableText};
 
 fn text_length(head: &[i64; 3], n: usize, rows: &[[i64; 11]; 8]) -> usize
     requires { ⌜ (n ≤ 8) × Wide (now rows) ⌝ }
@@ -33,9 +29,9 @@ fn put_text(buf: &mut [u8], head: &[i64; 3], n: usize, rows: &[[i64; 11]; 8]) ->
 }
 
 // The length is known before the first byte is written, so a buffer that is too short stays as it is.
-fn table_job(job: Job, buf: &mut [u8]) -> Tabled
+fn table_job(job: Job, buf: &mut [u8]) -> Reply
     requires { ⌜ Held job ⌝ }
-    ensures { λ r. ⌜ Answers (accepted (jobIn job)) (now (buf .entry)) (now (buf .exit)) r ⌝ }
+    ensures { λ r. ⌜ Answers tableText (accepted (jobIn job)) (now (buf .entry)) (now (buf .exit)) r ⌝ }
 {
     let n = job.n;
     let table = job_table::table_of(job);
@@ -44,18 +40,18 @@ fn table_job(job: Job, buf: &mut [u8]) -> Tabled
     let rows = rows::rows_of(n, &sums);
     let length = text_length(&head, n, &rows);
     if buf.len() < length {
-        return Tabled::Refused(12, 0);
+        return Reply::Refused(12, 0);
     }
-    Tabled::Written(put_text(buf, &head, n, &rows))
+    Reply::Written(put_text(buf, &head, n, &rows))
 }
 
-pub fn table_text(text: &[u8], buf: &mut [u8]) -> Tabled
-    ensures { λ r. ⌜ Tables (now (text .entry)) (now (buf .entry)) (now (buf .exit)) r ⌝ }
+pub fn table_text(text: &[u8], buf: &mut [u8]) -> Reply
+    ensures { λ r. ⌜ Replies tableText (now (text .entry)) (now (buf .entry)) (now (buf .exit)) r ⌝ }
 {
     let reading = job::read(text);
     let outcome = reading.outcome;
     if let job::Outcome::Refused(number, line) = outcome {
-        return Tabled::Refused(number, line);
+        return Reply::Refused(number, line);
     }
     let job = reading.job;
     table_job(job, buf)
@@ -63,11 +59,11 @@ pub fn table_text(text: &[u8], buf: &mut [u8]) -> Tabled
 
 // What the program prints, at the front of the buffer: the table's text, or the line of the refusal.
 pub fn answer(text: &[u8], out: &mut [u8; 2048]) -> usize
-    ensures { λ r. ⌜ Put (printedOf (now (text .entry))) 0 (now (out .entry)) (now (out .exit)) r ⌝ }
+    ensures { λ r. ⌜ Put (printedOf tableText (now (text .entry))) 0 (now (out .entry)) (now (out .exit)) r ⌝ }
 {
     let tabled = table_text(text, out);
     match tabled {
-        Tabled::Written(length) => length,
-        Tabled::Refused(number, line) => text::put_refusal(out, number, line),
+        Reply::Written(length) => length,
+        Reply::Refused(number, line) => text::put_refusal(out, number, line),
     }
 }

@@ -1,8 +1,8 @@
 // Stored jobs through the library: the report of each, or the line of its refusal, one after another. The file `jobs` has for each job its
 // length, a blank, the size of the buffer that is lent for its report, a line feed, and its bytes. What must be written comes from an
 // independent implementation.
+use job::reply::Reply;
 use libc::STDOUT_FILENO;
-use report::Reported;
 ghost use Prim.Native.Nat.{_≤_, _<_};
 ghost use lib.ListN.{length};
 
@@ -75,8 +75,8 @@ fn printed(text: &[u8], size: usize, out: &mut [u8]) -> usize
 {
     let done = report::report(text, &mut out[..size]);
     match done {
-        Reported::Written(length) => length,
-        Reported::Refused(number, line) => text::put_refusal(out, number, line),
+        Reply::Written(length) => length,
+        Reply::Refused(number, line) => text::put_refusal(out, number, line),
     }
 }
 

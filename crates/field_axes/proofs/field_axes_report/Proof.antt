@@ -8,7 +8,7 @@ use mir.Val.{SFits}
 use mir.Facts.{toZ-ofZ, toZ-pos}
 use borrow.Author.Needs.{needs}
 use Rattle.integer.specs.Word.{held}
-use Rattle.report.specs.declared.Reported.the-variants.{Written, Refused}
+use Rattle.job.specs.declared.reply.Reply.the-variants.{Written, Refused}
 use Rattle.field_axes.specs.Report.{lengthOrNumber, refusedLine}
 use Rattle.field_axes.proofs.Reporting.{as-numbers, short}
 use Rattle.field_axes.proofs.field_axes_report.Statement.{statement}

@@ -5,8 +5,9 @@ use native.Mathlib.Omega.{arith}
 use lib.ListN.{length}
 use borrow.Author.Needs.{needs}
 use Rattle.text.specs.Line.{lineX}
-use Rattle.report.specs.Report.{printedOf}
-use Rattle.report.proofs.Print.{written-printed, refused-printed}
+use Rattle.job.specs.Reply.{printedOf}
+use Rattle.job.specs.Replying.{refused-printed, written-printed}
+use Rattle.report.specs.Report.{reportOf}
 use Rattle.report.proofs.answer.Statement.{statement}
 use Rattle.report.proofs.answer.Tie as tie
 
@@ -14,13 +15,13 @@ room : (c : tie.After-report-arg) → 2048 ≤ length (c .before .before .args .
 room c = omega (arith, c .report-arg .given .0)
 
 returns : tie.Need-returns
-returns c = written-printed _ _ _ _ (c .before .before .before .report .ensures) _ (c .before .done .given .1)
+returns c = written-printed _ _ _ _ _ (c .before .before .before .report .ensures) _ (c .before .done .given .1)
 
 -- At a refusal the buffer is as it was, and the refusal's line is to be printed.
-denied : (c : tie.After-done2) → (c .before .before .report .last .1 .0 ≡ c .before .before .before .before .before .args .out .now) × (printedOf (c .before .before .before .before .before .args .text .now) ≡ lineX (c .done2 .given .0 .0) (c .done2 .given .0 .1 .0))
+denied : (c : tie.After-done2) → (c .before .before .report .last .1 .0 ≡ c .before .before .before .before .before .args .out .now) × (printedOf reportOf (c .before .before .before .before .before .args .text .now) ≡ lineX (c .done2 .given .0 .0) (c .done2 .given .0 .1 .0))
 denied c =
     let done = c .before .before in
-    refused-printed _ _ _ _ (done .report .ensures) _ _ (room (done .before)) (c .done2 .given .1)
+    refused-printed _ _ _ _ _ (done .report .ensures) _ _ (room (done .before)) (c .done2 .given .1)
 
 put-refusal-requires : tie.Need-put-refusal-requires
 put-refusal-requires c κs = rw (denied (c .before .before) .0) (omega (arith, room (c .before .before .before .before .before)))

@@ -1,14 +1,14 @@
 -- `report::report` meets its contract: what the text was read as picks the branch.
 use borrow.Author.Needs.{needs}
 use Rattle.job_table.specs.Laws.{Read, accepted-read}
-use Rattle.report.proofs.Read.{answers-reports, refused-reports}
+use Rattle.job.specs.Replying.{replies-answered, replies-refused}
 use Rattle.report.proofs.report.Statement.{statement}
 use Rattle.report.proofs.report.Tie as tie
 
 returns : tie.Need-returns
 returns c =
     let read = c .before .before .before in
-    refused-reports _ _ _ _ (rw (read .read .ensures) at (c .before .outcome .given .1))
+    replies-refused _ _ _ _ _ (rw (read .read .ensures) at (c .before .outcome .given .1))
 
 -- The job that was read is the text's.
 held : (c : tie.After-enum-told) → Read (c .before .before .before .before .before .args .text .now) (c .before .before .read .result .job)
@@ -19,7 +19,7 @@ held c =
 returns-2 : tie.Need-returns-2
 returns-2 c =
     let done = c .before .before in
-    answers-reports _ _ _ _ _ (held (done .before .before .before) .is) (done .report-job .ensures)
+    replies-answered _ _ _ _ _ _ (held (done .before .before .before) .is) (done .report-job .ensures)
 
 pub report-spec : {M : Type 1} → statement M
 report-spec =

@@ -10,6 +10,7 @@ use mir.Val.{toZ, SFits}
 use mir.Facts.{toZ-ofZ}
 use borrow.Author.Needs.{needs}
 use Rattle.job.specs.Job.{Job}
+use Rattle.job.specs.Replying.{put-whole, too-short}
 use Rattle.job_table.specs.Held.{jobIn}
 use Rattle.job_table.specs.Laws.{channels-held, samples-few, samples-held}
 use Rattle.record.specs.AxisNumbers.{axesNumbers}
@@ -19,7 +20,7 @@ use Rattle.text.specs.Rows.{Wide}
 use Rattle.report.specs.Lines.{textOf, headOf}
 use Rattle.report.specs.Report.{reportOf}
 use Rattle.report.proofs.Bounds.{sweeps-most}
-use Rattle.report.proofs.Same.{axes-wide, text-same, too-short, put-whole}
+use Rattle.report.proofs.Same.{axes-wide, text-same}
 use Rattle.report.proofs.report_job.Statement.{statement}
 use Rattle.report.proofs.report_job.Tie as tie
 
@@ -93,7 +94,7 @@ returns : tie.Need-returns
 returns c =
     let l = c .before in
     let a = l .before .before .before in
-    too-short (j a) (short l) (start a .args .buf .now) (omega (arith, c .if1 .taken, sized l .exact))
+    too-short reportOf (j a) (short l) (start a .args .buf .now) (omega (arith, c .if1 .taken, sized l .exact))
 
 put-text-requires : tie.Need-put-text-requires
 put-text-requires c κs =
@@ -105,7 +106,7 @@ returns-2 : tie.Need-returns-2
 returns-2 c =
     let l = c .before .before .before .before .before .before .before in
     let a = l .before .before .before in
-    put-whole (j a) (short l) (start a .args .buf .now) _ _ (rw (text a) at (c .before .before .put-text .ensures))
+    put-whole reportOf (j a) (short l) (start a .args .buf .now) _ _ (rw (text a) at (c .before .before .put-text .ensures))
 
 pub report-job-spec : {M : Type 1} → statement M
 report-job-spec =

@@ -1,9 +1,13 @@
 -- `scatter_text::answer` meets its contract: 2,048 bytes are room for every text, and for the line of a refusal.
 use Prim.Native.Nat.{_≤_}
+use mathlib.Core.Path.{_≡_}
 use native.Mathlib.Omega.{arith}
 use borrow.Author.Needs.{needs}
 use lib.ListN.{length}
-use Rattle.scatter_text.specs.Printed.{Denied, printed-text, printed-refusal}
+use Rattle.job.specs.Reply.{printedOf}
+use Rattle.job.specs.Replying.{refused-printed, written-printed}
+use Rattle.scatter_text.specs.Table.{tableText}
+use Rattle.text.specs.Line.{lineX}
 use Rattle.scatter_text.proofs.answer.Statement.{statement}
 use Rattle.scatter_text.proofs.answer.Tie as tie
 
@@ -11,24 +15,21 @@ room : (c : tie.After-table-text-arg) → 2048 ≤ length (c .before .before .ar
 room c = omega (arith, c .table-text-arg .given .0)
 
 returns : tie.Need-returns
-returns c =
-    let tabled = c .before .before .before in
-    let arg = tabled .before in
-    let start = arg .before .before in
-    printed-text (start .args .text .now) (start .args .out .now) (tabled .table-text .last .1 .0) (room arg) _ (rw (c .before .tabled .given .1) at (tabled .table-text .ensures))
+returns c = written-printed _ _ _ _ _ (c .before .before .before .table-text .ensures) _ (c .before .tabled .given .1)
 
-denied : (c : tie.After-tabled2) → Denied (c .before .before .before .before .before .args .text .now) (c .tabled2 .given .0 .0) (c .tabled2 .given .0 .1 .0) (c .before .before .before .before .before .args .out .now) (c .before .before .table-text .last .1 .0)
+-- At a refusal the buffer is as it was, and the refusal's line is to be printed.
+denied : (c : tie.After-tabled2) → (c .before .before .table-text .last .1 .0 ≡ c .before .before .before .before .before .args .out .now) × (printedOf tableText (c .before .before .before .before .before .args .text .now) ≡ lineX (c .tabled2 .given .0 .0) (c .tabled2 .given .0 .1 .0))
 denied c =
     let tabled = c .before .before in
-    printed-refusal _ _ _ (room (tabled .before)) _ _ (rw (c .tabled2 .given .1) at (tabled .table-text .ensures))
+    refused-printed _ _ _ _ _ (tabled .table-text .ensures) _ _ (room (tabled .before)) (c .tabled2 .given .1)
 
 put-refusal-requires : tie.Need-put-refusal-requires
-put-refusal-requires c κs = rw (denied (c .before .before) .stays) (omega (arith, room (c .before .before .before .before .before)))
+put-refusal-requires c κs = rw (denied (c .before .before) .0) (omega (arith, room (c .before .before .before .before .before)))
 
 returns-2 : tie.Need-returns-2
 returns-2 c =
     let d = denied (c .before .before .before) in
-    rw (d .is) (rw (d .stays) at (c .put-refusal .ensures))
+    rw (d .1) (rw (d .0) at (c .put-refusal .ensures))
 
 pub answer-spec : {M : Type 1} → statement M
 answer-spec =

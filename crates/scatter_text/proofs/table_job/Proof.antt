@@ -1,18 +1,22 @@
 -- `scatter_text::table_job` meets its contract: the text is that of the job's table, and it is written where it fits.
 use mathlib.Core.Path.{_≡_, ap, _∙_}
 use mathlib.Core.List.{[], _∷_}
+use Prim.Native.Nat.{_≤_}
 use native.Mathlib.Omega.{arith}
 use borrow.Author.Needs.{needs}
+use lib.ListN.{length}
 use mir.Syntax.{w64}
 use mir.Val.{toZ}
 use mir.Facts.{toZ-pos}
 use Rattle.job.specs.declared.Job as arrays
+use Rattle.job.specs.Replying.{put-whole, too-short}
 use Rattle.job_table.specs.Held.{jobIn}
 use Rattle.job_table.specs.Laws.{channels-held, samples-few, shift-few}
 use Rattle.scatter.specs.declared.table.Table.{Table}
+use Rattle.text.specs.Put.{Sized}
 use Rattle.text.specs.Rows.{Wide}
 use Rattle.scatter_text.specs.Done.{textOf}
-use Rattle.scatter_text.specs.Laws.{text-of-arrays, answers-written, answers-short}
+use Rattle.scatter_text.specs.Laws.{text-of-arrays}
 use Rattle.scatter_text.specs.Rows.{rows-wide}
 use Rattle.scatter_text.specs.Table.{tableText}
 use Rattle.scatter_text.proofs.table_job.Statement.{statement}
@@ -43,11 +47,14 @@ module _ (c : tie.After-rows-of) where
   wide : Wide (c .rows-of .result)
   wide = rw (c .rows-of .ensures) (rows-wide (job .n) (table .scatter))
 
+sized : (c : tie.After-text-length) → Sized (tableText (jobIn (job (c .before .before .before)))) 2048 (c .text-length .result)
+sized c = rw (written (c .before .before .before)) at (c .text-length .ensures)
+
+few : (c : tie.After-text-length) → length (tableText (jobIn (job (c .before .before .before)))) ≤ 2048
+few c = omega (arith, sized c .exact, sized c .bounded)
+
 short : tie.Need-returns
-short c =
-    let sized = c .before .text-length .ensures in
-    let made = c .before .before .before .before in
-    answers-short (jobIn (job made)) (written made) (omega (arith, sized .exact, sized .bounded)) (omega (arith, sized .exact, c .if1 .taken))
+short c = let l = c .before in too-short tableText (jobIn (job (l .before .before .before))) (few l) _ (omega (arith, sized l .exact, c .if1 .taken))
 
 put-text-requires : tie.Need-put-text-requires
 put-text-requires c κs =
@@ -58,10 +65,9 @@ put-text-requires c κs =
 long : tie.Need-returns-2
 long c =
     let put = c .before .before in
-    let length = put .before .before .before .before .before in
-    let made = length .before .before .before in
-    let sized = length .text-length .ensures in
-    answers-written (jobIn (job made)) (written made) (omega (arith, sized .exact, sized .bounded)) (put .put-text .ensures)
+    let l = put .before .before .before .before .before in
+    let made = l .before .before .before in
+    put-whole tableText (jobIn (job made)) (few l) _ _ _ (rw (written made) at (put .put-text .ensures))
 
 pub table-job-spec : {M : Type 1} → statement M
 table-job-spec =

@@ -1,7 +1,7 @@
 -- `scatter_text::table_text` meets its contract: the job's refusal is the answer, or the table of the job that was read.
 use borrow.Author.Needs.{needs}
 use Rattle.job_table.specs.Laws.{Read, accepted-read}
-use Rattle.scatter_text.specs.Laws.{tables-refused, tables-answered}
+use Rattle.job.specs.Replying.{replies-answered, replies-refused}
 use Rattle.scatter_text.proofs.table_text.Statement.{statement}
 use Rattle.scatter_text.proofs.table_text.Tie as tie
 
@@ -9,7 +9,7 @@ returns : tie.Need-returns
 returns c =
     let read = c .before .before .before in
     let start = read .before .before .before in
-    tables-refused (start .args .text .now) (start .args .buf .now) _ _ (rw (read .read .ensures) at (c .before .outcome .given .1))
+    replies-refused _ (start .args .text .now) (start .args .buf .now) _ _ (rw (read .read .ensures) at (c .before .outcome .given .1))
 
 -- The job that was read is the text's.
 held : (c : tie.After-enum-told) → Read (c .before .before .before .before .before .args .text .now) (c .before .before .read .result .job)
@@ -22,7 +22,7 @@ returns-2 : tie.Need-returns-2
 returns-2 c =
     let tabled = c .before .before in
     let told = tabled .before .before .before in
-    tables-answered _ _ _ _ _ (held told .is) (tabled .table-job .ensures)
+    replies-answered _ _ _ _ _ _ (held told .is) (tabled .table-job .ensures)
 
 pub table-text-spec : {M : Type 1} → statement M
 table-text-spec =

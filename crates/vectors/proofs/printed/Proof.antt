@@ -3,7 +3,7 @@ use mathlib.Core.Path.{sym}
 use native.Mathlib.Omega.{arith}
 use borrow.Author.Needs.{needs}
 use lib.Seq.{length-take-le}
-use Rattle.report.proofs.Print.{written-printed}
+use Rattle.job.specs.Replying.{written-printed}
 use Rattle.vectors.proofs.printed.Statement.{statement}
 use Rattle.vectors.proofs.printed.Tie as tie
 
@@ -14,7 +14,7 @@ returns : tie.Need-returns
 returns c =
     let done = c .before .before .before .before .before in
     let s = done .before .before .before .before in
-    let w = written-printed _ _ _ _ (done .report .ensures) _ (c .before .done .given .1) .within in
+    let w = written-printed _ _ _ _ _ (done .report .ensures) _ (c .before .done .given .1) .within in
     omega (arith, rw (length-take-le _ _ (s .pre .0)) at w, s .pre .0)
 
 pub printed-spec : {M : Type 1} → statement M
