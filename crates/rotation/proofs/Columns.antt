@@ -1,8 +1,8 @@
 -- Rows p and q turned column by column.
-use mathlib.Core.Path.{_≡_, refl, sym, ap, _∙_}
+use mathlib.Core.Path.{_≡_, ap, _∙_}
 use mathlib.Core.Bool.{cond, _&&_}
 use mathlib.Core.List.{List, []}
-use Prim.Native.Nat.{ℕ, _+_, _<_, _≤_}
+use Prim.Native.Nat.{ℕ, _+_, _<_}
 use native.Mathlib.Decide.{decLt, ℕ-discrete}
 use native.Mathlib.Omega.{arith}
 use lib.Dec.{ltb}
@@ -17,7 +17,7 @@ use Rattle.rotation.specs.Shape.{Shaped}
 use Rattle.rotation.specs.Turn.{array, at, square, turnAxes, turnedAxes}
 use Rattle.rotation.specs.declared.pair.Rotation.{Rotation}
 use Rattle.rotation.proofs.Back.{inverse-first}
-use Rattle.rotation.proofs.Stored.{store, stored, stored-column, stored-here, stored-row}
+use Rattle.rotation.specs.Stored.{store, stored, stored-column, stored-here, stored-row}
 
 module _ (r : Rotation) (p q : ℕ) (v : List (List ℤ)) where
   -- the first k columns turned

@@ -5,5 +5,4 @@ mod Combination
 mod Pass
 mod Power
 mod Search
-mod Stored
 mod Whole

@@ -1,5 +1,5 @@
 -- The turn of the whole matrix, from its three steps: rows, block and mirrors.
-use mathlib.Core.Path.{_≡_, refl, sym, ap, ap₂, _∙_}
+use mathlib.Core.Path.{_≡_, refl, sym, ap, _∙_}
 use mathlib.Core.Bool.{cond, _&&_}
 use mathlib.Core.List.{List, []}
 use Prim.Native.Nat.{ℕ, _+_, _<_, _≤_}
@@ -11,7 +11,7 @@ use lib.ListN.{getD, set}
 use borrow.Author.Tests.{lt-ltb, le-ltb}
 use Rattle.integer.specs.Tests.{cond-same, next-test}
 use Rattle.rotation.specs.Eight.{at-eight, square-cong, square-of}
-use Rattle.rotation.specs.InPlace.{Passed, blockOf, mirrorOf}
+use Rattle.rotation.specs.InPlace.{Passed, blockOf, mirrorOf, withBlock}
 use Rattle.rotation.specs.Place.{Place, at-p, at-q, neither, place, atPair-p, atPair-q, atPair-neither}
 use Rattle.rotation.specs.Rotation.{first, second, inverse}
 use Rattle.rotation.specs.Shape.{Shaped}
@@ -20,7 +20,7 @@ use Rattle.rotation.specs.Turn.{array, at, atPair, hpp, hpq, hqp, hqq, n
 use Rattle.rotation.specs.declared.pair.Rotation.{Rotation}
 use Rattle.rotation.proofs.Back.{back-of, inverse-first}
 use Rattle.rotation.proofs.Pass.{first-size}
-use Rattle.rotation.proofs.Stored.{store, stored, stored-column, stored-here, stored-row}
+use Rattle.rotation.specs.Stored.{store, stored, stored-column, stored-here, stored-row}
 
 -- the four stores of the block
 module _ (p q : ℕ) (a : List (List ℤ)) (h : p < q) (b : q < 8) (pp pq qq : ℤ) where
@@ -58,17 +58,16 @@ module _ (p q : ℕ) (a : List (List ℤ)) (h : p < q) (b : q < 8) (pp pq qq : �
   abbrev put : List (List ℤ) → ℕ → ℕ → ℤ → List (List ℤ)
   put a p k x = set a p (set (getD a p []) k x)
 
-  pub block : (r : Rotation) → Shaped a → pp ≡ first r (at a p p) (at a p q) → pq ≡ second r (at a p p) (at a p q) → qq ≡ second r (at a q p) (at a q q)
-      → put (put (put (put a p p pp) p q pq) q p pq) q q qq ≡ square (blockOf p q (at a) r)
-  unfolding blockOf one two three
-  block r s epp epq eqq =
+  pub block : Shaped a → put (put (put (put a p p pp) p q pq) q p pq) q q qq ≡ square (withBlock p q (at a) pp pq qq)
+  unfolding withBlock one two three
+  block s =
       rw (
         (ap (λ a. put a p p pp) (square-of a s) ∙ store (at a) p p pp (omega arith) (omega arith)),
         store one p q pq (omega arith) b,
         store two q p pq b (omega arith),
         store three q q qq b b,
       )
-      (square-cong (λ i j _ _. four-is i j ∙ rw (epp, epq, eqq)))
+      (square-cong (λ i j _ _. four-is i j))
 
 -- a choice at p and q, both below n, goes under the test that a column is in use
 pair-in-use : {A : Type 0} (n p q j : ℕ) (x y z s : A) → p < q → q < n → atPair p q j x y (cond (ltb j n) z s) ≡ cond (ltb j n) (atPair p q j x y z) s
@@ -178,15 +177,15 @@ module _ (n : ℕ) (r : Rotation) (p q : ℕ) (a : List (List ℤ)) (h : p < q) 
     u = blockOf p q t r
 
     u-p : (j : ℕ) → j < 8 → u p j ≡ cond (ltb j n) (newp r p q (at a) j) (at a p j)
-    unfolding u blockOf newp newpp newpq
+    unfolding u blockOf withBlock newp newpp newpq
     u-p j m = rw (atPair-p, t-pp, t-pq, t-p j m) (pair-in-use n p q j _ _ _ _ h k)
 
     u-q : (j : ℕ) → j < 8 → u q j ≡ cond (ltb j n) (newq r p q (at a) j) (at a q j)
-    unfolding u blockOf newq newpq newqq
+    unfolding u blockOf withBlock newq newpq newqq
     u-q j m = rw (atPair-q p q _ _ _ h, t-pp, t-pq, t-qp, t-qq, t-q j m) (pair-in-use n p q j _ _ _ _ h k)
 
     u-other : (i j : ℕ) → i < 8 → j < 8 → (i ≡ p → ⊥) → (i ≡ q → ⊥) → u i j ≡ at a i j
-    unfolding u blockOf turnedAxes
+    unfolding u blockOf withBlock turnedAxes
     u-other i j l m e g =
         atPair-neither p q i _ _ _ e g ∙ t-is i j l m ∙ ap (λ z. cond (ltb i n && ltb j n) z (at a i j)) (atPair-neither p q i _ _ _ e g) ∙ cond-same (ltb i n && ltb j n) (at a i j)
 

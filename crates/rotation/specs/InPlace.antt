@@ -10,11 +10,13 @@ use Rattle.rotation.specs.Turn.{at, atPair}
 use Rattle.rotation.specs.declared.pair.Rotation.{Rotation}
 
 module _ (p q : ℕ) (f : ℕ → ℕ → ℤ) where
+  -- f with a block in rows and columns p and q
+  unfoldable pub withBlock : ℤ → ℤ → ℤ → ℕ → ℕ → ℤ
+  withBlock pp pq qq i j = atPair p q i (atPair p q j pp pq (f p j)) (atPair p q j pq qq (f q j)) (f i j)
+
   -- the second pass over the block that the first pass has left in f
   unfoldable pub blockOf : Rotation → ℕ → ℕ → ℤ
-  blockOf r i j =
-      atPair p q i (atPair p q j (first r (f p p) (f p q)) (second r (f p p) (f p q)) (f p j))
-      (atPair p q j (second r (f p p) (f p q)) (second r (f q p) (f q q)) (f q j)) (f i j)
+  blockOf r = withBlock (first r (f p p) (f p q)) (second r (f p p) (f p q)) (second r (f q p) (f q q))
 
   -- the first k rows take their entries in columns p and q from rows p and q
   unfoldable pub mirrorOf : ℕ → ℕ → ℕ → ℤ

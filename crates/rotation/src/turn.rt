@@ -1,7 +1,7 @@
 // The turn of the whole matrix and of the axes. Rows and columns count from 0; the first n are in use.
 ghost use mathlib.Core.Path.{_≡_};
 ghost use Prim.Native.Nat.{_<_, _≤_};
-ghost use Rattle.rotation.specs.InPlace.{Passed, blockOf, mirrorOf};
+ghost use Rattle.rotation.specs.InPlace.{Passed, blockOf, mirrorOf, withBlock};
 ghost use Rattle.rotation.specs.Shape.{Shaped};
 ghost use Rattle.rotation.specs.Size.{Small, Symmetric, Turns};
 ghost use Rattle.rotation.specs.Turn.{at, square, turnAxes, turnMatrix};
@@ -16,12 +16,23 @@ pub fn turn_axes_in_place(v: &mut [[i64; 8]; 8], n: usize, r: Rotation, p: usize
     let back = r.inverse();
     let mut j = 0;
     while j < n {
-        let u = pair::turned(r, v[p][j], v[q][j]);
-        let w = pair::turned(back, v[q][j], v[p][j]);
-        v[p][j] = u;
-        v[q][j] = w;
+        let x = v[p][j];
+        let y = v[q][j];
+        v[p][j] = pair::turned(r, x, y);
+        v[q][j] = pair::turned(back, y, x);
         j += 1;
     }
+}
+
+// The block of rows p and q; its entry at p, q stands at q, p too.
+fn put_block(a: &mut [[i64; 8]; 8], p: usize, q: usize, pp: i64, pq: i64, qq: i64)
+    requires { ⌜ (p < q) × (q < 8) × Shaped (now a) ⌝ }
+    ensures { λ z. ⌜ now (a .exit) ≡ square (withBlock p q (at (now (a .entry))) pp pq qq) ⌝ }
+{
+    a[p][p] = pp;
+    a[p][q] = pq;
+    a[q][p] = pq;
+    a[q][q] = qq;
 }
 
 // The second pass over the block. Its entries at p, q and at q, p are one number, rounded once.
@@ -29,14 +40,15 @@ fn turn_block(a: &mut [[i64; 8]; 8], r: Rotation, p: usize, q: usize)
     requires { ⌜ (p < q) × (q < 8) × Turns r × Passed r p q (now a) × Shaped (now a) ⌝ }
     ensures { λ z. ⌜ now (a .exit) ≡ square (blockOf p q (at (now (a .entry))) r) ⌝ }
 {
+    let h_pp = a[p][p];
+    let h_pq = a[p][q];
+    let h_qp = a[q][p];
+    let h_qq = a[q][q];
     let back = r.inverse();
-    let pp = pair::turned(r, a[p][p], a[p][q]);
-    let pq = pair::turned(back, a[p][q], a[p][p]);
-    let qq = pair::turned(back, a[q][q], a[q][p]);
-    a[p][p] = pp;
-    a[p][q] = pq;
-    a[q][p] = pq;
-    a[q][q] = qq;
+    let pp = pair::turned(r, h_pp, h_pq);
+    let pq = pair::turned(back, h_pq, h_pp);
+    let qq = pair::turned(back, h_qq, h_qp);
+    put_block(a, p, q, pp, pq, qq);
 }
 
 // Columns p and q from rows p and q, which agree where they cross.

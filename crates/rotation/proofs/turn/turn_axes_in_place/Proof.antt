@@ -50,8 +50,8 @@ turned-requires c κs =
 turned-requires-2 : tie.Need-turned-requires-2 Inv-loop μ-loop
 unfolding at
 turned-requires-2 c κs =
-    let l = c .before .before .before .before .before .before in
-    let h = c .before .before .before .before .before .loop-test .taken in
+    let l = c .before .before .before .before in
+    let h = c .before .before .before .loop-test .taken in
     let s = l .before .before in
     let back = back-of _ _ (s .pre .3) (l .before .inverse .ensures) .turns in (
       back .positive,
@@ -62,10 +62,10 @@ turned-requires-2 c κs =
 loop-again : tie.Need-loop-again Inv-loop μ-loop
 unfolding at
 loop-again c =
-    let l = c .before .before .before .before .before .before .before in
-    let h = c .before .before .before .before .before .before .loop-test .taken in
+    let l = c .before .before .before .before .before in
+    let h = c .before .before .before .before .loop-test .taken in
     let s = l .before .before in
-    let x = c .before .before .before .turned in
+    let x = c .before .turned in
     let y = c .turned2 in
     let f : SFits w64 (x .result) = search needs in
     let g : SFits w64 (y .result) = search needs in (
@@ -105,15 +105,7 @@ turn-axes-in-place-spec =
     (λ c. search needs)
     (λ c. search needs)
     (λ c. search needs)
-    (λ c. search needs)
-    (λ c. search needs)
-    (λ c. search needs)
-    (λ c. search needs)
     turned-requires-2
-    (λ c. search needs)
-    (λ c. search needs)
-    (λ c. search needs)
-    (λ c. search needs)
     (λ c. search needs)
     (λ c. search needs)
     (λ c. search needs)
