@@ -6,9 +6,9 @@ ghost use mathlib.Core.Path.{_≡_};
 ghost use Prim.Native.Nat.{_+_, _*_, _≤_};
 ghost use lib.IntN.{pos};
 ghost use lib.ListN.{length};
-ghost use Rattle.record.specs.Kept.{Kept};
 ghost use Rattle.text.specs.Put.{Put};
-ghost use Rattle.field_axes.specs.Solution.{axes, outcomeNumber, solutionOf, solveRefusal};
+ghost use Rattle.text.specs.Rows.{Wide};
+ghost use Rattle.field_axes.specs.Solution.{outcomeNumber, solutionOf, solveRefusal, used};
 ghost use Rattle.field_axes.specs.Solvable.{Solvable};
 
 // The refusal's number, or 0.
@@ -44,12 +44,11 @@ fn outcome_number(outcome: Outcome) -> i64
     }
 }
 
-// The axes 1 to n, each after the one before it.
-fn put_axes(n: usize, last: Record, out: &mut [i64], at: usize) -> usize
-    requires { ⌜ (last .n ≡ n) × Kept last × (at + n * (n + 2) ≤ length (now out)) ⌝ }
-    ensures { λ r. ⌜ Put (axes n last n) at (now (out .entry)) (now (out .exit)) r ⌝ }
+// The numbers of axes 1 to n, each after the one before it.
+fn put_axes(n: usize, axes: &[[i64; 11]; 8], out: &mut [i64], at: usize) -> usize
+    requires { ⌜ (n ≤ 8) × Wide (now axes) × (at + n * (n + 2) ≤ length (now out)) ⌝ }
+    ensures { λ r. ⌜ Put (used n (now (axes .entry)) n) at (now (out .entry)) (now (out .exit)) r ⌝ }
 {
-    let axes = last.axes_numbers();
     let end = n + 3;
     let mut next = at;
     let mut i = 0;
@@ -66,14 +65,10 @@ pub fn put_solution(n: usize, numbers: &[i64], limit: u64, tolerance: u64, out: 
     requires { ⌜ Solvable n (now numbers) limit tolerance (length (now out)) ⌝ }
     ensures { λ r. ⌜ Put (solutionOf n (now (numbers .entry)) limit tolerance) 0 (now (out .entry)) (now (out .exit)) r ⌝ }
 {
-    let ran = run::run(n, numbers, limit, tolerance);
-    let outcome = ran.outcome;
-    let last = ran.last;
-    let head = [
-        outcome_number(outcome),
-        ran.sweeps as i64,
-        last.turns() as i64,
-    ];
+    let mut axes = [[0i64; 11]; 8];
+    let run = run::run(n, numbers, limit, tolerance, &mut axes);
+    let outcome = run.outcome;
+    let head = [outcome_number(outcome), run.sweeps as i64, run.m as i64];
     let at = numbers::put(out, 0, &head);
-    put_axes(n, last, out, at)
+    put_axes(n, &axes, out, at)
 }

@@ -1,16 +1,17 @@
 -- The loop that makes the axes of a load: one more diagonal entry.
 use mathlib.Core.Path.{_≡_, sym, _∙_}
-use Prim.Native.Nat.{ℕ, _+_, _*_, _<_}
+use mathlib.Core.List.{[]}
+use Prim.Native.Nat.{ℕ, _+_, _<_}
 use native.Mathlib.Decide.{ℕ-discrete, decLt}
 use native.Mathlib.Omega.{arith}
 use lib.IntN.{ℤ, pos}
-use lib.ListN.{set}
+use lib.ListN.{getD, set}
 use borrow.Author.Tests.{le-ltb}
-use Rattle.integer.specs.Matrix.{Matrix, diagonal, diagonal-same, diagonal-other}
-use Rattle.integer.specs.Sum.{update, update-other, update-same}
-use Rattle.record.specs.Flat.{flatOf}
+use Rattle.integer.specs.Matrix.{diagonal, diagonal-same, diagonal-other}
+use Rattle.rotation.specs.Eight.{square-cong}
+use Rattle.rotation.specs.Stored.{store, stored, stored-column, stored-here, stored-row}
+use Rattle.rotation.specs.Turn.{square}
 use Rattle.record.specs.Record.{inUse}
-use Rattle.record.proofs.Filled.{flat-cong, set-flat}
 use Rattle.record.specs.Turning.{Use, inside, outside, use-of, inUse-inside, inUse-outside}
 
 module _ (k : ℤ) where
@@ -31,21 +32,12 @@ module _ (k : ℤ) where
           let o : i ≡ n → ⊥ = λ f. d f (sym e ∙ f) in
           inUse-outside n _ i j (rw (le-ltb i n (omega arith))) ∙ sym (inUse-outside (n + 1) _ i j (rw (le-ltb i (n + 1) (omega arith))))
 
-  pub diagonal-more : (n : ℕ) → n < 8 → set (flatOf (inUse n (diagonal k))) (9 * n) k ≡ flatOf (inUse (n + 1) (diagonal k))
-  diagonal-more n h =
-      rw place
-      (set-flat old n n k h h ∙ flat-cong _ _ (λ i j _ _. entry i j (ℕ-discrete i n) (ℕ-discrete j n)))
+  pub diagonal-more : (n : ℕ) → n < 8 → set (square (inUse n (diagonal k))) n (set (getD (square (inUse n (diagonal k))) n []) n k) ≡ square (inUse (n + 1) (diagonal k))
+  diagonal-more n h = store (inUse n (diagonal k)) n n k h h ∙ square-cong (λ i j _ _. entry i j (ℕ-discrete i n) (ℕ-discrete j n))
     where
-      old : Matrix
-      old = inUse n (diagonal k)
-
-      place : 9 * n ≡ 8 * n + n
-      place = omega arith
-
-      entry : (i j : ℕ) → Dec (i ≡ n) → Dec (j ≡ n) → update old n (update (old n) n k) i j ≡ inUse (n + 1) (diagonal k) i j
+      entry : (i j : ℕ) → Dec (i ≡ n) → Dec (j ≡ n) → stored n n k (inUse n (diagonal k)) i j ≡ inUse (n + 1) (diagonal k) i j
       entry i j (yes e) (yes d) =
-          rw (e, d, update-same old n (update (old n) n k), update-same (old n) n k)
+          rw (e, d, stored-here n n k (inUse n (diagonal k)))
           (sym (inUse-inside (n + 1) _ n n (omega arith) (omega arith) ∙ diagonal-same k n))
-      entry i j (yes e) (no d) =
-          rw (e, update-same old n (update (old n) n k), update-other (old n) n k j d) (elsewhere n n j (λ p q. d q))
-      entry i j (no e) d = rw (update-other old n (update (old n) n k) i e) (elsewhere n i j (λ p q. e p))
+      entry i j (yes e) (no d) = stored-column n n k (inUse n (diagonal k)) i j d ∙ elsewhere n i j (λ p q. d q)
+      entry i j (no e) d = stored-row n n k (inUse n (diagonal k)) i j e ∙ elsewhere n i j (λ p q. e p)

@@ -1,7 +1,8 @@
--- A flat matrix that is filled row by row.
+-- A matrix that is filled row by row: as rows, and flat.
 use mathlib.Core.Path.{_≡_, refl, sym, _∙_}
 use mathlib.Core.Bool.{cond}
-use Prim.Native.Nat.{ℕ, _+_, _*_, _/_, _%_, _<_, _≤_}
+use mathlib.Core.List.{[]}
+use Prim.Native.Nat.{ℕ, _+_, _*_, _/_, _%_, _<_}
 use native.Mathlib.Decide.{decLt, ℕ-discrete}
 use native.Mathlib.Omega.{arith}
 use lib.Dec.{eqb, ltb}
@@ -11,11 +12,12 @@ use lib.Seq.{ext-getD, getD-set-other, getD-set-same}
 use borrow.Author.Tests.{eq-eqb, le-ltb, lt-ltb, ne-eqb}
 use Rattle.integer.specs.Matrix.{Matrix}
 use Rattle.integer.specs.Tests.{cond-same, next-test}
-use Rattle.integer.specs.Sum.{update, update-other, update-same}
+use Rattle.rotation.specs.Eight.{square-cong}
+use Rattle.rotation.specs.Stored.{store, stored, stored-column, stored-here, stored-row}
+use Rattle.rotation.specs.Turn.{eight, square}
 use Rattle.record.specs.Fill.{getD-tabulate, length-tabulate}
-use Rattle.record.specs.Flat.{flatOf, tabulate}
+use Rattle.record.specs.Flat.{blank, flatOf, tabulate}
 use Rattle.record.specs.Record.{inUse}
-use Rattle.record.specs.Turning.{inUse-inside, inUse-outside}
 
 pub flat-cong : (f g : Matrix) → ((i j : ℕ) → i < 8 → j < 8 → f i j ≡ g i j) → flatOf f ≡ flatOf g
 unfolding flatOf
@@ -27,63 +29,84 @@ flat-cong f g h =
     entry k l = getD-tabulate 64 k _ l ∙ h (k / 8) (k % 8) (omega arith) (omega arith) ∙ sym (getD-tabulate 64 k _ l)
 
 -- a store in row i and column j
-pub set-flat : (f : Matrix) (i j : ℕ) (x : ℤ) → i < 8 → j < 8 → set (flatOf f) (8 * i + j) x ≡ flatOf (update f i (update (f i) j x))
+pub set-flat : (f : Matrix) (i j : ℕ) (x : ℤ) → i < 8 → j < 8 → set (flatOf f) (8 * i + j) x ≡ flatOf (stored i j x f)
 unfolding flatOf
 set-flat f i j x h k =
     ext-getD (pos 0) _ _ (length-set (flatOf f) (8 * i + j) x ∙ length-tabulate 64 _ ∙ sym (length-tabulate 64 _))
     (λ m l. entry m (rw (length-set (flatOf f) (8 * i + j) x, length-tabulate) at l) (ℕ-discrete (m / 8) i) (ℕ-discrete (m % 8) j))
   where
-    new : Matrix
-    new = update f i (update (f i) j x)
+    other : (m : ℕ) → m < 64 → (m ≡ 8 * i + j → ⊥) → f (m / 8) (m % 8) ≡ stored i j x f (m / 8) (m % 8) → getD (set (flatOf f) (8 * i + j) x) m (pos 0) ≡ getD (flatOf (stored i j x f)) m (pos 0)
+    other m l d e = getD-set-other (flatOf f) (8 * i + j) m x (pos 0) d ∙ getD-tabulate 64 m _ l ∙ e ∙ sym (getD-tabulate 64 m _ l)
 
-    entry : (m : ℕ) → m < 64 → Dec (m / 8 ≡ i) → Dec (m % 8 ≡ j) → getD (set (flatOf f) (8 * i + j) x) m (pos 0) ≡ getD (flatOf new) m (pos 0)
+    entry : (m : ℕ) → m < 64 → Dec (m / 8 ≡ i) → Dec (m % 8 ≡ j) → getD (set (flatOf f) (8 * i + j) x) m (pos 0) ≡ getD (flatOf (stored i j x f)) m (pos 0)
     entry m l (yes e) (yes d) =
         let place : 8 * i + j ≡ m = omega arith in
-        rw (place, getD-set-same (flatOf f) m x (pos 0) (rw length-tabulate l), getD-tabulate 64 m (λ m. new (m / 8) (m % 8)) l, e, d, update-same f i (update (f i) j x))
-        (sym (update-same (f i) j x))
-    entry m l (yes e) (no d) =
-        getD-set-other (flatOf f) (8 * i + j) m x (pos 0) (λ p. d (omega arith)) ∙ getD-tabulate 64 m _ l ∙
-        rw (getD-tabulate 64 m (λ m. new (m / 8) (m % 8)) l, e, update-same f i (update (f i) j x)) (sym (update-other (f i) j x (m % 8) d))
-    entry m l (no e) d =
-        getD-set-other (flatOf f) (8 * i + j) m x (pos 0) (λ p. e (omega arith)) ∙ getD-tabulate 64 m _ l ∙
-        rw (getD-tabulate 64 m (λ m. new (m / 8) (m % 8)) l, update-other f i (update (f i) j x) (m / 8) e)
+        rw (place, getD-set-same (flatOf f) m x (pos 0) (rw length-tabulate l), getD-tabulate 64 m (λ m. stored i j x f (m / 8) (m % 8)) l, e, d)
+        (sym (stored-here i j x f))
+    entry m l (yes e) (no d) = other m l (λ p. d (omega arith)) (sym (stored-column i j x f (m / 8) (m % 8) d))
+    entry m l (no e) d = other m l (λ p. e (omega arith)) (sym (stored-row i j x f (m / 8) (m % 8) e))
 
 module _ (n : ℕ) (f : Matrix) where
   -- the rows before i, and the first j entries of row i
   unfoldable pub filledTo : ℕ → ℕ → Matrix
   filledTo i j x y = cond (ltb x i) (inUse n f x y) (cond (eqb x i) (cond (ltb y j) (f x y) (pos 0)) (pos 0))
 
-  pub filled-none : flatOf (filledTo 0 0) ≡ replicate 64 (pos 0)
-  unfolding flatOf tabulate filledTo
-  filled-none = refl
-
-  pub filled-one : (i j : ℕ) → i < 8 → j < 8 → set (flatOf (filledTo i j)) (8 * i + j) (f i j) ≡ flatOf (filledTo i (j + 1))
+  -- an entry after one store, after a row, and after all rows
+  one : (i j x y : ℕ) → stored i j (f i j) (filledTo i j) x y ≡ filledTo i (j + 1) x y
   unfolding filledTo
-  filled-one i j h k = set-flat (filledTo i j) i j (f i j) h k ∙ flat-cong _ _ (λ x y _ _. entry x y (ℕ-discrete x i) (ℕ-discrete y j))
+  one i j x y = by (ℕ-discrete x i) (ℕ-discrete y j)
     where
-      entry : (x y : ℕ) → Dec (x ≡ i) → Dec (y ≡ j) → update (filledTo i j) i (update (filledTo i j i) j (f i j)) x y ≡ filledTo i (j + 1) x y
-      entry x y (yes e) (yes d) =
-          rw (e, d, update-same (filledTo i j) i (update (filledTo i j i) j (f i j)), update-same (filledTo i j i) j (f i j), le-ltb i i (omega arith), eq-eqb i i refl, lt-ltb j (j + 1) (omega arith))
-      entry x y (yes e) (no d) =
-          rw (e, update-same (filledTo i j) i (update (filledTo i j i) j (f i j)), update-other (filledTo i j i) j (f i j) y d, le-ltb i i (omega arith), eq-eqb i i refl, next-test j y d)
-      entry x y (no e) d = rw (update-other (filledTo i j) i (update (filledTo i j i) j (f i j)) x e, ne-eqb x i e)
+      by : Dec (x ≡ i) → Dec (y ≡ j) → stored i j (f i j) (filledTo i j) x y ≡ filledTo i (j + 1) x y
+      by (yes e) (yes d) =
+          rw (e, d, stored-here i j (f i j) (filledTo i j), le-ltb i i (omega arith), eq-eqb i i refl, lt-ltb j (j + 1) (omega arith))
+      by (yes e) (no d) =
+          stored-column i j (f i j) (filledTo i j) x y d ∙ rw (e, le-ltb i i (omega arith), eq-eqb i i refl, next-test j y d)
+      by (no e) d = stored-row i j (f i j) (filledTo i j) x y e ∙ rw (ne-eqb x i e)
 
-  pub filled-row : (i : ℕ) → i < n → flatOf (filledTo i n) ≡ flatOf (filledTo (i + 1) 0)
+  row : (i x y : ℕ) → i < n → filledTo i n x y ≡ filledTo (i + 1) 0 x y
   unfolding filledTo inUse
-  filled-row i h = flat-cong _ _ (λ x y _ _. entry x y (ℕ-discrete x i) (decLt x i))
+  row i x y h = by (ℕ-discrete x i) (decLt x i)
     where
-      nothing : (x y : ℕ) → pos 0 ≡ cond (eqb x (i + 1)) (cond (ltb y 0) (f x y) (pos 0)) (pos 0)
-      nothing x y = rw (le-ltb y 0 (omega arith)) (sym (cond-same (eqb x (i + 1)) (pos 0)))
+      nothing : pos 0 ≡ cond (eqb x (i + 1)) (cond (ltb y 0) (f x y) (pos 0)) (pos 0)
+      nothing = rw (le-ltb y 0 (omega arith)) (sym (cond-same (eqb x (i + 1)) (pos 0)))
 
-      entry : (x y : ℕ) → Dec (x ≡ i) → Dec (x < i) → filledTo i n x y ≡ filledTo (i + 1) 0 x y
-      entry x y (yes e) l = rw (e, le-ltb i i (omega arith), eq-eqb i i refl, lt-ltb i (i + 1) (omega arith), lt-ltb i n h)
-      entry x y (no e) (yes l) = rw (lt-ltb x i l, lt-ltb x (i + 1) (omega arith))
-      entry x y (no e) (no l) = rw (le-ltb x i (omega arith), ne-eqb x i e, le-ltb x (i + 1) (omega arith)) (nothing x y)
+      by : Dec (x ≡ i) → Dec (x < i) → filledTo i n x y ≡ filledTo (i + 1) 0 x y
+      by (yes e) l = rw (e, le-ltb i i (omega arith), eq-eqb i i refl, lt-ltb i (i + 1) (omega arith), lt-ltb i n h)
+      by (no e) (yes l) = rw (lt-ltb x i l, lt-ltb x (i + 1) (omega arith))
+      by (no e) (no l) = rw (le-ltb x i (omega arith), ne-eqb x i e, le-ltb x (i + 1) (omega arith)) nothing
 
-  pub filled-all : flatOf (filledTo n 0) ≡ flatOf (inUse n f)
+  all : (x y : ℕ) → filledTo n 0 x y ≡ inUse n f x y
   unfolding filledTo inUse
-  filled-all = flat-cong _ _ (λ x y _ _. entry x y (decLt x n))
+  all x y = by (decLt x n)
     where
-      entry : (x y : ℕ) → Dec (x < n) → filledTo n 0 x y ≡ inUse n f x y
-      entry x y (yes l) = rw (lt-ltb x n l)
-      entry x y (no l) = rw (le-ltb x n (omega arith), le-ltb y 0 (omega arith)) (cond-same (eqb x n) (pos 0))
+      by : Dec (x < n) → filledTo n 0 x y ≡ inUse n f x y
+      by (yes l) = rw (lt-ltb x n l)
+      by (no l) = rw (le-ltb x n (omega arith), le-ltb y 0 (omega arith)) (cond-same (eqb x n) (pos 0))
+
+  -- in rows
+  pub rows-none : blank ≡ square (filledTo 0 0)
+  unfolding blank eight filledTo
+  rows-none = refl
+
+  pub rows-one : (i j : ℕ) → i < 8 → j < 8 → set (square (filledTo i j)) i (set (getD (square (filledTo i j)) i []) j (f i j)) ≡ square (filledTo i (j + 1))
+  rows-one i j h k = store (filledTo i j) i j (f i j) h k ∙ square-cong (λ x y _ _. one i j x y)
+
+  pub rows-row : (i : ℕ) → i < n → square (filledTo i n) ≡ square (filledTo (i + 1) 0)
+  rows-row i h = square-cong (λ x y _ _. row i x y h)
+
+  pub rows-all : square (filledTo n 0) ≡ square (inUse n f)
+  rows-all = square-cong (λ x y _ _. all x y)
+
+  -- flat
+  pub flat-none : replicate 64 (pos 0) ≡ flatOf (filledTo 0 0)
+  unfolding flatOf tabulate filledTo
+  flat-none = refl
+
+  pub flat-one : (i j : ℕ) → i < 8 → j < 8 → set (flatOf (filledTo i j)) (8 * i + j) (f i j) ≡ flatOf (filledTo i (j + 1))
+  flat-one i j h k = set-flat (filledTo i j) i j (f i j) h k ∙ flat-cong _ _ (λ x y _ _. one i j x y)
+
+  pub flat-row : (i : ℕ) → i < n → flatOf (filledTo i n) ≡ flatOf (filledTo (i + 1) 0)
+  flat-row i h = flat-cong _ _ (λ x y _ _. row i x y h)
+
+  pub flat-all : flatOf (filledTo n 0) ≡ flatOf (inUse n f)
+  flat-all = flat-cong _ _ (λ x y _ _. all x y)

@@ -1,15 +1,14 @@
 -- A run on rows: the record that they are, and what a sweep makes of it.
-use mathlib.Core.Path.{_≡_, refl, sym, ap, _∙_}
+use mathlib.Core.Path.{_≡_, sym, _∙_}
 use mathlib.Core.Bool.{Bool, true, false, cond}
 use mathlib.Core.List.{List, [], _∷_}
 use mathlib.Core.Logic.{_≢_}
-use Prim.Native.Nat.{ℕ, zero, suc, _+_, _-_, _≤_, _<_}
+use Prim.Native.Nat.{ℕ, _+_, _-_, _≤_}
 use native.Mathlib.Decide.{ℕ-discrete}
 use native.Mathlib.Nat.{sub-zero}
 use native.Mathlib.Omega.{arith}
 use lib.Dec.{eqb}
 use lib.IntN.{ℤ}
-use lib.ListN.{length}
 use borrow.Author.Tests.{eq-eqb, ne-eqb}
 use Rattle.ledger.specs.Call.{loosePair, sweep}
 use Rattle.ledger.specs.Cyclic.{cyclic-pairs}
@@ -24,7 +23,8 @@ use Rattle.record.specs.Fill.{kept-flatOf}
 use Rattle.record.specs.Flat.{entriesOf, flatOf, rowsOf}
 use Rattle.record.specs.Kept.{Kept}
 use Rattle.record.specs.Record.{acceptedOf, afterOf, answerOf, counted, looseOf, refusedOf, sweptOf, valueOf, workOf, workedOf}
-use Rattle.record.specs.Run.{heldOf, noPair, noTurn, runFrom, stop}
+use Rattle.record.specs.Rows.{Holds, heldOf, kept-uncounted}
+use Rattle.record.specs.Run.{Ran, noPair, noTurn, runFrom, stop}
 use Rattle.record.specs.Running.{run-settled, run-still, run-spent, run-sweeps}
 use Rattle.record.specs.Turning.{matrix-small, works-least}
 use Rattle.record.specs.Work.{Work, workPair, workPairs}
@@ -32,10 +32,8 @@ use Rattle.record.specs.Worked.{Ready, workAt}
 use Rattle.record.specs.declared.Answer.the-variants.{Refused}
 use Rattle.record.specs.declared.Record.{Record}
 use Rattle.record.specs.declared.run.Outcome.the-variants.{Settled, Still, Spent}
-use Rattle.record.specs.declared.run.Ran.{Ran}
 use Rattle.record.proofs.Search.{same-loose}
 use Rattle.record.proofs.Sweep.{pair-shaped}
-use Rattle.record.proofs.Worked.{flat-rows}
 
 rows-flat : (a : List (List ℤ)) → Shaped a → rowsOf (flatOf (at a)) ≡ a
 unfolding rowsOf entriesOf
@@ -97,10 +95,6 @@ module _ (n m refused : ℕ) (a v : List (List ℤ)) (matrix : Shaped a) (axes :
     unfolding answerOf noTurn
     refused-idle = rw (ne-eqb (refusalOf n m sweep) 0 f)
 
--- the record that its own rows are
-pub held-rows : (r : Record) → length (r .a) ≡ 64 → length (r .v) ≡ 64 → r ≡ heldOf (r .n) (r .m) (r .refused) (rowsOf (r .a)) (rowsOf (r .v))
-held-rows r a v i = record { n = r .n; m = r .m; refused = r .refused; a = flat-rows (r .a) a i; v = flat-rows (r .v) v i }
-
 -- from here on the run is z
 pub record Going (n limit t : ℕ) (z : Ran) (a v : List (List ℤ)) (m refused sweeps : ℕ) (idle : Bool) : Type 0 where
   pub is : z ≡ runFrom (limit - sweeps) sweeps idle t (heldOf n m refused a v)
@@ -109,12 +103,15 @@ pub record Going (n limit t : ℕ) (z : Ran) (a v : List (List ℤ)) (m refused 
   pub matrix : Shaped a
   pub axes : Shaped v
 
-pub begun : (n limit t m refused : ℕ) (a v : List (List ℤ)) → Shaped a → Shaped v → Kept (heldOf n m refused a v) → Going n limit t (runFrom limit 0 false t (heldOf n m refused a v)) a v m refused 0 false
-begun n limit t m refused a v sa sv k = record { is = rw sub-zero; within = omega arith; keeps = k; matrix = sa; axes = sv }
+pub begun : (n limit t : ℕ) (a v : List (List ℤ)) → Holds n 0 a v → Going n limit t (runFrom limit 0 false t (heldOf n 0 0 a v)) a v 0 0 0 false
+begun n limit t a v h = record { is = rw sub-zero; within = omega arith; keeps = h .keeps; matrix = h .matrix; axes = h .axes }
 
 module _ (n limit t m refused sweeps : ℕ) (z : Ran) (a v : List (List ℤ)) (idle : Bool) (g : Going n limit t z a v m refused sweeps idle) where
   abbrev now : Record
   now = heldOf n m refused a v
+
+  pub going-holds : Holds n m a v
+  going-holds = record { keeps = kept-uncounted n m refused a v (g .keeps); matrix = g .matrix; axes = g .axes }
 
   -- the first test: settled tells whether no pair is loose
   module _ (number : ℕ) (settled : Bool) (e : number ≡ refusalOf n 0 (loosePair t))

@@ -5,6 +5,7 @@ mod Going
 mod Handed
 mod LentCall
 mod LentContract
+mod Loaded
 pub mod Outcome
 mod Parameters
 mod Search

@@ -1,16 +1,16 @@
 -- A call refused and a call accepted, as the methods end them.
-use mathlib.Core.Path.{_≡_, refl, sym, ap, _∙_}
+use mathlib.Core.Path.{_≡_, sym, ap, _∙_}
 use Prim.Native.Nat.{ℕ}
 use native.Mathlib.Nat.{le-trans}
 use lib.Dec.{lit≤}
 use borrow.Author.Tests.{eq-eqb, ne-eqb}
 use Rattle.ledger.specs.Call.{Call}
 use Rattle.ledger.specs.Refusal.{refusalOf}
+use Rattle.rotation.specs.Size.{Small}
 use Rattle.record.specs.After.{after-kept}
 use Rattle.record.specs.Done.{Done}
-use Rattle.record.specs.Fill.{at-rowsOf}
+use Rattle.record.specs.Flat.{rowsOf}
 use Rattle.record.specs.Kept.{Kept}
-use Rattle.record.specs.Query.{Modest}
 use Rattle.record.specs.Record.{acceptedOf, afterOf, answerOf, refusedOf, valueOf, workOf}
 use Rattle.record.specs.Turning.{matrix-small}
 use Rattle.record.specs.declared.Answer.{Answer}
@@ -32,8 +32,7 @@ module _ (r : Record) (call : Call) (k : Kept r) (number : ℕ) (e : number ≡ 
       let leaves : next ≡ afterOf r call = h ∙ rw test in
       record { answers = a ∙ rw test; leaves = leaves; keeps = rw leaves (after-kept r call k) }
 
--- kept entries are small enough for the queries
-pub kept-modest : (r : Record) → Kept r → Modest (r .a)
+-- the rows of a kept matrix are small enough for the queries
+pub kept-small : (r : Record) → Kept r → Small (rowsOf (r .a))
 unfolding workOf
-kept-modest r k =
-    record { modest = λ i j h l. rw (← at-rowsOf (r .a) i j h l) (matrix-small (r .n) (workOf r) (k .work) (le-trans (k .turns) (lit≤ tt)) .small i j) }
+kept-small r k = matrix-small (r .n) (workOf r) (k .work) (le-trans (k .turns) (lit≤ tt))

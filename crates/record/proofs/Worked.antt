@@ -1,38 +1,17 @@
--- A pair at work: what a choice makes of it, and that flat lists come back.
-use mathlib.Core.Path.{_≡_, refl, sym, ap, _∙_}
+-- A pair at work: what a choice makes of it.
+use mathlib.Core.Path.{_≡_}
 use mathlib.Core.Bool.{Bool}
 use mathlib.Core.List.{List}
-use Prim.Native.Nat.{ℕ, suc, _+_, _*_, _/_, _%_, _≤_, _<_}
-use native.Mathlib.Numerals.{add-one}
+use Prim.Native.Nat.{ℕ, _≤_}
 use native.Mathlib.Omega.{arith}
-use lib.IntN.{ℤ, pos}
-use lib.ListN.{length, getD}
-use lib.Seq.{ext-getD}
+use lib.IntN.{ℤ}
 use Rattle.ledger.specs.Pairs.{Pair}
-use Rattle.rotation.specs.Choice.{choose}
-use Rattle.rotation.specs.Chosen.{From, chosen-from}
+use Rattle.rotation.specs.Chosen.{chosen-from}
 use Rattle.rotation.specs.Eight.{shaped-square}
-use Rattle.rotation.specs.Rotation.{rotationOf}
 use Rattle.rotation.specs.Shape.{Shaped}
-use Rattle.rotation.specs.Turn.{at, turnMatrix, turnAxes}
-use Rattle.rotation.specs.declared.choice.Choice.{Choice}
 use Rattle.rotation.specs.declared.choice.Choice.the-variants.{NoTurn, Turn}
-use Rattle.record.specs.Fill.{at-rowsOf, getD-tabulate, length-tabulate}
-use Rattle.record.specs.Flat.{entriesOf, flatOf, kept, rowsOf}
+use Rattle.record.specs.Flat.{entriesOf, kept, rowsOf}
 use Rattle.record.specs.Work.{Work, chosen, workBy, workPair}
-
-pub flat-rows : (a : List ℤ) → length a ≡ 64 → a ≡ flatOf (at (rowsOf a))
-unfolding flatOf kept
-flat-rows a h = ext-getD (pos 0) a _ (h ∙ sym (length-tabulate 64 _)) (λ k l. sym (entry k (rw h at l)))
-  where
-    place : (k : ℕ) → kept a (k / 8) (k % 8) ≡ getD a k (pos 0)
-    place k = ap (λ n. getD a n (pos 0)) (same k)
-      where
-        same : (k : ℕ) → 8 * (k / 8) + k % 8 ≡ k
-        same k = omega arith
-
-    entry : (k : ℕ) → k < 64 → getD (flatOf (at (rowsOf a))) k (pos 0) ≡ getD a k (pos 0)
-    entry k l = getD-tabulate 64 k _ l ∙ at-rowsOf a (k / 8) (k % 8) (omega arith) (omega arith) ∙ place k
 
 pub shaped-rows : (a : List ℤ) → Shaped (rowsOf a)
 unfolding rowsOf entriesOf

@@ -1,21 +1,21 @@
 -- The numbers of an axis: a_ii and r_i, which an axis call answers, and the row beside them. How many they are, and that r_i fits 63 bits.
-use Prim.Native.Nat.{ℕ, suc, _+_, _-_, _*_, _^_, _<_, _≤_}
+use Prim.Native.Nat.{ℕ, suc, _+_, _-_, _^_, _<_, _≤_}
 use mathlib.Core.Path.{_≡_, refl}
 use mathlib.Core.Bool.{Bool, true, false, cond}
 use mathlib.Core.List.{List, [], _∷_, _++_}
 use native.Mathlib.Nat.{le-trans}
 use native.Mathlib.Omega.{arith}
-use borrow.Author.Tests.{eq-eqb, eqb-true}
-use lib.Dec.{eqb, lit≤}
+use borrow.Author.Tests.{eq-eqb, eqb-true, lt-ltb}
+use lib.Dec.{eqb, lit≤, ltb}
 use lib.IntN.{ℤ, pos, natAbs}
-use lib.ListN.{length, length-append, replicate, take}
+use lib.ListN.{getD, length, length-append, replicate, take}
 use lib.Seq.{take-append-add}
 use Rattle.integer.specs.Sum.{sumℕ-≤, sumℕ-const}
 use Rattle.ledger.specs.Accepted.{axis-accepted, axis-taken}
 use Rattle.ledger.specs.Axis.{errorOf}
 use Rattle.ledger.specs.Call.{axis}
 use Rattle.ledger.specs.Refusal.{refusalOf}
-use Rattle.rotation.specs.Eight.{front, length-eight}
+use Rattle.rotation.specs.Eight.{front, getD-eight, length-eight}
 use Rattle.rotation.specs.Size.{widest}
 use Rattle.record.specs.Fill.{at-rowsOf}
 use Rattle.record.specs.Flat.{entriesOf, kept}
@@ -72,6 +72,19 @@ length-numbers r i =
 -- those of axes 1 to n, and zeros after them
 unfoldable pub axesNumbers : Record → List (List ℤ)
 axesNumbers r = front (λ i. axisNumbers r (suc i)) (replicate 11 (pos 0)) (r .n)
+
+pub length-axes-row : (r : Record) (i : ℕ) → i < 8 → length (getD (axesNumbers r) i []) ≡ 11
+unfolding axesNumbers
+length-axes-row r i h = rw (getD-eight (λ k. cond (ltb k (r .n)) (axisNumbers r (suc k)) (replicate 11 (pos 0))) i [] h) (by-test (ltb i (r .n)))
+  where
+    by-test : (test : Bool) → length (cond test (axisNumbers r (suc i)) (replicate 11 (pos 0))) ≡ 11
+    by-test true = length-numbers r (suc i)
+    by-test false = refl
+
+-- the row of axis i + 1
+pub axes-row : (r : Record) (i : ℕ) → i < r .n → i < 8 → getD (axesNumbers r) i [] ≡ axisNumbers r (suc i)
+unfolding axesNumbers
+axes-row r i l h = rw (getD-eight (λ k. cond (ltb k (r .n)) (axisNumbers r (suc k)) (replicate 11 (pos 0))) i [] h, lt-ltb i (r .n) l)
 
 -- r_i is below 2^63
 unfoldable pub ErrorFits : Answer → Type 0

@@ -1,15 +1,12 @@
 -- Demand 3 is proved: the ledger is sound, and the record agrees with it.
 use mathlib.Core.Path.{_≡_, refl, ap}
-use mathlib.Core.Bool.{cond}
 use mathlib.Core.List.{List, [], _∷_}
-use Prim.Native.Nat.{ℕ, _+_, _*_, _-_, _/_, _≤_, _<_}
+use Prim.Native.Nat.{ℕ, _*_, _-_, _≤_, _<_}
 use native.Mathlib.Omega.{arith}
-use lib.Dec.{eqb}
-use lib.IntN.{pos, natAbs, _-ℤ_, _*ℤ_}
+use lib.IntN.{pos, _-ℤ_, _*ℤ_}
 use borrow.Author.Tests.{le-leb, lt-ltb}
 use Rattle.integer.specs.Matrix.{conjugate, squares, squares-cong}
-use Rattle.integer.specs.Sum.{sumℕ-cong}
-use Rattle.ledger.specs.Axis.{errorOf}
+use Rattle.ledger.specs.Axis.{errorOf, same-error}
 use Rattle.ledger.specs.Call.{Call, axis}
 use Rattle.ledger.specs.Invariant.{SoundLedger, sound-step}
 use Rattle.ledger.specs.Ledger.{Ledger, State, empty, loaded, ledger, ledgerFrom, ledgerStep}
@@ -24,15 +21,11 @@ use Rattle.record.specs.Demand3.{AxisNear, Certified, Certifies, Demand-
 use Rattle.record.specs.Flat.{kept}
 use Rattle.record.specs.Kept.{Kept}
 use Rattle.record.specs.Record.{after, afterFrom, afterOf, answerOf, fresh, valueOf}
-use Rattle.record.specs.declared.Answer.the-variants.{Axis}
 use Rattle.record.specs.declared.Record.{Record}
 
 module _ (r : Record) (s : State) (a : Agree r s) (h : Sound s) where
-  same-error : (i : ℕ) → i < s .n → errorOf (r .n) (kept (r .a)) (r .m) i ≡ errorOf (s .n) (s .B) (s .m) i
-  unfolding errorOf
-  same-error i l =
-      rw (a .size, a .turns)
-      (ap (λ n. n + (7 * s .m + 1) / 2) (sumℕ-cong (s .n) (λ j k. ap (λ z. cond (eqb j i) 0 (natAbs z)) (a .matrix i j l k))))
+  error-agrees : (i : ℕ) → i < s .n → errorOf (r .n) (kept (r .a)) (r .m) i ≡ errorOf (s .n) (s .B) (s .m) i
+  error-agrees i l = rw (a .size, a .turns) (same-error (s .n) (kept (r .a)) (s .B) (s .m) i (λ j k. a .matrix i j l k))
 
   accepted : (i : ℕ) → 1 ≤ i → i ≤ s .n → refusalOf (r .n) (r .m) (axis i) ≡ 0
   unfolding refusalOf
@@ -45,7 +38,7 @@ module _ (r : Record) (s : State) (a : Agree r s) (h : Sound s) where
         entry = kept (r .a) (i - 1) (i - 1);
         error = errorOf (r .n) (kept (r .a)) (r .m) (i - 1);
         answers = rw (accepted i f l);
-        near = rw (same-error (i - 1) (omega arith), a .matrix (i - 1) (i - 1) (omega arith) (omega arith)) (row-near s h (i - 1) (omega arith));
+        near = rw (error-agrees (i - 1) (omega arith), a .matrix (i - 1) (i - 1) (omega arith) (omega arith)) (row-near s h (i - 1) (omega arith));
       }
 
   same-matrix : squares (s .n) (matrixDifference (s .n) (s .D) (s .P) (s .A) (kept (r .a))) ≡ squares (s .n) (matrixDifference (s .n) (s .D) (s .P) (s .A) (s .B))

@@ -2,7 +2,7 @@
 use Prim.Native.Nat.{ℕ, zero, suc, _+_, _*_, _/_, _%_}
 use mathlib.Core.List.{List, [], _∷_, _++_}
 use lib.IntN.{ℤ, pos}
-use lib.ListN.{getD}
+use lib.ListN.{getD, replicate}
 use Rattle.integer.specs.Matrix.{Matrix}
 use Rattle.rotation.specs.Turn.{eight}
 
@@ -16,6 +16,10 @@ entriesOf a i = eight (kept a i)
 
 unfoldable pub rowsOf : List ℤ → List (List ℤ)
 rowsOf a = eight (entriesOf a)
+
+-- rows of 0
+unfoldable pub blank : List (List ℤ)
+blank = replicate 8 (replicate 8 (pos 0))
 
 -- f 0, f 1 .., `count` of them
 unfoldable pub tabulate : ℕ → (ℕ → ℤ) → List ℤ

@@ -6,7 +6,6 @@ pub mod Kept
 pub mod Done
 pub mod Turning
 pub mod Loading
-pub mod Query
 pub mod Order
 pub mod Among
 pub mod Loose
@@ -18,3 +17,4 @@ pub mod Demand3
 pub mod Demand3proof
 pub mod Run
 pub mod Running
+pub mod Rows

@@ -1,19 +1,15 @@
 -- Document 01, a run 'repeats: no loose pair, stop as settled; the last sweep made no turn, stop as still; limit reached, stop as spent; else sweep': its outcome, the sweeps run and the record.
 use mathlib.Core.Bool.{Bool, true, false, cond}
-use mathlib.Core.List.{List}
 use Prim.Native.Nat.{ℕ, zero, suc}
 use lib.Dec.{eqb}
-use lib.IntN.{ℤ}
 use Rattle.ledger.specs.Call.{sweep, loosePair}
-use Rattle.rotation.specs.Turn.{at}
-use Rattle.record.specs.Flat.{flatOf}
 use Rattle.record.specs.Record.{afterOf, answerOf}
 use Rattle.record.specs.declared.Answer.{Answer}
 use Rattle.record.specs.declared.Answer.the-variants.{Loaded, Turned, Swept, Pair, NoPair, Axis, Refused}
 use Rattle.record.specs.declared.Record.{Record}
+use Rattle.record.specs.declared.run.Ended.{Ended}
 use Rattle.record.specs.declared.run.Outcome.{Outcome}
 use Rattle.record.specs.declared.run.Outcome.the-variants.{Settled, Still, Spent}
-use Rattle.record.specs.declared.run.Ran.{Ran}
 
 -- a loose-pair call answers none
 unfoldable pub noPair : Answer → Bool
@@ -35,6 +31,12 @@ noTurn NoPair = false
 noTurn (Axis entry error) = false
 noTurn (Refused number) = false
 
+-- a run: its outcome, how many sweeps were run, and the record as they leave it
+pub record Ran : Type 0 where
+  pub outcome : Outcome
+  pub sweeps : ℕ
+  pub last : Record
+
 abbrev pub stop : Outcome → ℕ → Record → Ran
 stop outcome sweeps r = record { outcome = outcome; sweeps = sweeps; last = r }
 
@@ -49,6 +51,6 @@ runFrom zero sweeps idle t r = tried sweeps idle t r (stop Spent sweeps r)
 runFrom (suc left) sweeps idle t r =
     tried sweeps idle t r (runFrom left (suc sweeps) (noTurn (answerOf r sweep)) t (afterOf r sweep))
 
--- the record that holds two arrays of rows
-abbrev pub heldOf : ℕ → ℕ → ℕ → List (List ℤ) → List (List ℤ) → Record
-heldOf n m refused a v = record { n = n; m = m; refused = refused; a = flatOf (at a); v = flatOf (at v) }
+-- how a run ends, without its matrix and axes
+unfoldable pub endOf : Ran → Ended
+endOf z = record { outcome = z .outcome; sweeps = z .sweeps; m = z .last .m; refused = z .last .refused }

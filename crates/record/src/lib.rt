@@ -1,6 +1,5 @@
 // The record and its calls: one matrix with its axes, the turns made of it, and the count of refused calls.
 ghost use Rattle.ledger.specs.Call.{axis, load, loosePair, sweep, turn};
-ghost use Rattle.record.specs.AxisNumbers.{axesNumbers};
 ghost use Rattle.record.specs.Done.{AxisDone, Done, Fresh, withWork};
 ghost use Rattle.record.specs.Kept.{Kept};
 ghost use Rattle.record.specs.Record.{counted, fresh, refusedOf};
@@ -103,13 +102,6 @@ impl Record {
         self.n
     }
 
-    // How many turns were made of the matrix.
-    pub fn turns(self) -> u64
-        ensures { λ r. ⌜ r ≡ self .m ⌝ }
-    {
-        self.m
-    }
-
     fn after_refusal(mut self) -> Self
         ensures { λ r. ⌜ r ≡ refusedOf self ⌝ }
     {
@@ -130,14 +122,18 @@ impl Record {
             };
         }
         let refused = self.refused;
+        let mut matrix = [[0i64; 8]; 8];
+        let mut axes = [[0i64; 8]; 8];
+        load::load_matrix(&mut matrix, n, numbers);
+        load::load_axes(&mut axes, n);
         Step {
             answer: Answer::Loaded,
             next: Record {
                 n,
                 m: 0,
                 refused,
-                a: load::loaded_matrix(n, numbers),
-                v: load::loaded_axes(n),
+                a: rows::packed(matrix),
+                v: rows::packed(axes),
             },
         }
     }
@@ -200,10 +196,9 @@ impl Record {
                 next: self.after_refusal(),
             };
         }
-        let a = self.a;
-        let rows = rows::unpacked(&a);
+        let matrix = rows::unpacked(&self.a);
         Step {
-            answer: query::loose_pair_of(&rows, n, t),
+            answer: query::loose_pair_of(&matrix, n, t),
             next: self,
         }
     }
@@ -223,8 +218,9 @@ impl Record {
                 next: self.after_refusal(),
             };
         }
-        let entry = self.a[9 * (i - 1)];
-        let error = query::error_of(&self.a, n, self.m, i - 1);
+        let matrix = rows::unpacked(&self.a);
+        let entry = matrix[i - 1][i - 1];
+        let error = query::error_of(&matrix, n, self.m, i - 1);
         AxisStep {
             answer: AxisAnswer {
                 value: Answer::Axis { entry, error },
@@ -232,24 +228,6 @@ impl Record {
             },
             next: self,
         }
-    }
-
-    // What axes 1 to n answer: i, a_ii, r_i and row i of v each. Asked for at once, they cost one record.
-    pub fn axes_numbers(self) -> [[i64; 11]; 8]
-        requires { ⌜ Kept self ⌝ }
-        ensures { λ z. ⌜ z ≡ axesNumbers self ⌝ }
-    {
-        let n = self.n;
-        let mut axes = [[0i64; 11]; 8];
-        let mut i = 0;
-        while i < n {
-            let error = query::error_of(&self.a, n, self.m, i);
-            let row = rows::row(&self.v, i);
-            let number = i + 1;
-            axes[i] = query::numbers_of(number as i64, self.a[9 * i], error as i64, row);
-            i = number;
-        }
-        axes
     }
 
     fn with_work(self, done: work::Worked) -> Self

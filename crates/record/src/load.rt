@@ -7,8 +7,9 @@ ghost use Rattle.integer.specs.Range.{all};
 ghost use Rattle.ledger.specs.Call.{load};
 ghost use Rattle.limits.specs.Limits.{entryLimit, units, whole};
 ghost use Rattle.ledger.specs.Refusal.{equal, matrixOf, refusalOf, symmetric, within};
-ghost use Rattle.record.specs.Flat.{flatOf};
+ghost use Rattle.record.specs.Flat.{blank};
 ghost use Rattle.record.specs.Record.{inUse};
+ghost use Rattle.rotation.specs.Turn.{square};
 ghost use lib.Dec.{leb};
 ghost use lib.IntN.{pos, natAbs, _*ℤ_};
 ghost use lib.ListN.{length};
@@ -96,33 +97,30 @@ fn loaded_entry(n: usize, numbers: &[i64], i: usize, j: usize) -> i64
     Record::UNITS * numbers[i * n + j]
 }
 
-pub fn loaded_matrix(n: usize, numbers: &[i64]) -> [i64; 64]
-    requires { ⌜ (n ≤ 8) × (length (now numbers) ≡ n * n) × (within (now numbers) ≡ true) ⌝ }
-    ensures { λ r. ⌜ r ≡ flatOf (inUse n (λ i j. pos units *ℤ matrixOf n (now (numbers .entry)) i j)) ⌝ }
+// The n×n numbers in kept units, put into rows of 0.
+pub fn load_matrix(matrix: &mut [[i64; 8]; 8], n: usize, numbers: &[i64])
+    requires { ⌜ (now matrix ≡ blank) × (n ≤ 8) × (length (now numbers) ≡ n * n) × (within (now numbers) ≡ true) ⌝ }
+    ensures { λ _. ⌜ now (matrix .exit) ≡ square (inUse n (λ i j. pos units *ℤ matrixOf n (now (numbers .entry)) i j)) ⌝ }
 {
-    let mut a = [0i64; 64];
     let mut i = 0;
     while i < n {
-        let start = 8 * i;
         let mut j = 0;
         while j < n {
-            a[start + j] = loaded_entry(n, numbers, i, j);
+            matrix[i][j] = loaded_entry(n, numbers, i, j);
             j += 1;
         }
         i += 1;
     }
-    a
 }
 
-pub fn loaded_axes(n: usize) -> [i64; 64]
-    requires { ⌜ n ≤ 8 ⌝ }
-    ensures { λ r. ⌜ r ≡ flatOf (inUse n (diagonal (pos whole))) ⌝ }
+// The diagonal of n channels, put into rows of 0.
+pub fn load_axes(axes: &mut [[i64; 8]; 8], n: usize)
+    requires { ⌜ (now axes ≡ blank) × (n ≤ 8) ⌝ }
+    ensures { λ _. ⌜ now (axes .exit) ≡ square (inUse n (diagonal (pos whole))) ⌝ }
 {
-    let mut v = [0i64; 64];
     let mut i = 0;
     while i < n {
-        v[9 * i] = Record::WHOLE;
+        axes[i][i] = Record::WHOLE;
         i += 1;
     }
-    v
 }

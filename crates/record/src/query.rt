@@ -11,9 +11,7 @@ ghost use Rattle.ledger.specs.Pairs.{cyclic};
 ghost use Rattle.ledger.specs.Refusal.{refusalOf};
 ghost use Rattle.rotation.specs.Size.{Small};
 ghost use Rattle.rotation.specs.Turn.{at};
-ghost use Rattle.record.specs.Flat.{kept};
 ghost use Rattle.record.specs.Record.{looseOf};
-ghost use Rattle.record.specs.Query.{Modest};
 use crate::Answer;
 use crate::Record;
 
@@ -44,20 +42,12 @@ pub fn axis_refusal(n: usize, i: usize) -> u32
     0
 }
 
-// |a_ij| of rows, i and j from 0.
+// |a_ij|, i and j from 0.
 fn entry_size(a: &[[i64; 8]; 8], i: usize, j: usize) -> u64
     requires { ⌜ (i < 8) × (j < 8) × Small (now a) ⌝ }
     ensures { λ r. ⌜ r ≡ natAbs (at (now (a .entry)) i j) ⌝ }
 {
     rotation::choice::magnitude(a[i][j])
-}
-
-// |a_ij| of the kept matrix, i and j from 0.
-fn magnitude_at(a: &[i64; 64], i: usize, j: usize) -> u64
-    requires { ⌜ (i < 8) × (j < 8) × Modest (now a) ⌝ }
-    ensures { λ r. ⌜ r ≡ natAbs (kept (now (a .entry)) i j) ⌝ }
-{
-    rotation::choice::magnitude(a[8 * i + j])
 }
 
 // The first pair in row order whose entry is above t in size.
@@ -80,20 +70,20 @@ pub fn loose_pair_of(a: &[[i64; 8]; 8], n: usize, t: u64) -> Answer
 }
 
 // What column j adds to the error of the axis in row i.
-fn off_diagonal(a: &[i64; 64], i: usize, j: usize) -> u64
-    requires { ⌜ (i < 8) × (j < 8) × Modest (now a) ⌝ }
-    ensures { λ r. ⌜ r ≡ cond (eqb j i) 0 (natAbs (kept (now (a .entry)) i j)) ⌝ }
+fn off_diagonal(a: &[[i64; 8]; 8], i: usize, j: usize) -> u64
+    requires { ⌜ (i < 8) × (j < 8) × Small (now a) ⌝ }
+    ensures { λ r. ⌜ r ≡ cond (eqb j i) 0 (natAbs (at (now (a .entry)) i j)) ⌝ }
 {
     if j == i {
         return 0;
     }
-    magnitude_at(a, i, j)
+    entry_size(a, i, j)
 }
 
-// The error of the axis in row i (from 0) of the kept matrix.
-pub fn error_of(a: &[i64; 64], n: usize, m: u64, i: usize) -> u64
-    requires { ⌜ (i < n) × (n ≤ 8) × (m ≤ 448) × Modest (now a) ⌝ }
-    ensures { λ r. ⌜ r ≡ errorOf n (kept (now (a .entry))) m i ⌝ }
+// The error of the axis in row i, from 0.
+pub fn error_of(a: &[[i64; 8]; 8], n: usize, m: u64, i: usize) -> u64
+    requires { ⌜ (i < n) × (n ≤ 8) × (m ≤ 448) × Small (now a) ⌝ }
+    ensures { λ r. ⌜ r ≡ errorOf n (at (now (a .entry))) m i ⌝ }
 {
     let mut sum = 0;
     let mut j = 0;

@@ -9,16 +9,13 @@ pub fn row(a: &[i64; 64], i: usize) -> [i64; 8]
     ensures { λ r. ⌜ r ≡ entriesOf (now (a .entry)) i ⌝ }
 {
     let start = 8 * i;
-    [
-        a[start],
-        a[start + 1],
-        a[start + 2],
-        a[start + 3],
-        a[start + 4],
-        a[start + 5],
-        a[start + 6],
-        a[start + 7],
-    ]
+    let mut row = [0i64; 8];
+    let mut j = 0;
+    while j < 8 {
+        row[j] = a[start + j];
+        j += 1;
+    }
+    row
 }
 
 pub fn unpacked(a: &[i64; 64]) -> [[i64; 8]; 8]

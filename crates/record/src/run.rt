@@ -1,21 +1,24 @@
-// A run from a record on: sweeps until no pair is loose, a sweep makes no turn, or the limit is reached. Its contract is that of the calls
-// one after the other; the matrix and axes are unpacked once and packed once for all of them.
+// A run on rows that the caller lends: the load, the sweeps, and the numbers of the axes. Each by contract what the calls on a record do, which
+// would take the record's 1 KB in and out each time.
 ghost use mathlib.Core.Path.{_≡_};
 ghost use mathlib.Core.Bool.{cond, false};
 ghost use Prim.Native.Nat.{_≤_};
 ghost use lib.Dec.{eqb};
+ghost use Rattle.ledger.specs.Call.{load};
 ghost use Rattle.ledger.specs.Pairs.{cyclic};
-ghost use Rattle.record.specs.Kept.{Kept};
-ghost use Rattle.record.specs.Record.{looseOf};
-ghost use Rattle.record.specs.Run.{heldOf, noPair, runFrom, stop};
+ghost use Rattle.ledger.specs.Refusal.{refusalOf};
+ghost use Rattle.record.specs.AxisNumbers.{axesNumbers};
+ghost use Rattle.record.specs.Flat.{blank};
+ghost use Rattle.record.specs.Record.{afterOf, fresh, looseOf};
+ghost use Rattle.record.specs.Rows.{Holds, heldOf};
+ghost use Rattle.record.specs.Run.{noPair, runFrom, stop};
 ghost use Rattle.record.specs.declared.Answer.the-variants.{Refused};
 ghost use Rattle.rotation.specs.Size.{Small};
 ghost use Rattle.rotation.specs.Turn.{at};
 use crate::Answer;
-use crate::Record;
+use crate::load;
 use crate::one_more;
 use crate::query;
-use crate::rows;
 use crate::work;
 
 // How a run ends.
@@ -25,11 +28,21 @@ pub enum Outcome {
     Spent,
 }
 
-// The outcome, how many sweeps were run, and the record as they leave it.
-pub struct Ran {
+// The outcome, how many sweeps were run, and m and the refused calls as they leave them.
+pub struct Ended {
     pub outcome: Outcome,
     pub sweeps: u64,
-    pub last: Record,
+    pub m: u64,
+    pub refused: u32,
+}
+
+// The matrix and axes of a fresh record after a load, put into rows of 0.
+pub fn load_rows(matrix: &mut [[i64; 8]; 8], axes: &mut [[i64; 8]; 8], n: usize, numbers: &[i64])
+    requires { ⌜ (now matrix ≡ blank) × (now axes ≡ blank) × (refusalOf 0 0 (load n (now numbers)) ≡ 0) ⌝ }
+    ensures { λ _. ⌜ (heldOf n 0 0 (now (matrix .exit)) (now (axes .exit)) ≡ afterOf fresh (load n (now (numbers .entry)))) × Holds n 0 (now (matrix .exit)) (now (axes .exit)) ⌝ }
+{
+    load::load_matrix(matrix, n, numbers);
+    load::load_axes(axes, n);
 }
 
 // Whether a loose-pair call answers none, where `number` is its refusal's number or 0.
@@ -48,62 +61,76 @@ fn is_settled(number: u32, matrix: &[[i64; 8]; 8], n: usize, tolerance: u64) -> 
     }
 }
 
-fn ended(
-    outcome: Outcome,
-    sweeps: u64,
+// Sweeps until no pair is loose, a sweep makes no turn, or the limit is reached.
+pub fn run_rows(
+    matrix: &mut [[i64; 8]; 8],
+    axes: &mut [[i64; 8]; 8],
     n: usize,
-    m: u64,
-    refused: u32,
-    matrix: [[i64; 8]; 8],
-    axes: [[i64; 8]; 8],
-) -> Ran
-    ensures { λ z. ⌜ z ≡ stop outcome sweeps (heldOf n m refused matrix axes) ⌝ }
+    limit: u64,
+    tolerance: u64,
+) -> Ended
+    requires { ⌜ Holds n 0 (now matrix) (now axes) ⌝ }
+    ensures { λ z. ⌜ (stop (z .outcome) (z .sweeps) (heldOf n (z .m) (z .refused) (now (matrix .exit)) (now (axes .exit))) ≡ runFrom limit 0 false tolerance (heldOf n 0 0 (now (matrix .entry)) (now (axes .entry)))) × Holds n (z .m) (now (matrix .exit)) (now (axes .exit)) ⌝ }
 {
-    let a = rows::packed(matrix);
-    let v = rows::packed(axes);
-    Ran {
-        outcome,
-        sweeps,
-        last: Record {
-            n,
-            m,
-            refused,
-            a,
-            v,
-        },
-    }
-}
-
-pub fn run_from(r: Record, limit: u64, tolerance: u64) -> Ran
-    requires { ⌜ Kept r ⌝ }
-    ensures { λ z. ⌜ z ≡ runFrom limit 0 false tolerance r ⌝ }
-{
-    let n = r.n;
     let number = query::loose_pair_refusal(n, tolerance);
-    let mut matrix = rows::unpacked(&r.a);
-    let mut axes = rows::unpacked(&r.v);
-    let mut m = r.m;
-    let mut refused = r.refused;
+    let mut m = 0;
+    let mut refused = 0;
     let mut sweeps = 0;
     let mut idle = false;
     loop {
-        let settled = is_settled(number, &matrix, n, tolerance);
+        let settled = is_settled(number, matrix, n, tolerance);
         if settled {
-            return ended(Outcome::Settled, sweeps, n, m, refused, matrix, axes);
+            return Ended {
+                outcome: Outcome::Settled,
+                sweeps,
+                m,
+                refused,
+            };
         }
         if idle {
-            return ended(Outcome::Still, sweeps, n, m, refused, matrix, axes);
+            return Ended {
+                outcome: Outcome::Still,
+                sweeps,
+                m,
+                refused,
+            };
         }
         if sweeps == limit {
-            return ended(Outcome::Spent, sweeps, n, m, refused, matrix, axes);
+            return Ended {
+                outcome: Outcome::Spent,
+                sweeps,
+                m,
+                refused,
+            };
         }
         sweeps += 1;
         if work::sweep_refusal(n, m) == 0 {
-            let made = work::work_pairs(&mut matrix, &mut axes, n, m);
+            let made = work::work_pairs(matrix, axes, n, m);
             idle = made == m;
             m = made;
         } else {
             refused = one_more(refused);
         }
     }
+}
+
+// What axes 1 to n answer: i, a_ii, r_i and row i of v each.
+pub fn axes_numbers(
+    matrix: &[[i64; 8]; 8],
+    axes: &[[i64; 8]; 8],
+    n: usize,
+    m: u64,
+) -> [[i64; 11]; 8]
+    requires { ⌜ Holds n m (now matrix) (now axes) ⌝ }
+    ensures { λ z. ⌜ z ≡ axesNumbers (heldOf n m 0 (now (matrix .entry)) (now (axes .entry))) ⌝ }
+{
+    let mut numbers = [[0i64; 11]; 8];
+    let mut i = 0;
+    while i < n {
+        let error = query::error_of(matrix, n, m, i);
+        let number = i + 1;
+        numbers[i] = query::numbers_of(number as i64, matrix[i][i], error as i64, axes[i]);
+        i = number;
+    }
+    numbers
 }

@@ -1,4 +1,4 @@
--- The run of a job as calls: none is refused, its sweeps are at most 16, and its record has the job's channels.
+-- The run of a job as calls: none is refused, its sweeps are at most 16 and its turns 448, and its record has the job's channels.
 use mathlib.Core.Path.{_≡_}
 use Prim.Native.Nat.{_*_, _≤_}
 use native.Mathlib.Nat.{le-trans}
@@ -7,8 +7,9 @@ use Rattle.job.specs.Job.{Job}
 use Rattle.job.specs.Values.{Proper}
 use Rattle.job_table.specs.Held.{sumsFor, tableFor}
 use Rattle.job_table.specs.Laws.{channels, limit-most, tolerance-most}
+use Rattle.limits.specs.Limits.{turnLimit}
 use Rattle.run.specs.Calls.{Allowed, AsCalls, run-calls}
-use Rattle.run.specs.Course.{run-ends}
+use Rattle.run.specs.Course.{run-ends, run-kept}
 use Rattle.run.specs.Table.{table-accepted}
 use Rattle.report.specs.Certified.{loadedFor}
 use Rattle.report.specs.Report.{runFor}
@@ -16,6 +17,10 @@ use Rattle.report.specs.Report.{runFor}
 pub sweeps-most : (j : Job) → Proper j → runFor j .sweeps ≤ 16
 unfolding runFor
 sweeps-most j p = le-trans (run-ends (j .n) (take (j .n * j .n) (tableFor j .entries)) (j .limit) (j .tolerance) .within) (limit-most j p)
+
+pub turns-most : (j : Job) → runFor j .last .m ≤ turnLimit
+unfolding runFor
+turns-most j = run-kept (j .n) (take (j .n * j .n) (tableFor j .entries)) (j .limit) (j .tolerance) .turns
 
 module _ (j : Job) (p : Proper j) where
   pub allowed : Allowed (j .n) (loadedFor j) (j .limit) (j .tolerance)

@@ -1,20 +1,15 @@
 -- The text that is written is the report: the R line's numbers and the A lines' are the job's.
 use Prim.Native.Nat.{ℕ, suc, _+_, _<_, _≤_}
-use mathlib.Core.Path.{_≡_, refl, ap}
-use mathlib.Core.Bool.{Bool, true, false, cond}
-use mathlib.Core.List.{List, [], _∷_, _++_}
+use mathlib.Core.Path.{_≡_, ap}
+use mathlib.Core.List.{List, _∷_, _++_}
 use native.Mathlib.Omega.{arith}
-use borrow.Author.Tests.{lt-ltb}
-use lib.Dec.{ltb}
 use lib.IntN.{ℤ, pos}
-use lib.ListN.{length, replicate}
 use Rattle.job.specs.Job.{Job}
 use Rattle.job.specs.Values.{Proper}
 use Rattle.ledger.specs.Call.{axis}
-use Rattle.record.specs.AxisNumbers.{axesNumbers, axisNumbers, length-numbers, two-before}
+use Rattle.record.specs.AxisNumbers.{axes-row, axesNumbers, axisNumbers, length-axes-row, two-before}
 use Rattle.record.specs.Record.{answerOf, axisOf}
 use Rattle.record.specs.declared.Record.{Record}
-use Rattle.rotation.specs.Eight.{getD-eight}
 use Rattle.text.specs.Line.{numberLine}
 use Rattle.text.specs.Lines.{lines-same}
 use Rattle.text.specs.Rows.{Wide, rowLine}
@@ -23,27 +18,14 @@ use Rattle.report.specs.Report.{lineA, lineR, reportOf, runFor}
 use Rattle.report.proofs.Bounds.{run-channels}
 
 module _ (r : Record) where
-  -- row i of the axes' numbers
-  row : ℕ → List ℤ
-  row i = cond (ltb i (r .n)) (axisNumbers r (suc i)) (replicate 11 (pos 0))
-
-  row-length : (i : ℕ) → length (row i) ≡ 11
-  unfolding row
-  row-length i = by (ltb i (r .n))
-    where
-      by : (t : Bool) → length (cond t (axisNumbers r (suc i)) (replicate 11 (pos 0))) ≡ 11
-      by true = length-numbers r (suc i)
-      by false = refl
-
   pub axes-wide : Wide (axesNumbers r)
-  unfolding axesNumbers row
-  axes-wide = record { wide = λ i h. rw (getD-eight row i [] h) (row-length i) }
+  axes-wide = record { wide = length-axes-row r }
 
   line-same : (n i : ℕ) → r .n ≡ n → i < n → n ≤ 8 → rowLine 65 (n + 3) (axesNumbers r) i ≡ lineA n r (suc i)
-  unfolding axesNumbers row axisNumbers lineA
+  unfolding axisNumbers lineA
   line-same n i c l h =
       let e : n + 3 ≡ suc (suc (suc n)) = omega arith in
-      rw (getD-eight row i [] (omega arith), lt-ltb i (r .n) (omega arith), e)
+      rw (axes-row r i (omega arith) (omega arith), e)
       (ap (λ (l : List ℤ). numberLine 65 (pos (suc i) ∷ l)) (two-before (answerOf r (axis (suc i))) n (axisOf r (suc i))))
 
 pub text-same : (j : Job) → j .n ≤ 8 → Proper j → textOf (headOf j) (runFor j .outcome) (axesNumbers (runFor j .last)) (j .n) ≡ reportOf j

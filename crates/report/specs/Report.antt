@@ -12,7 +12,7 @@ use Rattle.record.specs.declared.Record.{Record}
 use Rattle.run.specs.Run.{runOf}
 use Rattle.record.specs.declared.run.Outcome.{Outcome}
 use Rattle.record.specs.declared.run.Outcome.the-variants.{Settled, Still, Spent}
-use Rattle.record.specs.declared.run.Ran.{Ran}
+use Rattle.record.specs.Run.{Ran}
 use Rattle.text.specs.Line.{numberLine, wordLine}
 use Rattle.text.specs.Lines.{lines}
 

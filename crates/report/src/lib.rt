@@ -3,7 +3,7 @@ mod lines;
 
 use job::Job;
 use job::reply::Reply;
-use record::run::Ran;
+use record::run::Ended;
 ghost use Rattle.job.specs.Job.{accepted};
 ghost use Rattle.job_table.specs.Held.{Held, jobIn};
 ghost use Rattle.text.specs.Put.{Put};
@@ -11,22 +11,23 @@ ghost use Rattle.job.specs.Reply.{Answers, Replies, printedOf};
 ghost use Rattle.report.specs.Done.{Solves};
 ghost use Rattle.report.specs.Report.{reportOf};
 
-// The table's shift, and the run on the table.
+// The table's shift, and how the run on the table ends.
 struct Solved {
     e: u32,
-    ran: Ran,
+    run: Ended,
 }
 
-fn solve(job: Job) -> Solved
+// Into `axes` go the numbers of the run's axes.
+fn solve(job: Job, axes: &mut [[i64; 11]; 8]) -> Solved
     requires { ⌜ Held job ⌝ }
-    ensures { λ z. ⌜ Solves (jobIn job) z ⌝ }
+    ensures { λ z. ⌜ Solves (jobIn job) z (now (axes .exit)) ⌝ }
 {
     let n = job.n;
     let table = job_table::table_of(job);
     let entries = table.entries;
     let size = n * n;
-    let ran = run::run(n, &entries[..size], job.limit, job.tolerance);
-    Solved { e: table.e, ran }
+    let run = run::run(n, &entries[..size], job.limit, job.tolerance, axes);
+    Solved { e: table.e, run }
 }
 
 // The length is known before the first byte is written, so a buffer that is too short stays as it is.
@@ -35,18 +36,17 @@ fn report_job(job: Job, buf: &mut [u8]) -> Reply
     ensures { λ r. ⌜ Answers reportOf (accepted (jobIn job)) (now (buf .entry)) (now (buf .exit)) r ⌝ }
 {
     let n = job.n;
-    let solved = solve(job);
-    let ran = solved.ran;
-    let outcome = ran.outcome;
-    let last = ran.last;
+    let mut axes = [[0i64; 11]; 8];
+    let solved = solve(job, &mut axes);
+    let run = solved.run;
+    let outcome = run.outcome;
     let head = [
         n as i64,
         job.k as i64,
         solved.e as i64,
-        ran.sweeps as i64,
-        last.turns() as i64,
+        run.sweeps as i64,
+        run.m as i64,
     ];
-    let axes = last.axes_numbers();
     let length = lines::text_length(&head, outcome, &axes, n);
     if buf.len() < length {
         return Reply::Refused(12, 0);

@@ -20,7 +20,7 @@ use Rattle.record.specs.declared.Record.{Record}
 use Rattle.run.specs.Accepted.{after-accepted, loose-pair-accepted, sweep-accepted}
 use Rattle.run.specs.Course.{Course, settles, is-still, is-spent, sweeps-on, course}
 use Rattle.run.specs.Run.{runOf}
-use Rattle.record.specs.declared.run.Ran.{Ran}
+use Rattle.record.specs.Run.{Ran}
 
 -- what a run is for: a matrix that is not refused, a sweep limit of at most 16, a tolerance within its range
 pub record Allowed (n : ℕ) (numbers : List ℤ) (limit t : ℕ) : Type 0 where

@@ -19,11 +19,10 @@ use Rattle.rotation.specs.Rotation.{first, rotationOf, second, signed}
 use Rattle.rotation.specs.Threshold.{roundedUp, threshold, u, w}
 use Rattle.rotation.specs.Turn.{array, at, atPair, eight, hpp, hpq, hqp, hqq, newp, newpp, newpq, newq, newqq, turnAxes, turnMatrix, turned, turnedAxes}
 use Rattle.rounding.specs.Rounding.{rnd}
-use Rattle.record.specs.Run.{noPair, noTurn, runFrom, stop, tried}
+use Rattle.record.specs.Run.{Ran, noPair, noTurn, runFrom, stop, tried}
 use Rattle.record.specs.Running.{run-settled}
 use Rattle.run.specs.Run.{runOf}
 use Rattle.record.specs.declared.run.Outcome.the-variants.{Settled, Spent, Still}
-use Rattle.record.specs.declared.run.Ran.{Ran}
 
 -- a matrix of two channels
 abbrev pub two : ℤ → ℤ → ℤ → List ℤ

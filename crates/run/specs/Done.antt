@@ -1,12 +1,13 @@
--- What a run ensures: it is the run of document 01, and its record is kept.
+-- What a run ensures: how it ends, and what its axes answer.
 use mathlib.Core.Path.{_≡_}
 use mathlib.Core.List.{List}
 use Prim.Native.Nat.{ℕ}
 use lib.IntN.{ℤ}
-use Rattle.record.specs.Kept.{Kept}
+use Rattle.record.specs.AxisNumbers.{axesNumbers}
+use Rattle.record.specs.Run.{endOf}
+use Rattle.record.specs.declared.run.Ended.{Ended}
 use Rattle.run.specs.Run.{runOf}
-use Rattle.record.specs.declared.run.Ran.{Ran}
 
-pub record RunDone (n : ℕ) (numbers : List ℤ) (limit t : ℕ) (z : Ran) : Type 0 where
-  pub is : z ≡ runOf n numbers limit t
-  pub keeps : Kept (z .last)
+pub record RunDone (n : ℕ) (numbers : List ℤ) (limit t : ℕ) (z : Ended) (axes : List (List ℤ)) : Type 0 where
+  pub ends : z ≡ endOf (runOf n numbers limit t)
+  pub answers : axes ≡ axesNumbers (runOf n numbers limit t .last)

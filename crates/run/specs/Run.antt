@@ -5,8 +5,7 @@ use Prim.Native.Nat.{ℕ}
 use lib.IntN.{ℤ}
 use Rattle.ledger.specs.Call.{load}
 use Rattle.record.specs.Record.{afterOf, fresh}
-use Rattle.record.specs.Run.{runFrom}
-use Rattle.record.specs.declared.run.Ran.{Ran}
+use Rattle.record.specs.Run.{Ran, runFrom}
 
 -- before the first sweep there is no last sweep that made no turn
 unfoldable pub runOf : ℕ → List ℤ → ℕ → ℕ → Ran

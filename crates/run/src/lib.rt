@@ -1,13 +1,25 @@
-// A run of document 01: a fresh record of its own, a load, and the sweeps.
-use record::Record;
-use record::run::Ran;
+// A run of document 01: a fresh record of its own, a load, and the sweeps. The record is kept as rows while it runs.
+use record::run::Ended;
+ghost use mathlib.Core.Path.{_≡_};
+ghost use Rattle.ledger.specs.Call.{load};
+ghost use Rattle.ledger.specs.Refusal.{refusalOf};
 ghost use Rattle.run.specs.Done.{RunDone};
 
-pub fn run(n: usize, numbers: &[i64], limit: u64, tolerance: u64) -> Ran
-    ensures { λ z. ⌜ RunDone n (now (numbers .entry)) limit tolerance z ⌝ }
+// The answer tells how the run ends; into `axes` go the numbers of axes 1 to n.
+pub fn run(
+    n: usize,
+    numbers: &[i64],
+    limit: u64,
+    tolerance: u64,
+    axes: &mut [[i64; 11]; 8],
+) -> Ended
+    requires { ⌜ refusalOf 0 0 (load n (now numbers)) ≡ 0 ⌝ }
+    ensures { λ z. ⌜ RunDone n (now (numbers .entry)) limit tolerance z (now (axes .exit)) ⌝ }
 {
-    let fresh = Record::new();
-    let loaded = fresh.load(n, numbers);
-    let next = loaded.next;
-    record::run::run_from(next, limit, tolerance)
+    let mut matrix = [[0i64; 8]; 8];
+    let mut v = [[0i64; 8]; 8];
+    record::run::load_rows(&mut matrix, &mut v, n, numbers);
+    let ended = record::run::run_rows(&mut matrix, &mut v, n, limit, tolerance);
+    *axes = record::run::axes_numbers(&matrix, &v, n, ended.m);
+    ended
 }

@@ -1,18 +1,35 @@
 -- `run::run` meets its contract.
-use mathlib.Core.Path.{_≡_, _∙_}
-use borrow.Author.Needs.{needs}
-use Rattle.run.specs.Course.{run-kept}
+use mathlib.Core.Path.{refl, ap, _∙_}
+use mathlib.Core.Bool.{false}
+use Rattle.record.specs.AxisNumbers.{axesNumbers}
+use Rattle.record.specs.Flat.{blank}
+use Rattle.record.specs.Rows.{axes-uncounted}
+use Rattle.record.specs.Run.{Ran, endOf, runFrom}
 use Rattle.run.specs.Run.{runOf}
 use Rattle.run.proofs.run.Statement.{statement}
 use Rattle.run.proofs.run.Tie as tie
 
+load-rows-requires : tie.Need-load-rows-requires
+unfolding blank
+load-rows-requires c κs = (refl, refl, c .before .before .pre)
+
+run-rows-requires : tie.Need-run-rows-requires
+run-rows-requires c κs = c .before .before .load-rows .ensures .1
+
+axes-numbers-requires : tie.Need-axes-numbers-requires
+axes-numbers-requires c κs = c .before .before .run-rows .ensures .1
+
 returns : tie.Need-returns
-unfolding runOf
+unfolding runOf endOf
 returns c =
-    let s = c .before .before .before .before in
-    let e : c .run-from .result ≡ runOf (s .args .n) (s .args .numbers .now) (s .args .limit) (s .args .tolerance) =
-    c .run-from .ensures ∙ rw (c .before .before .load .ensures .leaves, c .before .before .before .new .ensures .is) in
-    record { is = e; keeps = rw e (run-kept (s .args .n) (s .args .numbers .now) (s .args .limit) (s .args .tolerance)) }
+    let ran = c .before .before .before in
+    let loaded = ran .before .before .before in
+    let s = loaded .before .before .before in
+    let e = ran .run-rows .ensures .0 ∙ ap (runFrom (s .args .limit) 0 false (s .args .tolerance)) (loaded .load-rows .ensures .0) in
+    record {
+      ends = ap endOf e;
+      answers = c .axes-numbers .ensures ∙ axes-uncounted _ _ _ _ _ ∙ ap (λ (z : Ran). axesNumbers (z .last)) e;
+    }
 
 pub run-spec : {M : Type 1} → statement M
-run-spec = tie.close (tie.spec (λ c κs. search needs) (λ c κs. search needs) (λ c κs. search needs) returns)
+run-spec = tie.close (tie.spec load-rows-requires run-rows-requires axes-numbers-requires returns)

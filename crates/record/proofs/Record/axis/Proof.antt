@@ -1,7 +1,7 @@
 -- `record::Record::axis` meets its contract.
-use mathlib.Core.Path.{_≡_, refl, sym, ap, _∙_}
-use mathlib.Core.List.{[], _∷_}
-use Prim.Native.Nat.{ℕ, _+_, _*_, _-_}
+use mathlib.Core.Path.{_≡_, refl, sym, _∙_}
+use mathlib.Core.List.{[]}
+use Prim.Native.Nat.{_-_, _<_}
 use native.Mathlib.Omega.{arith}
 use lib.IntN.{pos}
 use lib.ListN.{getD}
@@ -11,12 +11,15 @@ use borrow.Author.Needs.{needs}
 use borrow.Author.Tests.{eq-eqb, ne-eqb}
 use Rattle.integer.specs.Word.{word}
 use Rattle.ledger.specs.Accepted.{Names, axis-accepted}
+use Rattle.ledger.specs.Axis.{errorOf, same-error}
 use Rattle.ledger.specs.Call.{axis}
 use Rattle.ledger.specs.Refusal.{refusalOf}
+use Rattle.rotation.specs.Turn.{at}
+use Rattle.record.specs.Fill.{at-rowsOf}
 use Rattle.record.specs.Flat.{kept}
 use Rattle.record.specs.Record.{acceptedOf, axisOf, valueOf}
 use Rattle.record.specs.declared.Answer.the-variants.{Axis}
-use Rattle.record.proofs.Outcome.{accepted, kept-modest, refused}
+use Rattle.record.proofs.Outcome.{accepted, kept-small, refused}
 use Rattle.record.proofs.Record.axis.Statement.{statement}
 use Rattle.record.proofs.Record.axis.Tie as tie
 
@@ -37,26 +40,35 @@ returns c =
 names : (c : tie.Else1) → (let s = c .before .before .args in Names (s .t1 .n) (s .i))
 names c = axis-accepted _ 0 _ (sym (c .before .axis-refusal .ensures) ∙ c .if1 .left)
 
+-- row i, counted from 0, is one of the eight
+place : (c : tie.Else1) → c .before .before .args .i - 1 < 8
+place c = let few = c .before .before .pre .size in omega (arith, names c .first, names c .last)
+
 error-of-requires : tie.Need-error-of-requires
 error-of-requires c κs =
-    let s = c .before .before .before .before .before in
-    let a = names (c .before .before .before) in
-    (omega (arith, a .first, a .last), s .pre .size, s .pre .turns, kept-modest (s .args .t1) (s .pre))
+    let unpacked = c .before .before in
+    let checked = unpacked .before .before .before in
+    let s = checked .before .before in
+    (omega (arith, names checked .first, names checked .last), s .pre .size, s .pre .turns, rw (unpacked .unpacked .ensures) (kept-small (s .args .t1) (s .pre)))
 
 returns-2 : tie.Need-returns-2
-unfolding refusalOf valueOf acceptedOf axisOf kept
+unfolding refusalOf valueOf acceptedOf axisOf at
 returns-2 c =
-    let s = c .before .before .before .before .before .before .before .before .before in
+    let error = c .before .before .before in
+    let unpacked = error .before .before .before in
+    let checked = unpacked .before .before .before in
+    let s = checked .before .before in
     let r = s .args .t1 in
-    let e = c .before .before .before .before .before .before .before .before .axis-refusal .ensures in
-    let left = c .before .before .before .before .before .before .before .if1 .left in
-    let f : SFits w64 (getD (r .a) (9 * (s .args .i - 1)) (pos 0)) = search needs in
-    let place : 9 * (s .args .i - 1) ≡ 8 * (s .args .i - 1) + (s .args .i - 1) = omega arith in
-    let done = accepted r (axis (s .args .i)) (s .pre) _ e _ r left
-    (λ i. Axis (word f (ap (λ k. getD (r .a) k (pos 0)) place) i) (c .before .before .before .error-of .ensures i)) refl in
+    let i = s .args .i - 1 in
+    let e = checked .before .axis-refusal .ensures in
+    let f : SFits w64 (getD (getD (unpacked .unpacked .result) i []) i (pos 0)) = search needs in
+    let entry : at (unpacked .unpacked .result) i i ≡ kept (r .a) i i = rw (unpacked .unpacked .ensures) (at-rowsOf (r .a) i i (place checked) (place checked)) in
+    let error-is : error .error-of .result ≡ errorOf (r .n) (kept (r .a)) (r .m) i =
+    error .error-of .ensures ∙ rw (unpacked .unpacked .ensures) (same-error (r .n) _ _ (r .m) i (λ j l. at-rowsOf (r .a) i j (place checked) (omega (arith, l, s .pre .size)))) in
+    let done = accepted r (axis (s .args .i)) (s .pre) _ e _ r (checked .if1 .left) (λ k. Axis (word f entry k) (error-is k)) refl in
     record {
       answers = done .answers;
-      row = c .row .ensures ∙ rw (eq-eqb (refusalOf (r .n) (r .m) (axis (s .args .i))) 0 (sym e ∙ left));
+      row = c .row .ensures ∙ rw (eq-eqb (refusalOf (r .n) (r .m) (axis (s .args .i))) 0 (sym e ∙ checked .if1 .left));
       leaves = done .leaves;
       keeps = done .keeps;
     }
@@ -68,12 +80,15 @@ axis-spec =
     (λ c κs. search needs)
     (λ c κs. search needs)
     returns
-    (λ c. names c .first)
-    (λ c. omega (arith, names c .last, c .before .before .pre .size))
-    (λ c. omega (arith, names c .last, c .before .before .pre .size))
-    (λ c. omega (arith, names c .last, c .before .before .pre .size))
+    (λ c κs. search needs)
     (λ c. names (c .before .before .before) .first)
+    (λ c. names (c .before .before .before) .first)
+    (λ c. omega (arith, place (c .before .before .before)))
+    (λ c. omega (arith, place (c .before .before .before)))
+    (λ c. place (c .before .before .before))
+    (λ c. place (c .before .before .before))
+    (λ c. names (c .before .before .before .before .before) .first)
     error-of-requires
-    (λ c. names (c .before .before .before .before .before .before) .first)
-    (λ c κs. omega (arith, names (c .before .before .before .before .before .before) .last, c .before .before .before .before .before .before .before .before .pre .size))
+    (λ c. names (c .before .before .before .before .before .before .before .before) .first)
+    (λ c κs. place (c .before .before .before .before .before .before .before .before))
     returns-2)

@@ -1,5 +1,5 @@
 -- `record::Record::loose_pair` meets its contract.
-use mathlib.Core.Path.{_≡_, refl, _∙_}
+use mathlib.Core.Path.{refl, _∙_}
 use native.Mathlib.Omega.{arith}
 use borrow.Author.Needs.{needs}
 use Rattle.ledger.specs.Call.{loosePair}
@@ -7,9 +7,8 @@ use Rattle.ledger.specs.Cyclic.{cyclic-pairs}
 use Rattle.ledger.specs.Pairs.{cyclic}
 use Rattle.ledger.specs.Refusal.{refusalOf}
 use Rattle.record.specs.Fill.{at-rowsOf}
-use Rattle.record.specs.Record.{acceptedOf, valueOf, workOf}
-use Rattle.record.specs.Turning.{matrix-small}
-use Rattle.record.proofs.Outcome.{accepted, refused}
+use Rattle.record.specs.Record.{acceptedOf, valueOf}
+use Rattle.record.proofs.Outcome.{accepted, kept-small, refused}
 use Rattle.record.proofs.Search.{same-loose}
 use Rattle.record.proofs.Record.loose_pair.Statement.{statement}
 use Rattle.record.proofs.Record.loose_pair.Tie as tie
@@ -18,23 +17,23 @@ returns : tie.Need-returns
 unfolding refusalOf
 returns c =
     let s = c .before .before .before in
-    refused (s .args .self) (loosePair (s .args .t)) (s .pre) _ (c .before .before .loose-pair-refusal .ensures) _ (c .before .if1 .taken) (c .after-refusal .ensures)
+    refused (s .args .t1) (loosePair (s .args .t)) (s .pre) _ (c .before .before .loose-pair-refusal .ensures) _ (c .before .if1 .taken) (c .after-refusal .ensures)
 
 loose-pair-of-requires : tie.Need-loose-pair-of-requires
-unfolding workOf
 loose-pair-of-requires c κs =
     let s = c .before .before .before .before .before .before in
-    (s .pre .size, rw (c .before .unpacked .ensures) (matrix-small (s .args .self .n) (workOf (s .args .self)) (s .pre .work) (omega (arith, s .pre .turns))))
+    (s .pre .size, rw (c .before .unpacked .ensures) (kept-small (s .args .t1) (s .pre)))
 
 returns-2 : tie.Need-returns-2
 unfolding refusalOf valueOf acceptedOf
 returns-2 c =
-    let s = c .before .before .before .before .before .before .before in
-    let r = s .args .self in
-    accepted r (loosePair (s .args .t)) (s .pre) _ (c .before .before .before .before .before .before .loose-pair-refusal .ensures) _ _
-    (c .before .before .before .before .before .if1 .left)
+    let unpacked = c .before .before in
+    let checked = unpacked .before .before .before in
+    let s = checked .before .before in
+    let r = s .args .t1 in
+    accepted r (loosePair (s .args .t)) (s .pre) _ (checked .before .loose-pair-refusal .ensures) _ _ (checked .if1 .left)
     (c .loose-pair-of .ensures ∙
-    rw (c .before .before .unpacked .ensures)
+    rw (unpacked .unpacked .ensures)
     (same-loose (r .n) _ _ (s .args .t) (cyclic (r .n)) (cyclic-pairs (r .n)) (λ i j h l. at-rowsOf (r .a) i j (omega (arith, h, s .pre .size)) (omega (arith, l, s .pre .size)))))
     refl
 

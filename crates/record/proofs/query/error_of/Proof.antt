@@ -8,14 +8,14 @@ use lib.Dec.{eqb}
 use lib.IntN.{natAbs}
 use Rattle.integer.specs.Sum.{sumℕ}
 use Rattle.ledger.specs.Axis.{errorOf}
-use Rattle.record.specs.Flat.{kept}
 use Rattle.rotation.specs.Size.{widest}
+use Rattle.rotation.specs.Turn.{at}
 use Rattle.record.proofs.query.error_of.Statement.{statement}
 use Rattle.record.proofs.query.error_of.Tie as tie
 
 abbrev Inv-loop : tie.InvT-loop
 Inv-loop a n m i sum₀ j₀ sum j =
-    (j ≤ n) × (sum ≡ sumℕ j (λ j. cond (eqb j i) 0 (natAbs (kept a i j)))) × (sum ≤ j * widest)
+    (j ≤ n) × (sum ≡ sumℕ j (λ j. cond (eqb j i) 0 (natAbs (at a i j)))) × (sum ≤ j * widest)
 
 abbrev μ-loop : tie.MeasureT-loop
 μ-loop a n m i sum₀ j₀ sum j = n - j
@@ -33,7 +33,7 @@ column c =
     let s = c .before .before .before in
     let i = s .args .i in
     let j = c .before .before .loop .j in
-    rw (c .off-diagonal .ensures) (cond-≤ (eqb j i) (s .pre .3 .modest i j (omega arith) (omega arith)))
+    rw (c .off-diagonal .ensures) (cond-≤ (eqb j i) (s .pre .3 .small i j))
   where
     cond-≤ : (b : Bool) {x w : ℕ} → x ≤ w → cond b 0 x ≤ w
     cond-≤ true h = omega arith

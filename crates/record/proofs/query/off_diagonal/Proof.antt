@@ -12,7 +12,7 @@ returns c =
 returns-2 : tie.Need-returns-2
 returns-2 c =
     let s = c .before .before in
-    rw (ne-eqb (s .args .j) (s .args .i) (c .before .if1 .left)) (c .magnitude-at .ensures)
+    rw (ne-eqb (s .args .j) (s .args .i) (c .before .if1 .left)) (c .entry-size .ensures)
 
 pub off-diagonal-spec : {M : Type 1} → statement M
 off-diagonal-spec = tie.close (tie.spec returns (λ c κs. search needs) returns-2)

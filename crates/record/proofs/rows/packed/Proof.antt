@@ -1,5 +1,5 @@
 -- `record::rows::packed` meets its contract: the flat matrix is filled row by row.
-use mathlib.Core.Path.{_≡_, sym, _∙_}
+use mathlib.Core.Path.{_≡_, _∙_}
 use mathlib.Core.List.{[]}
 use Prim.Native.Nat.{_-_, _≤_}
 use native.Mathlib.Omega.{arith}
@@ -12,7 +12,7 @@ use borrow.Author.Needs.{needs}
 use Rattle.rotation.specs.Turn.{at}
 use Rattle.record.specs.Flat.{flatOf}
 use Rattle.record.specs.Turning.{inUse-inside}
-use Rattle.record.proofs.Filled.{filled-all, filled-none, filled-one, filled-row, filledTo, flat-cong}
+use Rattle.record.proofs.Filled.{filledTo, flat-all, flat-cong, flat-none, flat-one, flat-row}
 use Rattle.record.proofs.rows.packed.Statement.{statement}
 use Rattle.record.proofs.rows.packed.Tie as tie
 
@@ -36,18 +36,18 @@ loop2-again c =
     let b = c .before .before .before .before .before .args .t1 in
     let i = c .before .before .before .before .loop .i in
     let f : SFits w64 (getD (getD b i []) (l .j) (pos 0)) = search needs in
-    (omega arith, λ e. rw (l .inv .1 e, toZ-ofZ f) (filled-one 8 (at b) i (l .j) (omega arith) (omega arith)))
+    (omega arith, λ e. rw (l .inv .1 e, toZ-ofZ f) (flat-one 8 (at b) i (l .j) (omega arith) (omega arith)))
 
 loop-again : tie.Need-loop-again Inv-loop2 μ-loop2 Inv-loop μ-loop
 loop-again c =
     let l = c .before .before .before .loop in
     let e : c .before .loop2 .j ≡ 8 = omega arith in
-    (omega arith, (rw e at (c .before .loop2 .inv .1 (l .inv .1))) ∙ filled-row 8 _ (l .i) (omega arith))
+    (omega arith, (rw e at (c .before .loop2 .inv .1 (l .inv .1))) ∙ flat-row 8 _ (l .i) (omega arith))
 
 returns : tie.Need-returns Inv-loop2 μ-loop2 Inv-loop μ-loop
 returns c =
     let e : c .before .loop .i ≡ 8 = omega arith in
-    (rw e at (c .before .loop .inv .1)) ∙ filled-all 8 _ ∙ flat-cong _ _ (λ i j h l. inUse-inside 8 _ i j h l)
+    (rw e at (c .before .loop .inv .1)) ∙ flat-all 8 _ ∙ flat-cong _ _ (λ i j h l. inUse-inside 8 _ i j h l)
 
 pub packed-spec : {M : Type 1} → statement M
 packed-spec =
@@ -57,7 +57,7 @@ packed-spec =
     μ-loop2
     Inv-loop
     μ-loop
-    (λ c. (omega arith, sym (filled-none 8 _)))
+    (λ c. (omega arith, flat-none 8 _))
     (λ c. search needs)
     (λ c. (omega arith, λ e. e))
     (λ c. search needs)

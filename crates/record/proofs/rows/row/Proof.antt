@@ -1,37 +1,53 @@
--- `record::rows::row` meets its contract, an entry at a time.
-use mathlib.Core.Path.{_≡_, refl, sym, ap}
-use mathlib.Core.List.{[], _∷_}
-use Prim.Native.Nat.{_+_, _*_}
-use native.Mathlib.Nat.{add-zero}
+-- `record::rows::row` meets its contract: at j the entries before it stand.
+use mathlib.Core.Path.{_≡_, refl, _∙_}
+use Prim.Native.Nat.{_+_, _*_, _-_, _≤_}
+use native.Mathlib.Omega.{arith}
 use lib.IntN.{pos}
 use lib.ListN.{getD}
+use mir.Syntax.{w64}
+use mir.Val.{SFits}
+use mir.Facts.{toZ-ofZ}
 use borrow.Author.Needs.{needs}
-use Rattle.integer.specs.Word.{word}
+use borrow.Author.Tests.{lt-ltb}
+use Rattle.rotation.specs.Eight.{eight-cong, front, front-more}
 use Rattle.rotation.specs.Turn.{eight}
-use Rattle.record.specs.Flat.{kept, entriesOf}
+use Rattle.record.specs.Flat.{entriesOf, kept}
 use Rattle.record.proofs.rows.row.Statement.{statement}
 use Rattle.record.proofs.rows.row.Tie as tie
 
-returns : tie.Need-returns
-unfolding entriesOf kept eight
-returns c i =
-    let s = c .before .before .before .before .before .before .before .before in
-    let a = s .args .a .now in
-    let n = 8 * s .args .i in
-    word {x = getD a n (pos 0)} (search needs) (ap (λ m. getD a m (pos 0)) (sym (add-zero n))) i ∷
-    word {x = getD a (n + 1) (pos 0)} (search needs) refl i ∷
-    word {x = getD a (n + 2) (pos 0)} (search needs) refl i ∷
-    word {x = getD a (n + 3) (pos 0)} (search needs) refl i ∷
-    word {x = getD a (n + 4) (pos 0)} (search needs) refl i ∷
-    word {x = getD a (n + 5) (pos 0)} (search needs) refl i ∷
-    word {x = getD a (n + 6) (pos 0)} (search needs) refl i ∷
-    word {x = getD a (n + 7) (pos 0)} (search needs) refl i ∷
-    []
+abbrev Inv-loop : tie.InvT-loop
+Inv-loop a i start row₀ j₀ row j = (j ≤ 8) × (row ≡ front (kept a i) (pos 0) j)
+
+abbrev μ-loop : tie.MeasureT-loop
+μ-loop a i start row₀ j₀ row j = 8 - j
+
+loop-holds : tie.Need-loop-holds Inv-loop μ-loop
+unfolding eight
+loop-holds c = (omega arith, refl)
+
+loop-again : tie.Need-loop-again Inv-loop μ-loop
+unfolding kept
+loop-again c =
+    let l = c .before .before in
+    let a = l .before .args .a .now in
+    let i = l .before .args .i in
+    let f : SFits w64 (getD a (8 * i + l .loop .j) (pos 0)) = search needs in
+    (omega arith, rw (l .loop .inv .1) (front-more (kept a i) (pos 0) (l .loop .j) _ (omega arith) (toZ-ofZ f)))
+
+returns : tie.Need-returns Inv-loop μ-loop
+unfolding entriesOf
+returns c =
+    let e : c .before .loop .j ≡ 8 = omega arith in
+    (rw e at (c .before .loop .inv .1)) ∙ eight-cong (λ k l. rw (lt-ltb k 8 l))
 
 pub row-spec : {M : Type 1} → statement M
 row-spec =
     tie.close
     (tie.spec
+    Inv-loop
+    μ-loop
+    (λ c. search needs)
+    loop-holds
     (λ c. search needs)
     (λ c. search needs)
     (λ c. search needs)
@@ -39,21 +55,5 @@ row-spec =
     (λ c. search needs)
     (λ c. search needs)
     (λ c. search needs)
-    (λ c. search needs)
-    (λ c. search needs)
-    (λ c. search needs)
-    (λ c. search needs)
-    (λ c. search needs)
-    (λ c. search needs)
-    (λ c. search needs)
-    (λ c. search needs)
-    (λ c. search needs)
-    (λ c. search needs)
-    (λ c. search needs)
-    (λ c. search needs)
-    (λ c. search needs)
-    (λ c. search needs)
-    (λ c. search needs)
-    (λ c. search needs)
-    (λ c. search needs)
+    loop-again
     returns)

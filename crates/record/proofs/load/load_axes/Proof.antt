@@ -1,25 +1,27 @@
--- `record::load::loaded_axes` meets its contract. The loop's invariant: the axes of i channels.
-use mathlib.Core.Path.{_≡_, refl}
+-- `record::load::load_axes` meets its contract. The loop's invariant: the axes of i channels.
+use mathlib.Core.Path.{_≡_}
 use Prim.Native.Nat.{_-_, _≤_}
 use native.Mathlib.Omega.{arith}
 use lib.IntN.{pos}
+use borrow.Author.Needs.{needs}
 use Rattle.integer.specs.Matrix.{diagonal}
 use Rattle.limits.specs.Limits.{whole}
-use Rattle.record.specs.Flat.{flatOf, tabulate}
+use Rattle.rotation.specs.Turn.{eight, square}
+use Rattle.record.specs.Flat.{blank}
 use Rattle.record.specs.Record.{inUse}
 use Rattle.record.proofs.Axes.{diagonal-more}
-use Rattle.record.proofs.load.loaded_axes.Statement.{statement}
-use Rattle.record.proofs.load.loaded_axes.Tie as tie
+use Rattle.record.proofs.load.load_axes.Statement.{statement}
+use Rattle.record.proofs.load.load_axes.Tie as tie
 
 abbrev Inv-loop : tie.InvT-loop
-Inv-loop n v₀ i₀ v i = (i ≤ n) × (v ≡ flatOf (inUse i (diagonal (pos whole))))
+Inv-loop axes₀ n i₀ axes i = (i ≤ n) × (axes ≡ square (inUse i (diagonal (pos whole))))
 
 abbrev μ-loop : tie.MeasureT-loop
-μ-loop n v₀ i₀ v i = n - i
+μ-loop axes₀ n i₀ axes i = n - i
 
 loop-holds : tie.Need-loop-holds Inv-loop μ-loop
-unfolding flatOf tabulate inUse
-loop-holds c = (omega arith, refl)
+unfolding blank eight inUse
+loop-holds c = (omega arith, c .pre .0)
 
 loop-again : tie.Need-loop-again Inv-loop μ-loop
 loop-again c =
@@ -32,17 +34,18 @@ returns c =
     let e : c .before .loop .i ≡ c .before .before .args .n = omega arith in
     rw e at (i .1)
 
-pub loaded-axes-spec : {M : Type 1} → statement M
-loaded-axes-spec =
+pub load-axes-spec : {M : Type 1} → statement M
+load-axes-spec =
     tie.close
     (tie.spec
     Inv-loop
     μ-loop
     loop-holds
-    (λ c. omega arith)
-    (λ c. omega arith)
-    (λ c. omega arith)
-    (λ c. omega arith)
-    (λ c. omega arith)
+    (λ c. search needs)
+    (λ c. search needs)
+    (λ c. search needs)
+    (λ c. search needs)
+    (λ c. search needs)
+    (λ c. search needs)
     loop-again
     returns)
