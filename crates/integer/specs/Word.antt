@@ -1,16 +1,14 @@
 -- Signed numbers of 64 bits: a number below 2^63 in size is held, and is read back from its bits.
 use mathlib.Core.Path.{_≡_, sym, ap, _∙_}
-use Prim.Native.Nat.{ℕ, _<_, _≤_, _^_}
-use native.Mathlib.Nat.{not-suc-le-zero}
+use Prim.Native.Nat.{_<_, _≤_, _^_}
 use native.Mathlib.Omega.{arith}
 use lib.IntN.{ℤ, pos, negsuc, natAbs, negℤ, _-ℤ_, +ℤ-idl}
 use lib.Dec.{T}
 use lib.Signed.{mag, ltZ, nonNeg}
-use mathlib.Core.Bool.{Bool, true, false, true≢false}
-use borrow.Author.Tests.{ltb-true}
+use mathlib.Core.Bool.{Bool, false, true≢false}
 use mir.Syntax.{w64}
-use mir.Val.{SFits, toZ, ofZ}
-use mir.Facts.{toZ-ofZ}
+use mir.Val.{Fits, SFits, toZ, ofZ}
+use mir.Facts.{toZ-ofZ, fits-natAbs}
 use Rattle.integer.specs.Laws.{natAbs-negℤ}
 
 pub mag-le : (z : ℤ) → mag z ≤ natAbs z
@@ -33,14 +31,17 @@ negated-held z h = rw +ℤ-idl (held (negℤ z) (rw natAbs-negℤ h))
 pub negated : (z : ℤ) → natAbs z < 2 ^ 63 → toZ w64 (ofZ w64 (pos 0 -ℤ z)) ≡ negℤ z
 negated z h = toZ-ofZ (negated-held z h) ∙ +ℤ-idl (negℤ z)
 
--- What the test z < 0 tells of the sign
-pub negative-flips : (z : ℤ) → ltZ z (pos 0) ≡ true → T (nonNeg (negℤ z))
-negative-flips (pos n) e = absurd (not-suc-le-zero (ltb-true n 0 e))
-negative-flips (negsuc n) e = tt
+-- the test z < 0, of what is read back
+pub sign-read : {z : ℤ} {t : Bool} → SFits w64 z → ltZ (toZ w64 (ofZ w64 z)) (pos 0) ≡ t → ltZ z (pos 0) ≡ t
+sign-read f e = rw (toZ-ofZ f) at e
 
-pub not-negative : (z : ℤ) → ltZ z (pos 0) ≡ false → T (nonNeg z)
-not-negative (pos n) e = tt
-not-negative (negsuc n) e = absurd (true≢false e)
+-- a number that is not negative, as a cast to an unsigned one asks for it
+pub unsigned : (z : ℤ) → SFits w64 z → ltZ (toZ w64 (ofZ w64 z)) (pos 0) ≡ false → T (nonNeg (toZ w64 (ofZ w64 z))) × Fits w64 (natAbs (toZ w64 (ofZ w64 z)))
+unsigned z f e = rw (toZ-ofZ f) (not-negative z (sign-read f e), fits-natAbs tt f)
+  where
+    not-negative : (z : ℤ) → ltZ z (pos 0) ≡ false → T (nonNeg z)
+    not-negative (pos n) t = tt
+    not-negative (negsuc n) t = absurd (true≢false t)
 
 -- a number whose bits are 0 is 0
 pub zero-bits : (z : ℤ) → SFits w64 z → ofZ w64 z ≡ 0 → z ≡ pos 0

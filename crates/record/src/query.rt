@@ -49,7 +49,7 @@ fn entry_size(a: &[[i64; 8]; 8], i: usize, j: usize) -> u64
     requires { ⌜ (i < 8) × (j < 8) × Small (now a) ⌝ }
     ensures { λ r. ⌜ r ≡ natAbs (at (now (a .entry)) i j) ⌝ }
 {
-    rotation::choice::magnitude(a[i][j])
+    signed::magnitude(a[i][j])
 }
 
 // |a_ij| of the kept matrix, i and j from 0.
@@ -57,7 +57,7 @@ fn magnitude_at(a: &[i64; 64], i: usize, j: usize) -> u64
     requires { ⌜ (i < 8) × (j < 8) × Modest (now a) ⌝ }
     ensures { λ r. ⌜ r ≡ natAbs (kept (now (a .entry)) i j) ⌝ }
 {
-    rotation::choice::magnitude(a[8 * i + j])
+    signed::magnitude(a[8 * i + j])
 }
 
 // The first pair in row order whose entry is above t in size.

@@ -10,6 +10,7 @@ use lib.ListN.{getD, replicate, getD-replicate, List·getD-eq-default}
 use lib.Pow.{pow-pos, pow-mono, shl-exact}
 use mir.Syntax.{w64}
 use mir.Val.{toZ, ofZ}
+use Rattle.integer.specs.Word.{read-back}
 use Rattle.rounding.specs.Rounding.{rnd}
 use Rattle.rounding.specs.Nearest.{rnd-bound}
 use Rattle.scatter.specs.Tabulate.{tabulate, getD-tabulate}
@@ -19,7 +20,6 @@ use Rattle.scatter.specs.Entries.{padded-at, scatter-at, length-scatter,
 use Rattle.scatter.specs.Ranges.{Small, Bounded}
 use Rattle.scatter.specs.Bounds.{S-small}
 use Rattle.scatter.proofs.Filled.{Filled, filled-skip, filled-all}
-use Rattle.scatter.proofs.Signed.{back, element}
 
 abbrev pub zeros : List ℤ
 zeros = replicate 64 (pos 0)
@@ -38,7 +38,7 @@ module _ (n : ℕ) (t : Sums) where
     unfolding S
     S-stored v place at e l a =
         let is : v ≡ S t i j = rw l at e in
-        rw (is, a) (back (S t i j) (omega (arith, S-small t b i j)) ∙ sym (padded-at (scatter n t) (i * n + j) (place-below n i j h g f) ∙ scatter-at n t i j g f))
+        rw (is, a) (read-back (S t i j) (omega (arith, S-small t b i j)) ∙ sym (padded-at (scatter n t) (i * n + j) (place-below n i j h g f) ∙ scatter-at n t i j g f))
 
   -- past the last row
   pub no-entry : (p : ℕ) → n * n ≤ p → getD (padded (scatter n t)) p (pos 0) ≡ getD zeros p (pos 0)
@@ -54,6 +54,10 @@ module _ (n : ℕ) (t : Sums) where
       let low : n * n ≤ 64 = mul-le-mul h h in
       filled-all (filled-skip f 64 (omega arith) (λ p a b. no-entry p (omega arith))) (length-padded (scatter n t)) (omega arith)
 
+-- an element of numbers that are small, read back from its bits
+element : (us : List ℤ) → Small us → (p : ℕ) → toZ w64 (ofZ w64 (getD us p (pos 0))) ≡ getD us p (pos 0)
+element us s p = read-back (getD us p (pos 0)) (omega (arith, s .small p))
+
 -- 2^e, as a shifted 1
 power : (e : ℕ) → e < 62 → (1 * 2 ^ e) % 2 ^ 64 ≡ 2 ^ e
 power e h = shl-exact 1 e 64 (omega arith) (omega arith) ∙ one-mul (2 ^ e)
@@ -67,7 +71,7 @@ module _ (s : List ℤ) (small : Small s) (e : ℕ) (h : e < 62) (p : ℕ) where
   pub rounded : (v : ℤ) → v ≡ rnd (toZ w64 (ofZ w64 (getD s p (pos 0)))) ((1 * 2 ^ e) % 2 ^ 64) → p < 64 → toZ w64 (ofZ w64 v) ≡ getD (tabulate 64 (λ p. rnd (getD s p (pos 0)) (2 ^ e))) p (pos 0)
   rounded v f g =
       let is : v ≡ rnd (getD s p (pos 0)) (2 ^ e) = rw (element s small p, power e h) at f in
-      rw is (back (rnd (getD s p (pos 0)) (2 ^ e)) (omega (arith, size, small .small p)) ∙ sym (getD-tabulate 64 (λ p. rnd (getD s p (pos 0)) (2 ^ e)) p (pos 0) g))
+      rw is (read-back (rnd (getD s p (pos 0)) (2 ^ e)) (omega (arith, size, small .small p)) ∙ sym (getD-tabulate 64 (λ p. rnd (getD s p (pos 0)) (2 ^ e)) p (pos 0) g))
     where
       grows : natAbs (getD s p (pos 0)) ≤ natAbs (getD s p (pos 0)) * 2 ^ e
       grows = omega (arith, mul-le-mul-left (natAbs (getD s p (pos 0))) (pow-pos e))

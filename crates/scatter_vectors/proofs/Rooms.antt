@@ -1,4 +1,4 @@
--- Lists of readings within their ranges, as zeros, after a write and cut to a length; and the size of a table's entries.
+-- Lists of readings within their ranges, as zeros, after a write and cut to a length.
 use mathlib.Core.Path.{_≡_, _∙_}
 use mathlib.Core.List.{List}
 use Prim.Native.Nat.{ℕ, zero, suc, _*_, _≤_, _<_}
@@ -6,12 +6,6 @@ use native.Mathlib.Decide.{ℕ-discrete}
 use native.Mathlib.Omega.{arith}
 use lib.ListN.{getD, set, take, replicate, length-replicate, length-set}
 use lib.Seq.{length-take-le, getD-set-same, getD-set-other}
-use Rattle.scatter.specs.declared.sums.Sums.{Sums}
-use Rattle.scatter.specs.declared.table.Table.{Table}
-use Rattle.limits.specs.Limits.{entryLimit}
-use Rattle.scatter.specs.Table.{tableOf}
-use Rattle.scatter.specs.Entries.{table-loadable}
-use Rattle.scatter_vectors.specs.Limit.{Printable}
 use Rattle.scatter.specs.Ranges.{Room, Readings}
 use Rattle.scatter.specs.Bounds.{take-bound}
 
@@ -40,6 +34,3 @@ readings n k {dilutions} {counts} r q h g f e =
       dilution = take-bound 100 k dilutions (r .most);
       count = take-bound 65_535 (n * k) counts (q .most);
     }
-
-pub printable : (n : ℕ) (t : Sums) (r : Table) → n ≤ 8 → r ≡ tableOf n t → Printable (r .entries)
-printable n t r h e p = rw e (omega (arith, table-loadable n t h .within p))

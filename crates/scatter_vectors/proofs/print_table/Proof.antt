@@ -13,7 +13,7 @@ mul-print-entries c =
 print-entries-requires : tie.Need-print-entries-requires
 print-entries-requires c κs =
     let n = c .before .before .before .before .before .before .before .before .before .before .before .before .channels-of in
-    (mul-le-mul (n .ensures .1) (n .ensures .1), c .before .before .before .before .before .before .before .before .before .before .before .table-at .ensures)
+    mul-le-mul (n .ensures .1) (n .ensures .1)
 
 pub print-table-spec : {M : Type 1} → statement M
 print-table-spec =

@@ -16,12 +16,6 @@ use Rattle.record.proofs.query.entry_size.Tie as tie
 entry : (a : List (List ℤ)) → Small a → (i j : ℕ) → toZ w64 (ofZ w64 (at a i j)) ≡ at a i j
 entry a h i j = read-back (at a i j) (omega (arith, h .small i j))
 
-magnitude-requires : tie.Need-magnitude-requires
-unfolding at
-magnitude-requires c κs =
-    let s = c .before in
-    rw (entry (s .args .a .now) (s .pre .2) (s .args .i) (s .args .j)) (omega (arith, s .pre .2 .small (s .args .i) (s .args .j)))
-
 returns : tie.Need-returns
 unfolding at
 returns c = let s = c .before .before in rw (entry (s .args .a .now) (s .pre .2) (s .args .i) (s .args .j)) at (c .magnitude .ensures)
@@ -34,5 +28,5 @@ entry-size-spec =
     (λ c. search needs)
     (λ c. search needs)
     (λ c. search needs)
-    magnitude-requires
+    (λ c κs. search needs)
     returns)

@@ -16,13 +16,6 @@ use Rattle.record.proofs.query.magnitude_at.Tie as tie
 entry : (a : List ℤ) → Modest a → (i j : ℕ) → i < 8 → j < 8 → toZ w64 (ofZ w64 (kept a i j)) ≡ kept a i j
 entry a h i j k l = read-back (kept a i j) (omega (arith, h .modest i j k l))
 
-magnitude-requires : tie.Need-magnitude-requires
-unfolding kept
-magnitude-requires c κs =
-    let s = c .before in
-    rw (entry (s .args .a .now) (s .pre .2) (s .args .i) (s .args .j) (s .pre .0) (s .pre .1))
-    (omega (arith, s .pre .2 .modest (s .args .i) (s .args .j) (s .pre .0) (s .pre .1)))
-
 returns : tie.Need-returns
 unfolding kept
 returns c =
@@ -37,5 +30,5 @@ magnitude-at-spec =
     (λ c. search needs)
     (λ c. search needs)
     (λ c. search needs)
-    magnitude-requires
+    (λ c κs. search needs)
     returns)
