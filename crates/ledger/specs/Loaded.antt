@@ -2,7 +2,7 @@
 use mathlib.Core.Path.{_≡_, sym, _∙_, ap}
 use mathlib.Core.List.{List, [], _∷_}
 use Prim.Native.Nat.{ℕ, _+_, _*_, _<_, _≤_}
-use native.Mathlib.Nat.{mul-le-mul}
+use native.Mathlib.Nat.{le-trans, mul-le-mul}
 use native.Mathlib.Omega.{arith}
 use lib.IntN.{ℤ, pos, natAbs, _-ℤ_, _*ℤ_, +ℤ-invr}
 use Rattle.integer.specs.Laws.{natAbs-*ℤ}
@@ -32,6 +32,17 @@ conjugate-identity : (n : ℕ) (A : Matrix) (i j : ℕ) → i < n → j < n → 
 unfolding conjugate I
 conjugate-identity n A i j o m = product-diagonal n (pos 1) (product n I A) i j m ∙ one (product n I A i j) ∙ diagonal-product n (pos 1) A i j o ∙ one (A i j)
 
+-- the entries in units keep to the bound that holds before any turn
+pub load-size : (n : ℕ) (numbers : List ℤ) → Loads n numbers → squares n (λ i j. pos units *ℤ matrixOf n numbers i j) ≤ matrixBound 0 * matrixBound 0
+unfolding matrixOf
+load-size n numbers h =
+    le-trans
+    (squares-≤ n (units * entryLimit) _ (λ i j o m. rw (natAbs-*ℤ (pos units) (matrixOf n numbers i j)) (omega (arith, h .small (i * n + j)))))
+    (mul-le-mul widest widest)
+  where
+    widest : n * (units * entryLimit) ≤ matrixBound 0
+    widest = omega (arith, h .high)
+
 -- B is 1024 × A and V is 2^30 × Q exactly, with P the identity and D = 1
 pub sound-load : (n : ℕ) (numbers : List ℤ) → Loads n numbers → Sound (loadedOf n numbers)
 unfolding loadedOf matrixOf I
@@ -42,7 +53,7 @@ sound-load n numbers h = record {
   given-symmetric = h .same;
   turns = omega arith;
   symmetric = λ i j o m. ap (λ z. pos units *ℤ z) (h .same i j o m);
-  matrix-size = omega (arith, size, mul-le-mul widest widest);
+  matrix-size = load-size n numbers h;
   axes-size = λ j o. omega (arith, diagonal-squares n (pos whole) j o, sq-pos whole);
   positive = omega arith;
   orthogonal = λ i j o m. diagonal-product n (pos 1) (transpose I) i j o ∙ one (I j i) ∙ diagonal-transpose (pos 1) i j;
@@ -59,12 +70,6 @@ sound-load n numbers h = record {
 
     small : (i j : ℕ) → i < n → j < n → natAbs (A i j) ≤ entryLimit
     small i j o m = h .small (i * n + j)
-
-    size : squares n B ≤ n * (units * entryLimit) * (n * (units * entryLimit))
-    size = squares-≤ n (units * entryLimit) B (λ i j o m. rw (natAbs-*ℤ (pos units) (A i j)) (omega (arith, small i j o m)))
-
-    widest : n * (units * entryLimit) ≤ matrixBound 0
-    widest = omega (arith, h .high)
 
     same : (k : ℕ) → k ≡ 1 * 1 * k
     same k = omega arith
