@@ -3,7 +3,6 @@ use Prim.Native.Nat.{ℕ, _+_, _*_, _≤_}
 use mathlib.Core.Path.{_≡_, refl}
 use mathlib.Core.Bool.{Bool, true, false, _&&_}
 use mathlib.Core.List.{List}
-use native.Mathlib.Nat.{mul-le-mul}
 use native.Mathlib.Omega.{arith}
 use lib.Dec.{T, eqb, leb, eqb→eq, leb→le}
 use lib.ListN.{length, take, length-append}
@@ -11,6 +10,7 @@ use lib.Seq.{length-take-le}
 use mir.Facts.{and-yes}
 use Rattle.job_table.specs.Laws.{all-at}
 use Rattle.ledger.specs.Accepted.{passed}
+use Rattle.limits.specs.Channels.{places}
 use Rattle.scatter.specs.Ranges.{Readings}
 use Rattle.scatter.specs.Samples.{samples, sumsOf}
 use Rattle.scatter.specs.Table.{padded, tableOf}
@@ -47,9 +47,6 @@ readable n dilutions counts size e =
       room = leb→le _ size (passed (leb (1 + 2 * (n * n)) size) 12 0 (number .1) (omega arith) .0);
     }
 
-pub square-small : (n : ℕ) → n ≤ 8 → n * n ≤ 64
-square-small n h = mul-le-mul {n₁ = n} {m₁ = n} {n₂ = 8} {m₂ = 8} h h
-
 module _ (n : ℕ) (t : Sums) where
   pub length-scatter : length (tableOf n t .scatter) ≡ 64
   unfolding tableOf padded
@@ -62,10 +59,10 @@ module _ (n : ℕ) (t : Sums) where
 -- the first n×n of them
 module _ (n : ℕ) (t : Sums) (h : n ≤ 8) where
   pub scatter-used : length (take (n * n) (tableOf n t .scatter)) ≡ n * n
-  scatter-used = length-take-le (n * n) (tableOf n t .scatter) (rw (length-scatter n t) (square-small n h))
+  scatter-used = length-take-le (n * n) (tableOf n t .scatter) (rw (length-scatter n t) (places n h))
 
   pub entries-used : length (take (n * n) (tableOf n t .entries)) ≡ n * n
-  entries-used = length-take-le (n * n) (tableOf n t .entries) (rw (length-entries n t) (square-small n h))
+  entries-used = length-take-le (n * n) (tableOf n t .entries) (rw (length-entries n t) (places n h))
 
 pub length-table : (n : ℕ) (dilutions counts : List ℕ) → n ≤ 8 → length (tableNumbersOf n dilutions counts) ≡ 1 + 2 * (n * n)
 unfolding tableNumbersOf tableNumbers

@@ -4,7 +4,6 @@ use mathlib.Core.Bool.{Bool, true, false, true≢false, _&&_}
 use mathlib.Core.List.{List}
 use Prim.Native.Nat.{ℕ, suc, _+_, _*_, _<_, _≤_}
 use native.Mathlib.Decide.{decLt}
-use native.Mathlib.Nat.{mul-le-mul, le-refl}
 use native.Mathlib.Numerals.{add-one}
 use native.Mathlib.Omega.{arith}
 use lib.Dec.{T, leb}
@@ -90,13 +89,6 @@ module _ (xs : List ℤ) (k : ℕ) (h : k < length xs) (e : within xs ≡ within
 
   pub within-more : leb (natAbs (getD xs k (pos 0))) entryLimit ≡ true → within xs ≡ within (drop (k + 1) xs)
   within-more t = rw t at from
-
--- row i and column j of n numbers to a row
-pub place-below : (n i j : ℕ) → i < n → j < n → i * n + j < n * n
-place-below n i j h k = omega (arith, mul-le-mul h (le-refl n))
-
-pub places : (n : ℕ) → n ≤ 8 → n * n ≤ 64
-places n h = mul-le-mul h h
 
 -- the tests of a load after those of its size
 pub sized : (k : ℕ) (xs : List ℤ) → 2 ≤ k → k ≤ 8 → length xs ≡ k * k → refusalOf 0 0 (load k xs) ≡ unless (within xs) 8 (unless (symmetric k (matrixOf k xs)) 7 0)

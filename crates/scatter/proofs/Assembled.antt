@@ -2,10 +2,10 @@
 use mathlib.Core.Path.{_≡_, sym, ap, _∙_}
 use mathlib.Core.List.{List}
 use Prim.Native.Nat.{ℕ, _-_, _*_, _^_, _<_, _≤_}
-use native.Mathlib.Nat.{mul-le-mul}
 use native.Mathlib.Omega.{arith}
 use lib.IntN.{ℤ, pos}
 use lib.ListN.{length, getD}
+use Rattle.limits.specs.Channels.{places}
 use Rattle.rounding.specs.Rounding.{rnd}
 use Rattle.scatter.specs.Tabulate.{tabulate, tabulate-ext}
 use Rattle.scatter.specs.declared.sums.Sums.{Sums}
@@ -26,10 +26,10 @@ module _ (n : ℕ) (t : Sums) (h : n ≤ 8) (b : Bounded t) {s : List ℤ} (is :
   scatter-small = rw is (padded-small t b n)
 
   pub zero-from : ZeroFrom (n * n) s
-  zero-from = record { most = mul-le-mul h h; zero = λ p l. rw is (no-entry n t p l ∙ zero-at p) }
+  zero-from = record { most = places n h; zero = λ p l. rw is (no-entry n t p l ∙ zero-at p) }
 
   fits : length (scatter n t) ≤ 64
-  fits = rw length-scatter (mul-le-mul h h)
+  fits = rw length-scatter (places n h)
 
   module _ {m : ℕ} (most : m ≡ largest s) where
     pub most-small : m < 2 ^ 62

@@ -2,7 +2,7 @@
 use mathlib.Core.Path.{_≡_, sym, _∙_}
 use mathlib.Core.List.{List}
 use Prim.Native.Nat.{ℕ, _+_, _*_, _/_, _%_, _^_, _<_, _≤_, min, max}
-use native.Mathlib.Nat.{one-mul, mul-le-mul, mul-le-mul-left}
+use native.Mathlib.Nat.{one-mul, mul-le-mul-left}
 use native.Mathlib.Decide.{decLt}
 use native.Mathlib.Omega.{arith}
 use lib.IntN.{ℤ, pos, natAbs, _-ℤ_}
@@ -11,12 +11,13 @@ use lib.Pow.{pow-pos, pow-mono, shl-exact}
 use mir.Syntax.{w64}
 use mir.Val.{toZ, ofZ}
 use Rattle.integer.specs.Word.{read-back}
+use Rattle.limits.specs.Channels.{place-below, places}
 use Rattle.rounding.specs.Rounding.{rnd}
 use Rattle.rounding.specs.Nearest.{rnd-bound}
 use Rattle.scatter.specs.Tabulate.{tabulate, getD-tabulate}
 use Rattle.scatter.specs.declared.sums.Sums.{Sums}
 use Rattle.scatter.specs.Table.{S, scatter, padded}
-use Rattle.scatter.specs.Entries.{padded-at, scatter-at, length-scatter, length-padded, place-below, rnd-zero}
+use Rattle.scatter.specs.Entries.{padded-at, scatter-at, length-scatter, length-padded, rnd-zero}
 use Rattle.scatter.specs.Ranges.{Small, Bounded}
 use Rattle.scatter.specs.Bounds.{S-small}
 use Rattle.scatter.proofs.Filled.{Filled, filled-skip, filled-all}
@@ -51,7 +52,7 @@ module _ (n : ℕ) (t : Sums) where
   pub all-rows : {s : List ℤ} (i at : ℕ) → n ≤ 8 → Filled (pos 0) (padded (scatter n t)) zeros s at → at ≡ i * n → i ≡ n → s ≡ padded (scatter n t)
   all-rows i at h f e g =
       let last : at ≡ n * n = rw g at e in
-      let low : n * n ≤ 64 = mul-le-mul h h in
+      let low : n * n ≤ 64 = places n h in
       filled-all (filled-skip f 64 (omega arith) (λ p a b. no-entry p (omega arith))) (length-padded (scatter n t)) (omega arith)
 
 -- an element of numbers that are small, read back from its bits

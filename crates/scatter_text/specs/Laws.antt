@@ -9,7 +9,8 @@ use Rattle.job.specs.Job.{Job}
 use Rattle.job.specs.declared.Job as arrays
 use Rattle.job_table.specs.Held.{Held, jobIn, sumsFor, tableFor}
 use Rattle.job_table.specs.Laws.{channels-held, samples-held}
-use Rattle.scatter.specs.Entries.{padded-at, place-below, scatter-at}
+use Rattle.limits.specs.Channels.{place-below}
+use Rattle.scatter.specs.Entries.{padded-at, scatter-at}
 use Rattle.scatter.specs.Table.{scatter, tableOf}
 use Rattle.scatter.specs.Tabulate.{tabulate-ext}
 use Rattle.scatter.specs.declared.table.Table.{Table}
