@@ -1,5 +1,5 @@
 -- Laws of the loops that check the numbers of a load.
-use mathlib.Core.Path.{_≡_, refl, sym, ap, _∙_}
+use mathlib.Core.Path.{_≡_, refl, sym, _∙_}
 use mathlib.Core.Bool.{Bool, true, false, true≢false, _&&_}
 use mathlib.Core.List.{List}
 use Prim.Native.Nat.{ℕ, suc, _+_, _*_, _<_, _≤_}
@@ -11,9 +11,6 @@ use lib.IntN.{ℤ, pos, negsuc, natAbs}
 use lib.ListN.{length, getD, drop}
 use lib.Seq.{drop-cons}
 use lib.Signed.{ltZ, leZ}
-use mir.Syntax.{w64}
-use mir.Val.{SFits, toZ, ofZ}
-use mir.Facts.{toZ-ofZ}
 use borrow.Author.Tests.{ltb-true, ltb-false, le-leb, lt-leb, eq-eqb}
 use Rattle.integer.specs.Matrix.{Matrix}
 use Rattle.integer.specs.Range.{all, below, from-each}
@@ -42,10 +39,6 @@ equal-yes x y e = same-test (equal x y) true (λ t. tt) (λ t. equal-of x y e)
 
 pub equal-no : (x y : ℤ) → (x ≡ y → ⊥) → equal x y ≡ false
 equal-no x y d = same-test (equal x y) false (λ t. d (equal-same x y t)) (λ t. absurd t)
-
--- numbers of the same bits
-pub same-bits : {x y : ℤ} → SFits w64 x → SFits w64 y → ofZ w64 x ≡ ofZ w64 y → x ≡ y
-same-bits f g e = sym (toZ-ofZ f) ∙ ap (toZ w64) e ∙ toZ-ofZ g
 
 -- whether an entry is its mirror's equal; a matrix is symmetric if every entry left of the diagonal is
 abbrev pub mirrored : Matrix → ℕ → ℕ → Bool

@@ -10,9 +10,10 @@ use mir.Syntax.{w64}
 use mir.Val.{SFits, ofZ}
 use borrow.Author.Needs.{needs}
 use Rattle.integer.specs.Range.{all}
+use Rattle.integer.specs.Word.{same-bits}
 use Rattle.ledger.specs.Refusal.{matrixOf}
 use Rattle.limits.specs.Channels.{places}
-use Rattle.record.proofs.Checks.{all-more, all-fails, equal-yes, equal-no, mirrored, same-bits}
+use Rattle.record.proofs.Checks.{all-more, all-fails, equal-yes, equal-no, mirrored}
 use Rattle.record.proofs.load.row_mirrored.Statement.{statement}
 use Rattle.record.proofs.load.row_mirrored.Tie as tie
 
