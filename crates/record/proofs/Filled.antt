@@ -12,8 +12,8 @@ use borrow.Author.Tests.{eq-eqb, le-ltb, lt-ltb, ne-eqb}
 use Rattle.integer.specs.Matrix.{Matrix}
 use Rattle.integer.specs.Tests.{cond-same, next-test}
 use Rattle.integer.specs.Sum.{update, update-other, update-same}
-use Rattle.record.specs.Fill.{getD-tabulate, length-tabulate}
-use Rattle.record.specs.Flat.{flatOf, tabulate}
+use Rattle.integer.specs.Tabulate.{getD-tabulate, length-tabulate, tabulate}
+use Rattle.record.specs.Flat.{flatOf}
 use Rattle.record.specs.Record.{inUse}
 use Rattle.record.specs.Turning.{inUse-inside, inUse-outside}
 
@@ -24,7 +24,7 @@ flat-cong f g h =
     (λ k l. entry k (rw length-tabulate at l))
   where
     entry : (k : ℕ) → k < 64 → getD (flatOf f) k (pos 0) ≡ getD (flatOf g) k (pos 0)
-    entry k l = getD-tabulate 64 k _ l ∙ h (k / 8) (k % 8) (omega arith) (omega arith) ∙ sym (getD-tabulate 64 k _ l)
+    entry k l = getD-tabulate 64 _ k (pos 0) l ∙ h (k / 8) (k % 8) (omega arith) (omega arith) ∙ sym (getD-tabulate 64 _ k (pos 0) l)
 
 -- a store in row i and column j
 pub set-flat : (f : Matrix) (i j : ℕ) (x : ℤ) → i < 8 → j < 8 → set (flatOf f) (8 * i + j) x ≡ flatOf (update f i (update (f i) j x))
@@ -39,14 +39,14 @@ set-flat f i j x h k =
     entry : (m : ℕ) → m < 64 → Dec (m / 8 ≡ i) → Dec (m % 8 ≡ j) → getD (set (flatOf f) (8 * i + j) x) m (pos 0) ≡ getD (flatOf new) m (pos 0)
     entry m l (yes e) (yes d) =
         let place : 8 * i + j ≡ m = omega arith in
-        rw (place, getD-set-same (flatOf f) m x (pos 0) (rw length-tabulate l), getD-tabulate 64 m (λ m. new (m / 8) (m % 8)) l, e, d, update-same f i (update (f i) j x))
+        rw (place, getD-set-same (flatOf f) m x (pos 0) (rw length-tabulate l), getD-tabulate 64 (λ m. new (m / 8) (m % 8)) m (pos 0) l, e, d, update-same f i (update (f i) j x))
         (sym (update-same (f i) j x))
     entry m l (yes e) (no d) =
-        getD-set-other (flatOf f) (8 * i + j) m x (pos 0) (λ p. d (omega arith)) ∙ getD-tabulate 64 m _ l ∙
-        rw (getD-tabulate 64 m (λ m. new (m / 8) (m % 8)) l, e, update-same f i (update (f i) j x)) (sym (update-other (f i) j x (m % 8) d))
+        getD-set-other (flatOf f) (8 * i + j) m x (pos 0) (λ p. d (omega arith)) ∙ getD-tabulate 64 _ m (pos 0) l ∙
+        rw (getD-tabulate 64 (λ m. new (m / 8) (m % 8)) m (pos 0) l, e, update-same f i (update (f i) j x)) (sym (update-other (f i) j x (m % 8) d))
     entry m l (no e) d =
-        getD-set-other (flatOf f) (8 * i + j) m x (pos 0) (λ p. e (omega arith)) ∙ getD-tabulate 64 m _ l ∙
-        rw (getD-tabulate 64 m (λ m. new (m / 8) (m % 8)) l, update-other f i (update (f i) j x) (m / 8) e)
+        getD-set-other (flatOf f) (8 * i + j) m x (pos 0) (λ p. e (omega arith)) ∙ getD-tabulate 64 _ m (pos 0) l ∙
+        rw (getD-tabulate 64 (λ m. new (m / 8) (m % 8)) m (pos 0) l, update-other f i (update (f i) j x) (m / 8) e)
 
 module _ (n : ℕ) (f : Matrix) where
   -- the rows before i, and the first j entries of row i

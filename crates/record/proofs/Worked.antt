@@ -8,6 +8,7 @@ use native.Mathlib.Omega.{arith}
 use lib.IntN.{ℤ, pos}
 use lib.ListN.{length, getD}
 use lib.Seq.{ext-getD}
+use Rattle.integer.specs.Tabulate.{getD-tabulate, length-tabulate}
 use Rattle.ledger.specs.Pairs.{Pair}
 use Rattle.rotation.specs.Choice.{choose}
 use Rattle.rotation.specs.Chosen.{From, chosen-from}
@@ -17,7 +18,7 @@ use Rattle.rotation.specs.Shape.{Shaped}
 use Rattle.rotation.specs.Turn.{at, turnMatrix, turnAxes}
 use Rattle.rotation.specs.declared.choice.Choice.{Choice}
 use Rattle.rotation.specs.declared.choice.Choice.the-variants.{NoTurn, Turn}
-use Rattle.record.specs.Fill.{at-rowsOf, getD-tabulate, length-tabulate}
+use Rattle.record.specs.Fill.{at-rowsOf}
 use Rattle.record.specs.Flat.{entriesOf, flatOf, kept, rowsOf}
 use Rattle.record.specs.Work.{Work, chosen, workBy, workPair}
 
@@ -32,7 +33,7 @@ flat-rows a h = ext-getD (pos 0) a _ (h ∙ sym (length-tabulate 64 _)) (λ k l.
         same k = omega arith
 
     entry : (k : ℕ) → k < 64 → getD (flatOf (at (rowsOf a))) k (pos 0) ≡ getD a k (pos 0)
-    entry k l = getD-tabulate 64 k _ l ∙ at-rowsOf a (k / 8) (k % 8) (omega arith) (omega arith) ∙ place k
+    entry k l = getD-tabulate 64 _ k (pos 0) l ∙ at-rowsOf a (k / 8) (k % 8) (omega arith) (omega arith) ∙ place k
 
 pub shaped-rows : (a : List ℤ) → Shaped (rowsOf a)
 unfolding rowsOf entriesOf

@@ -9,7 +9,7 @@ use lib.IntN.{pos, natAbs, _-ℤ_}
 use lib.ListN.{length, getD, take, drop, length-take}
 use lib.Seq.{getD-drop}
 use Rattle.integer.specs.Laws.{natAbs--ℤ}
-use Rattle.scatter.specs.Tabulate.{tabulate, length-tabulate, tabulate-all}
+use Rattle.integer.specs.Tabulate.{tabulate, length-tabulate, tabulate-all}
 use Rattle.scatter.specs.declared.sums.Sums.{Sums}
 use Rattle.scatter.specs.Samples.{Sample, z, sampleAt, samples, sum, products, sumsAt, sumsOf}
 use Rattle.scatter.specs.Ranges.{Readings, InRange, noSample, AllInRange, zLimit, Bounded, Small}

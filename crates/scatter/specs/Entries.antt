@@ -2,7 +2,7 @@
 use mathlib.Core.Path.{_≡_, ap, sym, _∙_}
 use mathlib.Core.List.{List}
 use Prim.Native.Nat.{ℕ, _+_, _*_, _/_, _%_, _^_, _<_, _≤_}
-use native.Mathlib.Nat.{min-comm, max-comm, mul-comm, zero-add, div-eq-of-lt}
+use native.Mathlib.Nat.{min-comm, max-comm, mul-comm}
 use native.Mathlib.Decide.{decLt}
 use native.Mathlib.Omega.{arith}
 use lib.Arith.{digits-lt, digits-div, digits-mod}
@@ -10,9 +10,9 @@ use lib.IntN.{ℤ, pos, natAbs}
 use lib.ListN.{length, getD, take, length-map, List·getD-map, List·getD-eq-default}
 use lib.Pow.{pow-pos}
 use lib.Seq.{ext-getD, length-take-le, getD-take}
+use Rattle.integer.specs.Tabulate.{length-tabulate, getD-tabulate, tabulate-all}
 use Rattle.rounding.specs.Rounding.{rnd}
-use Rattle.rounding.specs.Nearest.{rnd-bound}
-use Rattle.scatter.specs.Tabulate.{length-tabulate, getD-tabulate, tabulate-all}
+use Rattle.rounding.specs.Nearest.{rnd-bound, rnd-zero}
 use Rattle.scatter.specs.declared.sums.Sums.{Sums}
 use Rattle.limits.specs.Channels.{place-below, places}
 use Rattle.limits.specs.Limits.{entryLimit}
@@ -27,10 +27,6 @@ pub scatter-at : (n : ℕ) (t : Sums) (i j : ℕ) → i < n → j < n → getD (
 unfolding scatter
 scatter-at n t i j h g =
     rw (getD-tabulate (n * n) (λ p. S t (p / n) (p % n)) (i * n + j) (pos 0) (digits-lt h g), digits-div i {m = n} g, digits-mod i {m = n} g)
-
-pub rnd-zero : (w : ℕ) → 0 < w → rnd (pos 0) w ≡ pos 0
-unfolding rnd
-rnd-zero w h = rw (zero-add, div-eq-of-lt {n = w / 2} {m = w} (omega arith))
 
 pub entry-at : (us : List ℤ) (p : ℕ) → getD (entries us) p (pos 0) ≡ rnd (getD us p (pos 0)) (2 ^ shift us)
 unfolding entries

@@ -1,22 +1,18 @@
 -- Lists of readings within their ranges, as zeros, after a write and cut to a length.
 use mathlib.Core.Path.{_≡_, _∙_}
 use mathlib.Core.List.{List}
-use Prim.Native.Nat.{ℕ, zero, suc, _*_, _≤_, _<_}
+use Prim.Native.Nat.{ℕ, _*_, _≤_, _<_}
 use native.Mathlib.Decide.{ℕ-discrete}
 use native.Mathlib.Omega.{arith}
 use lib.ListN.{getD, set, take, replicate, length-replicate, length-set}
 use lib.Seq.{length-take-le, getD-set-same, getD-set-other}
+use Rattle.integer.specs.Tabulate.{getD-repeated}
 use Rattle.scatter.specs.Ranges.{Room, Readings}
 use Rattle.scatter.specs.Bounds.{take-bound}
 
 module _ {m b : ℕ} where
   pub room-zeros : Room m b (replicate m 0)
-  room-zeros = record { size = length-replicate m 0; most = below m }
-    where
-      below : (m p : ℕ) → getD (replicate m 0) p 0 ≤ b
-      below zero p = omega arith
-      below (suc m) zero = omega arith
-      below (suc m) (suc p) = below m p
+  room-zeros = record { size = length-replicate m 0; most = λ p. rw getD-repeated (omega arith) }
 
   pub room-set : {xs : List ℕ} → Room m b xs → (p v : ℕ) → p < m → v ≤ b → Room m b (set xs p v)
   room-set {xs} r p v h l = record { size = length-set xs p v ∙ r .size; most = λ q. most q (ℕ-discrete q p) }

@@ -5,7 +5,8 @@ use native.Mathlib.Omega.{arith}
 use lib.IntN.{pos}
 use Rattle.integer.specs.Matrix.{diagonal}
 use Rattle.limits.specs.Limits.{whole}
-use Rattle.record.specs.Flat.{flatOf, tabulate}
+use Rattle.integer.specs.Tabulate.{tabulate}
+use Rattle.record.specs.Flat.{flatOf}
 use Rattle.record.specs.Record.{inUse}
 use Rattle.record.proofs.Axes.{diagonal-more}
 use Rattle.record.proofs.load.loaded_axes.Statement.{statement}
