@@ -8,8 +8,9 @@ use native.Mathlib.Nat.{mul-assoc, mul-mul-mul-comm, suc-mul, zero-mul}
 use native.Mathlib.Omega.{arith}
 use borrow.Author.Tests.{eq-eqb}
 use lib.IntN.{ℤ, pos, +ℤ-invr, *ℤ-zero}
-use lib.ListN.{getD, replicate, length-replicate}
+use lib.ListN.{replicate, length-replicate}
 use lib.Pow.{pow-pos}
+use Rattle.integer.specs.Tabulate.{tabulate, getD-repeated}
 use Rattle.ledger.specs.Accepted.{Loads}
 use Rattle.ledger.specs.Call.{load, loosePair}
 use Rattle.ledger.specs.Refusal.{matrixOf, refusalOf}
@@ -21,17 +22,16 @@ use Rattle.record.specs.Record.{acceptedOf, afterOf, answerOf, fresh, loadedOf,
 use Rattle.record.specs.Turning.{inUse-inside}
 use Rattle.record.specs.declared.Answer.the-variants.{NoPair}
 use Rattle.ledger.specs.Pairs.{cyclic}
+use Rattle.rounding.specs.Nearest.{rnd-zero}
 use Rattle.rounding.specs.Rounding.{rnd}
 use Rattle.run.specs.Accepted.{after-accepted, load-accepted, loose-pair-accepted}
 use Rattle.record.specs.Run.{noPair, stop}
 use Rattle.record.specs.Running.{run-settled}
 use Rattle.run.specs.Run.{runOf}
 use Rattle.record.specs.declared.run.Outcome.the-variants.{Settled}
-use Rattle.scatter.specs.Entries.{rnd-zero}
 use Rattle.scatter.specs.Samples.{Sample, z, sum, sumsOf}
 use Rattle.scatter.specs.Sums.{scatter-of-samples}
 use Rattle.scatter.specs.Table.{scatter, shift, entries}
-use Rattle.scatter.specs.Tabulate.{tabulate}
 
 abbrev pub zeros : ℕ → List ℤ
 zeros n = replicate (n * n) (pos 0)
@@ -65,11 +65,6 @@ pub zero-entries : (n : ℕ) → entries (zeros n) ≡ zeros n
 unfolding entries
 zero-entries n = entries-zero (2 ^ shift (zeros n)) (n * n) (pow-pos (shift (zeros n)))
 
-zero-at : (m p : ℕ) → getD (replicate m (pos 0)) p (pos 0) ≡ pos 0
-zero-at zero p = refl
-zero-at (suc m) zero = refl
-zero-at (suc m) (suc p) = zero-at m p
-
 module _ (n t : ℕ) (low : 2 ≤ n) (high : n ≤ 8) (few : t ≤ toleranceLimit) where
   zeros-load : Loads n (zeros n)
   unfolding matrixOf
@@ -78,8 +73,8 @@ module _ (n t : ℕ) (low : 2 ≤ n) (high : n ≤ 8) (few : t ≤ toleranceLimi
         low = low;
         high = high;
         count = length-replicate (n * n) (pos 0);
-        small = λ i. rw (zero-at (n * n) i) (omega arith);
-        same = λ i j h k. zero-at (n * n) (i * n + j) ∙ sym (zero-at (n * n) (j * n + i));
+        small = λ i. rw (getD-repeated (n * n) i (pos 0)) (omega arith);
+        same = λ i j h k. getD-repeated (n * n) (i * n + j) (pos 0) ∙ sym (getD-repeated (n * n) (j * n + i) (pos 0));
       }
 
   loaded : afterOf fresh (load n (zeros n)) ≡ loadedOf fresh n (zeros n)
@@ -89,7 +84,7 @@ module _ (n t : ℕ) (low : 2 ≤ n) (high : n ≤ 8) (few : t ≤ toleranceLimi
   entry-zero : (i j : ℕ) → i < n → j < n → kept (loadedOf fresh n (zeros n) .a) i j ≡ pos 0
   unfolding loadedOf matrixOf
   entry-zero i j h k =
-      kept-flatOf _ i j (omega arith) (omega arith) ∙ inUse-inside n _ i j h k ∙ rw (zero-at (n * n) (i * n + j)) (*ℤ-zero (pos units))
+      kept-flatOf _ i j (omega arith) (omega arith) ∙ inUse-inside n _ i j h k ∙ rw (getD-repeated (n * n) (i * n + j) (pos 0)) (*ℤ-zero (pos units))
 
   none : looseOf (kept (loadedOf fresh n (zeros n) .a)) t (cyclic n) ≡ NoPair
   none = by (loose-holds n (kept (loadedOf fresh n (zeros n) .a)) t .pair-or-none)

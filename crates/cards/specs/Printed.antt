@@ -4,6 +4,7 @@ use mathlib.Core.Path.{_≡_, refl, ap, _∙_}
 use mathlib.Core.List.{List, [], _∷_, _++_}
 use lib.IntN.{pos}
 use lib.ListN.{take}
+use Rattle.integer.specs.Tabulate.{tabulate}
 use Rattle.job.specs.Job.{Job, accepted, withSample, nextLine, nothing, ended, judged, after, begun, jobOfLines, jobOf}
 use Rattle.text.specs.Numeral.{leadingZero, valueFrom}
 use Rattle.text.specs.Parts.{onto, split, before}
@@ -18,7 +19,6 @@ use Rattle.rounding.specs.Rounding.{rnd}
 use Rattle.run.specs.Cards as running
 use Rattle.scatter.specs.Samples.{samples, sampleAt, sumsOf, sumsAt, sum, products, z}
 use Rattle.scatter.specs.Table.{S, scatter, largest, smallest, shift, entries, padded, tableOf}
-use Rattle.scatter.specs.Tabulate.{tabulate}
 use Rattle.text.specs.Decimal.{digits, digitsBy, number}
 use Rattle.text.specs.Line.{line, further, numberLine, wordLine}
 use Rattle.text.specs.Lines.{lines}

@@ -1,20 +1,21 @@
 -- Readings that are not refused: what they keep to, and how many numbers their table gives.
 use Prim.Native.Nat.{ℕ, _+_, _*_, _≤_}
-use mathlib.Core.Path.{_≡_, refl}
-use mathlib.Core.Bool.{Bool, true, false, _&&_}
+use mathlib.Core.Path.{_≡_}
+use mathlib.Core.Bool.{_&&_}
 use mathlib.Core.List.{List}
-use native.Mathlib.Nat.{mul-le-mul}
 use native.Mathlib.Omega.{arith}
-use lib.Dec.{T, eqb, leb, eqb→eq, leb→le}
+use lib.Dec.{eqb, leb, eqb→eq, leb→le}
+use lib.Ieee.Bits.{is-true}
 use lib.ListN.{length, take, length-append}
 use lib.Seq.{length-take-le}
 use mir.Facts.{and-yes}
 use Rattle.job_table.specs.Laws.{all-at}
 use Rattle.ledger.specs.Accepted.{passed}
+use Rattle.limits.specs.Channels.{places}
+use Rattle.scatter.specs.Entries.{length-padded}
 use Rattle.scatter.specs.Ranges.{Readings}
 use Rattle.scatter.specs.Samples.{samples, sumsOf}
-use Rattle.scatter.specs.Table.{padded, tableOf}
-use Rattle.scatter.specs.Tabulate.{length-tabulate}
+use Rattle.scatter.specs.Table.{tableOf}
 use Rattle.scatter.specs.declared.sums.Sums.{Sums}
 use Rattle.text.specs.Range.{allWithin}
 use Rattle.field_axes.specs.Table.{tableNumbers, tableNumbersOf, tableRefusal, valuesWithin}
@@ -22,10 +23,6 @@ use Rattle.field_axes.specs.Table.{tableNumbers, tableNumbersOf, tableRe
 pub record Readable (n : ℕ) (dilutions counts : List ℕ) (size : ℕ) : Type 0 where
   pub readings : Readings n dilutions counts
   pub room : 1 + 2 * (n * n) ≤ size
-
-is-true : (b : Bool) → T b → b ≡ true
-is-true true t = refl
-is-true false t = absurd t
 
 pub readable : (n : ℕ) (dilutions counts : List ℕ) (size : ℕ) → tableRefusal n dilutions counts size ≡ 0 → Readable n dilutions counts size
 unfolding tableRefusal valuesWithin
@@ -47,25 +44,22 @@ readable n dilutions counts size e =
       room = leb→le _ size (passed (leb (1 + 2 * (n * n)) size) 12 0 (number .1) (omega arith) .0);
     }
 
-pub square-small : (n : ℕ) → n ≤ 8 → n * n ≤ 64
-square-small n h = mul-le-mul {n₁ = n} {m₁ = n} {n₂ = 8} {m₂ = 8} h h
-
 module _ (n : ℕ) (t : Sums) where
   pub length-scatter : length (tableOf n t .scatter) ≡ 64
-  unfolding tableOf padded
-  length-scatter = length-tabulate 64 _
+  unfolding tableOf
+  length-scatter = length-padded _
 
   pub length-entries : length (tableOf n t .entries) ≡ 64
-  unfolding tableOf padded
-  length-entries = length-tabulate 64 _
+  unfolding tableOf
+  length-entries = length-padded _
 
 -- the first n×n of them
 module _ (n : ℕ) (t : Sums) (h : n ≤ 8) where
   pub scatter-used : length (take (n * n) (tableOf n t .scatter)) ≡ n * n
-  scatter-used = length-take-le (n * n) (tableOf n t .scatter) (rw (length-scatter n t) (square-small n h))
+  scatter-used = length-take-le (n * n) (tableOf n t .scatter) (rw (length-scatter n t) (places n h))
 
   pub entries-used : length (take (n * n) (tableOf n t .entries)) ≡ n * n
-  entries-used = length-take-le (n * n) (tableOf n t .entries) (rw (length-entries n t) (square-small n h))
+  entries-used = length-take-le (n * n) (tableOf n t .entries) (rw (length-entries n t) (places n h))
 
 pub length-table : (n : ℕ) (dilutions counts : List ℕ) → n ≤ 8 → length (tableNumbersOf n dilutions counts) ≡ 1 + 2 * (n * n)
 unfolding tableNumbersOf tableNumbers

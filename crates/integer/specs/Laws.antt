@@ -6,7 +6,7 @@ use native.Mathlib.Nat.{suc-ne-zero, eq-of-mul-eq-mul-left, mul-zero}
 use native.Mathlib.Omega.{arith}
 use borrow.Author.Tests.{ltb-true, ltb-false}
 use lib.Dec.{ltb}
-use lib.IntN.{ℤ, pos, negsuc, sucℤ, predℤ, negℤ, natAbs, subℕ, _+ℤ_, _-ℤ_, _*ℤ_, +ℤ-assoc, +ℤ-comm, +ℤ-idl, +ℤ-invr, negℤ-negℤ, negℤ-+ℤ, zero-*ℤ, sucℤ-+ℤ, predℤ-+ℤ, sucℤ-*ℤ, predℤ-*ℤ, *ℤ-comm, -ℤ-+ℤ-cancel}
+use lib.IntN.{ℤ, pos, negsuc, sucℤ, predℤ, negℤ, natAbs, one, subℕ, _+ℤ_, _-ℤ_, _*ℤ_, +ℤ-assoc, +ℤ-comm, +ℤ-idl, +ℤ-invr, negℤ-negℤ, negℤ-+ℤ, zero-*ℤ, sucℤ-+ℤ, predℤ-+ℤ, sucℤ-*ℤ, predℤ-*ℤ, *ℤ-one, *ℤ-comm, -ℤ-+ℤ-cancel}
 
 -- sums
 pub +ℤ-left-comm : (a b c : ℤ) → a +ℤ (b +ℤ c) ≡ b +ℤ (a +ℤ c)
@@ -52,6 +52,10 @@ pub *ℤ-assoc : (a b c : ℤ) → (a *ℤ b) *ℤ c ≡ a *ℤ (b *ℤ c)
     (rw (zero-*ℤ b, zero-*ℤ (b *ℤ c)) (zero-*ℤ c))
     (λ m h. rw (sucℤ-*ℤ m b, sucℤ-*ℤ m (b *ℤ c), +ℤ-*ℤ (m *ℤ b) b c, h))
     (λ m h. rw (predℤ-*ℤ m b, predℤ-*ℤ m (b *ℤ c), +ℤ-*ℤ (m *ℤ b) (negℤ b) c, negℤ-*ℤ b c, h)) a
+
+pub one-*ℤ : (z : ℤ) → pos 1 *ℤ z ≡ z
+unfolding one
+one-*ℤ z = *ℤ-comm (pos 1) z ∙ *ℤ-one z
 
 pub *ℤ-interchange : (a b c d : ℤ) → (a *ℤ b) *ℤ (c *ℤ d) ≡ (a *ℤ c) *ℤ (b *ℤ d)
 *ℤ-interchange a b c d = simp (*ℤ-assoc, left-comm)

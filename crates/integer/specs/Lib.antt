@@ -8,4 +8,5 @@ pub mod Dot
 pub mod Matrix
 pub mod Range
 pub mod Tests
+pub mod Tabulate
 pub mod Word

@@ -8,8 +8,9 @@ use mathlib.Core.List.{List, [], _∷_}
 use Prim.Native.Nat.{ℕ, zero, suc, _+_, _*_}
 use native.Mathlib.Nat.{add-zero, add-suc}
 use lib.Dec.{T, eqb, eqb→eq}
-use lib.IntN.{ℤ, pos, negsuc, negℤ, natAbs, one, pow, _+ℤ_, _-ℤ_, _*ℤ_, +ℤ-assoc, +ℤ-idl, +ℤ-idr, +ℤ-negℤ-cancel, zero-*ℤ, *ℤ-zero, *ℤ-one, *ℤ-comm}
-use Rattle.integer.specs.Laws.{+ℤ-left-comm, +ℤ-*ℤ, *ℤ-+ℤ, *ℤ-assoc, *ℤ-interchange, negℤ-*ℤ, eq-of-difference, natAbs-zero, pos-injective}
+use lib.IntN.{ℤ, pos, negsuc, negℤ, natAbs, one, pow, _+ℤ_, _-ℤ_, _*ℤ_, +ℤ-assoc, +ℤ-idl, +ℤ-idr, +ℤ-negℤ-cancel, zero-*ℤ, *ℤ-zero, *ℤ-one}
+use mir.Facts.{and-yes}
+use Rattle.integer.specs.Laws.{+ℤ-left-comm, +ℤ-*ℤ, *ℤ-+ℤ, one-*ℤ, *ℤ-assoc, *ℤ-interchange, negℤ-*ℤ, eq-of-difference, natAbs-zero, pos-injective}
 
 -- A monomial is the list of its variables' exponents, in the order of the variables; a polynomial lists its terms, no two with one monomial.
 pub data Poly : Type 0 where
@@ -71,24 +72,17 @@ unfolding pow
 pow-+ x i zero = rw (add-zero i) (sym (*ℤ-one (pow x i)))
 pow-+ x i (suc j) = rw (add-suc i j, pow-+ x i j) (*ℤ-assoc (pow x i) (pow x j) x)
 
-one-*ℤ : (x : ℤ) → one *ℤ x ≡ x
-one-*ℤ x = *ℤ-comm one x ∙ *ℤ-one x
-
 exponents-value : (ρ : List ℤ) (m k : List ℕ) → monomial ρ (exponents m k) ≡ monomial ρ m *ℤ monomial ρ k
-unfolding monomial
+unfolding monomial one
 exponents-value ρ [] k = sym (one-*ℤ (monomial ρ k))
 exponents-value ρ (i ∷ m) [] = sym (*ℤ-one (pow (head ρ) i *ℤ monomial (tail ρ) m))
 exponents-value ρ (i ∷ m) (j ∷ k) = rw (pow-+ (head ρ) i j, exponents-value (tail ρ) m k) (*ℤ-interchange (pow (head ρ) i) (pow (head ρ) j) (monomial (tail ρ) m) (monomial (tail ρ) k))
-
-both : (a b : Bool) → T (a && b) → T a × T b
-both true b t = (tt, t)
-both false b t = absurd t
 
 same→eq : (m k : List ℕ) → T (same m k) → m ≡ k
 same→eq [] [] t = refl
 same→eq [] (j ∷ k) t = absurd t
 same→eq (i ∷ m) [] t = absurd t
-same→eq (i ∷ m) (j ∷ k) t = let b = both (eqb i j) (same m k) t in ap₂ _∷_ (eqb→eq i j (b .0)) (same→eq m k (b .1))
+same→eq (i ∷ m) (j ∷ k) t = let b = and-yes (eqb i j) (same m k) t in ap₂ _∷_ (eqb→eq i j (b .0)) (same→eq m k (b .1))
 
 insert-value : (ρ : List ℤ) (c : ℤ) (m : List ℕ) (p : Poly) → value ρ (insert c m p) ≡ c *ℤ monomial ρ m +ℤ value ρ p
 unfolding value
@@ -119,7 +113,7 @@ vanishes-value : (ρ : List ℤ) (p : Poly) → T (vanishes p) → value ρ p �
 unfolding value
 vanishes-value ρ nil t = refl
 vanishes-value ρ (term c m p) t =
-    let b = both (eqb (natAbs c) zero) (vanishes p) t in
+    let b = and-yes (eqb (natAbs c) zero) (vanishes p) t in
     rw (natAbs-zero c (eqb→eq (natAbs c) zero (b .0)), vanishes-value ρ p (b .1), zero-*ℤ (monomial ρ m))
 
 -- Reading a term of ℤ: a polynomial whose value at ρ it is.
@@ -133,11 +127,11 @@ pub record Place (ρ : List ℤ) (z : ℤ) : Type 0 where
   pub is : monomial ρ at ≡ z
 
 pub here-value : (z : ℤ) (ρ : List ℤ) → monomial (z ∷ ρ) (1 ∷ []) ≡ z
-unfolding monomial pow
+unfolding monomial pow one
 here-value z ρ = *ℤ-one (one *ℤ z) ∙ one-*ℤ z
 
 pub there-value : (w : ℤ) (ρ : List ℤ) (m : List ℕ) {z : ℤ} → monomial ρ m ≡ z → monomial (w ∷ ρ) (zero ∷ m) ≡ z
-unfolding monomial pow
+unfolding monomial pow one
 there-value w ρ m h = one-*ℤ (monomial ρ m) ∙ h
 
 pub variable-value : (ρ : List ℤ) (m : List ℕ) {z : ℤ} → monomial ρ m ≡ z → value ρ (term (pos 1) m nil) ≡ z

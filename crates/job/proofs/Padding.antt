@@ -7,6 +7,7 @@ use native.Mathlib.Nat.{sub-zero, zero-sub, suc-sub-suc}
 use native.Mathlib.Omega.{arith}
 use lib.ListN.{length, getD, take, drop, replicate, length-append, length-replicate}
 use lib.Seq.{sets, sets-eq, take-append-seam, drop-append-add}
+use Rattle.integer.specs.Tabulate.{getD-repeated}
 use Rattle.text.specs.Range.{within, allWithin, both, is-within}
 use Rattle.job.specs.Reading.{padded}
 
@@ -26,11 +27,6 @@ pub padded-take : (m : ℕ) (xs : List ℕ) → take (length xs) (padded m xs) �
 unfolding padded
 padded-take m xs = take-append-seam xs (replicate (m - length xs) 0)
 
-zero-at : (m i high : ℕ) → getD (replicate m 0) i 0 ≤ high
-zero-at zero i high = zero-le
-zero-at (suc m) zero high = zero-le
-zero-at (suc m) (suc i) high = zero-at m i high
-
 append-at : (low high : ℕ) (xs ys : List ℕ) → allWithin low high xs ≡ true → ((i : ℕ) → getD ys i 0 ≤ high) → (i : ℕ) → getD (xs ++ ys) i 0 ≤ high
 unfolding allWithin
 append-at low high [] ys p q i = q i
@@ -40,4 +36,4 @@ append-at low high (x ∷ xs) ys p q (suc i) = append-at low high xs ys (both (w
 -- A number of the array is at most the range's end, at any place.
 pub padded-at : (m low high : ℕ) (xs : List ℕ) → allWithin low high xs ≡ true → (i : ℕ) → getD (padded m xs) i 0 ≤ high
 unfolding padded
-padded-at m low high xs p i = append-at low high xs (replicate (m - length xs) 0) p (λ j. zero-at (m - length xs) j high) i
+padded-at m low high xs p i = append-at low high xs (replicate (m - length xs) 0) p (λ j. rw getD-repeated zero-le) i

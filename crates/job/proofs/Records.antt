@@ -10,7 +10,9 @@ use borrow.Author.Tests.{ne-eqb, eqb-true}
 use lib.Dec.{eqb}
 use lib.ListN.{length, drop, set, replicate}
 use lib.Seq.{sets, drop-drop}
+use Rattle.integer.specs.Tests.{cond-same}
 use Rattle.text.specs.Parts.{onto, split, before}
+use Rattle.text.specs.Range.{both}
 use Rattle.job.specs.Text.{numberOf, numbersOf, isTag, recordOf, lineOf}
 use Rattle.job.specs.Scan.{fieldAt, taggedFrom, taggedAt, malformedLine, lastNumber, innerNumber, numbersAt, lineAt}
 use Rattle.job.specs.declared.sample.Line.{Line}
@@ -175,10 +177,6 @@ pick-same : (t : Bool) → cond t true false ≡ (t && true)
 pick-same true = refl
 pick-same false = refl
 
-pick-either : {A : Type 0} (t : Bool) (x : A) → cond t x x ≡ x
-pick-either true x = refl
-pick-either false x = refl
-
 untagged : (b tag : ℕ) (bs : List ℕ) → eqb b tag ≡ false → taggedFrom tag (b ∷ bs) ≡ false
 unfolding taggedFrom
 untagged b tag [] h = refl
@@ -187,9 +185,9 @@ untagged b tag (d ∷ bs) h = simp h
 tagged-past : (b tag : ℕ) {bs f rest : List ℕ} {e : End} → Cut bs f e rest → taggedFrom tag (b ∷ bs) ≡ onTab e (isTag tag (b ∷ f))
 unfolding taggedFrom isTag
 tagged-past b tag at-tab = pick-same (eqb b tag)
-tagged-past b tag at-feed = pick-either (eqb b tag) false
+tagged-past b tag at-feed = cond-same (eqb b tag) false
 tagged-past b tag at-over = refl
-tagged-past b tag (past {b = d} {f = f} {e = e} n m p) = simp (ne-eqb d 9 n, pick-either (eqb b tag) false, ne-eqb (suc (length f)) 0 (λ q. omega arith), and-false (eqb b tag)) (onTab-false e)
+tagged-past b tag (past {b = d} {f = f} {e = e} n m p) = simp (ne-eqb d 9 n, cond-same (eqb b tag) false, ne-eqb (suc (length f)) 0 (λ q. omega arith), and-false (eqb b tag)) (onTab-false e)
 
 tagged-cut : (tag : ℕ) → eqb 9 tag ≡ false → eqb 10 tag ≡ false → {bs f rest : List ℕ} {e : End} → Cut bs f e rest → taggedFrom tag bs ≡ onTab e (isTag tag f)
 unfolding isTag
@@ -201,21 +199,17 @@ tagged-cut tag h g (past {b = b} n m p) = tagged-past b tag p
 tag-alone : (tag : ℕ) (f : List ℕ) → isTag tag f ≡ true → length f ≡ 1
 unfolding isTag
 tag-alone tag [] h = absurd (false≢true h)
-tag-alone tag (b ∷ bs) h = ap suc (eqb-true (length bs) 0 (so (eqb b tag) (eqb (length bs) 0) h))
-  where
-    so : (x y : Bool) → (x && y) ≡ true → y ≡ true
-    so true y h = h
-    so false y h = absurd (false≢true h)
+tag-alone tag (b ∷ bs) h = ap suc (eqb-true (length bs) 0 (both (eqb b tag) (eqb (length bs) 0) h .1))
 
 line-tab : (tag c : ℕ) (line f l : List ℕ) (ls : List (List ℕ)) → split 9 line ≡ f ∷ split 9 l → lineIn tag c (line ∷ ls) ≡ cond (isTag tag f) (numbersIn c (l ∷ ls)) none
 unfolding lineIn lineOf recordOf numbersIn
-line-tab tag c line f l [] q = sym (pick-either (isTag tag f) none)
+line-tab tag c line f l [] q = sym (cond-same (isTag tag f) none)
 line-tab tag c line f l (part ∷ parts) q = rw q
 
 line-feed : (tag c : ℕ) (f : List ℕ) (ls : List (List ℕ)) → split 9 f ≡ f ∷ [] → lineIn tag (suc c) (f ∷ ls) ≡ none
 unfolding lineIn lineOf recordOf numbersOf
 line-feed tag c f [] q = refl
-line-feed tag c f (part ∷ parts) q = rw q (pick-either (isTag tag f) none)
+line-feed tag c f (part ∷ parts) q = rw q (cond-same (isTag tag f) none)
 
 line-over : (tag c : ℕ) (f : List ℕ) → lineIn tag c (f ∷ []) ≡ none
 unfolding lineIn

@@ -9,7 +9,7 @@ use borrow.Author.Tests.{le-leb, leb-false, leb-true, lt-leb}
 use lib.Dec.{leb}
 use lib.ListN.{drop, length}
 use Rattle.text.specs.Line.{lineX}
-use Rattle.text.specs.Put.{Put}
+use Rattle.text.specs.Put.{Put, front-length}
 use Rattle.job.specs.Job.{Answer, Job, accepted, jobOf, refused}
 use Rattle.job.specs.Reading.{readingOf}
 use Rattle.job.specs.Reply.{Answers, Replies, Short, bufferBy, bufferOf, printedBy, printedOf, replyBy, replyOf}
@@ -29,7 +29,7 @@ module _ (f : Job → List ℕ) where
     pub put-whole : (exit : List ℕ) (r : ℕ) → Put (f j) 0 entry exit r → Answers f (accepted j) entry exit (Written r)
     unfolding replyBy bufferBy Short
     put-whole exit r p =
-        let e : r ≡ length (f j) = p .answer ∙ zero-add _ in
+        let e = front-length p in
         let test = le-leb (length (f j)) (length entry) (omega (arith, p .within, e)) in
         record { answer = rw (test, e); buffer = rw test (p .bytes); short = short }
 

@@ -4,14 +4,14 @@ use mathlib.Core.Path.{_≡_, refl, sym, _∙_}
 use mathlib.Core.Bool.{Bool, true, false, cond, _&&_, and-true}
 use mathlib.Core.List.{List, [], _∷_}
 use mathlib.Core.Option.{Option, none, some}
-use native.Mathlib.Nat.{pow-suc, pow-le-pow-right, mul-le-mul-right, le-refl}
+use native.Mathlib.Nat.{pow-suc, pow-le-pow-right, mul-le-mul-right}
 use native.Mathlib.Numerals.{add-one}
 use native.Mathlib.Omega.{arith}
 use borrow.Author.Tests.{eq-eqb, ne-eqb, lt-leb, le-leb, lt-ltb, le-ltb, leb-true}
 use lib.Dec.{eqb, leb, ltb, lit<}
 use lib.IntN.{ℤ}
-use lib.ListN.{length, take, drop, getD, length-drop, drop-of-length-le}
-use lib.Seq.{drop-cons, take-all}
+use lib.ListN.{length, drop, getD, drop-of-length-le}
+use lib.Seq.{drop-cons}
 use Rattle.rotation.specs.Rotation.{signed}
 use Rattle.text.specs.Numeral.{leadingZero, valueFrom}
 use Rattle.text.specs.Range.{allWithin, both, is-within, within}
@@ -136,10 +136,6 @@ module _ (u : Unsigned) (o : Option ℕ) (q : u ≡ unsignedIs o) where
 
 pub reads-below : (u : Unsigned) (f : List ℕ) → u ≡ unsignedIs (numberOf f) → (x : ℕ) → u ≡ Is x → x < 2 ^ 63
 reads-below u f q x e = omega (arith, number-small f x (read-some u (numberOf f) q x e))
-
--- all that follows the first k
-pub rest-all : (k : ℕ) (f : List ℕ) → take (length f - k) (drop k f) ≡ drop k f
-rest-all k f = take-all (length f - k) (drop k f) (rw length-drop (le-refl _))
 
 pub signed-empty : (f : List ℕ) → length f < 1 → Signed.No ≡ signedIs (signedOf f)
 unfolding signedOf signedIs

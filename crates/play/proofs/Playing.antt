@@ -6,14 +6,10 @@ use mathlib.Core.List.{List, [], _∷_}
 use mathlib.Core.Option.{Option, none, some}
 use native.Mathlib.Omega.{arith}
 use borrow.Author.Tests.{eq-eqb, ne-eqb, ltb-true, not-true, not-false}
-use lib.Dec.{T}
 use lib.IntN.{ℤ, pos, negsuc, natAbs}
 use lib.ListN.{length, take, drop, getD, replicate}
 use lib.Seq.{length-take-le}
-use lib.Signed.{ltZ, nonNeg, natAbs-le}
-use mir.Syntax.{w64}
-use mir.Val.{Fits, SFits}
-use Rattle.integer.specs.Word.{not-negative}
+use lib.Signed.{ltZ}
 use Rattle.ledger.specs.Call.{Call, load, turn, sweep, loosePair, axis}
 use Rattle.record.specs.Done.{Done, AxisDone}
 use Rattle.record.specs.declared.AxisStep.{AxisStep}
@@ -49,17 +45,10 @@ unfolding unsignedIs wholeOf
 negative-no (pos n) e = absurd (omega (arith, ltb-true n 0 e))
 negative-no (negsuc n) e = refl
 
-module _ (x : ℤ) (e : ltZ x (pos 0) ≡ false) where
-  pub whole-is : Is (natAbs x) ≡ unsignedIs (wholeOf x)
-  unfolding unsignedIs wholeOf
-  whole-is = by x e
-    where
-      by : (y : ℤ) → ltZ y (pos 0) ≡ false → Is (natAbs y) ≡ unsignedIs (wholeOf y)
-      by (pos n) p = refl
-      by (negsuc n) p = absurd (true≢false p)
-
-  pub whole-fits : SFits w64 x → T (nonNeg x) × Fits w64 (natAbs x)
-  whole-fits f = (not-negative x e, record { fits = omega (arith, natAbs-le x (f .sfits)) })
+pub whole-is : (x : ℤ) → ltZ x (pos 0) ≡ false → Is (natAbs x) ≡ unsignedIs (wholeOf x)
+unfolding unsignedIs wholeOf
+whole-is (pos n) e = refl
+whole-is (negsuc n) e = absurd (true≢false e)
 
 take-first : (xs : List ℤ) (count : ℕ) → 1 ≤ count → count ≤ length xs → take count xs ≡ getD xs 0 (pos 0) ∷ take (count - 1) (drop 1 xs)
 take-first [] count e h = absurd (omega arith)

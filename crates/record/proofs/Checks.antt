@@ -1,10 +1,9 @@
 -- Laws of the loops that check the numbers of a load.
-use mathlib.Core.Path.{_≡_, refl, sym, ap, _∙_}
+use mathlib.Core.Path.{_≡_, refl, sym, _∙_}
 use mathlib.Core.Bool.{Bool, true, false, true≢false, _&&_}
 use mathlib.Core.List.{List}
 use Prim.Native.Nat.{ℕ, suc, _+_, _*_, _<_, _≤_}
 use native.Mathlib.Decide.{decLt}
-use native.Mathlib.Nat.{mul-le-mul, le-refl}
 use native.Mathlib.Numerals.{add-one}
 use native.Mathlib.Omega.{arith}
 use lib.Dec.{T, leb}
@@ -12,9 +11,6 @@ use lib.IntN.{ℤ, pos, negsuc, natAbs}
 use lib.ListN.{length, getD, drop}
 use lib.Seq.{drop-cons}
 use lib.Signed.{ltZ, leZ}
-use mir.Syntax.{w64}
-use mir.Val.{SFits, toZ, ofZ}
-use mir.Facts.{toZ-ofZ}
 use borrow.Author.Tests.{ltb-true, ltb-false, le-leb, lt-leb, eq-eqb}
 use Rattle.integer.specs.Matrix.{Matrix}
 use Rattle.integer.specs.Range.{all, below, from-each}
@@ -43,10 +39,6 @@ equal-yes x y e = same-test (equal x y) true (λ t. tt) (λ t. equal-of x y e)
 
 pub equal-no : (x y : ℤ) → (x ≡ y → ⊥) → equal x y ≡ false
 equal-no x y d = same-test (equal x y) false (λ t. d (equal-same x y t)) (λ t. absurd t)
-
--- numbers of the same bits
-pub same-bits : {x y : ℤ} → SFits w64 x → SFits w64 y → ofZ w64 x ≡ ofZ w64 y → x ≡ y
-same-bits f g e = sym (toZ-ofZ f) ∙ ap (toZ w64) e ∙ toZ-ofZ g
 
 -- whether an entry is its mirror's equal; a matrix is symmetric if every entry left of the diagonal is
 abbrev pub mirrored : Matrix → ℕ → ℕ → Bool
@@ -90,13 +82,6 @@ module _ (xs : List ℤ) (k : ℕ) (h : k < length xs) (e : within xs ≡ within
 
   pub within-more : leb (natAbs (getD xs k (pos 0))) entryLimit ≡ true → within xs ≡ within (drop (k + 1) xs)
   within-more t = rw t at from
-
--- row i and column j of n numbers to a row
-pub place-below : (n i j : ℕ) → i < n → j < n → i * n + j < n * n
-place-below n i j h k = omega (arith, mul-le-mul h (le-refl n))
-
-pub places : (n : ℕ) → n ≤ 8 → n * n ≤ 64
-places n h = mul-le-mul h h
 
 -- the tests of a load after those of its size
 pub sized : (k : ℕ) (xs : List ℤ) → 2 ≤ k → k ≤ 8 → length xs ≡ k * k → refusalOf 0 0 (load k xs) ≡ unless (within xs) 8 (unless (symmetric k (matrixOf k xs)) 7 0)

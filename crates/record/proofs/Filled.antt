@@ -11,12 +11,12 @@ use lib.ListN.{getD, length-set, replicate, set}
 use lib.Seq.{ext-getD, getD-set-other, getD-set-same}
 use borrow.Author.Tests.{eq-eqb, le-ltb, lt-ltb, ne-eqb}
 use Rattle.integer.specs.Matrix.{Matrix}
+use Rattle.integer.specs.Tabulate.{getD-tabulate, length-tabulate, tabulate}
 use Rattle.integer.specs.Tests.{cond-same, next-test}
 use Rattle.rotation.specs.Eight.{square-cong}
 use Rattle.rotation.specs.Stored.{store, stored, stored-column, stored-here, stored-row}
 use Rattle.rotation.specs.Turn.{eight, square}
-use Rattle.record.specs.Fill.{getD-tabulate, length-tabulate}
-use Rattle.record.specs.Flat.{blank, flatOf, tabulate}
+use Rattle.record.specs.Flat.{blank, flatOf}
 use Rattle.record.specs.Record.{inUse}
 
 pub flat-cong : (f g : Matrix) → ((i j : ℕ) → i < 8 → j < 8 → f i j ≡ g i j) → flatOf f ≡ flatOf g
@@ -26,7 +26,7 @@ flat-cong f g h =
     (λ k l. entry k (rw length-tabulate at l))
   where
     entry : (k : ℕ) → k < 64 → getD (flatOf f) k (pos 0) ≡ getD (flatOf g) k (pos 0)
-    entry k l = getD-tabulate 64 k _ l ∙ h (k / 8) (k % 8) (omega arith) (omega arith) ∙ sym (getD-tabulate 64 k _ l)
+    entry k l = getD-tabulate 64 _ k (pos 0) l ∙ h (k / 8) (k % 8) (omega arith) (omega arith) ∙ sym (getD-tabulate 64 _ k (pos 0) l)
 
 -- a store in row i and column j
 pub set-flat : (f : Matrix) (i j : ℕ) (x : ℤ) → i < 8 → j < 8 → set (flatOf f) (8 * i + j) x ≡ flatOf (stored i j x f)
@@ -36,12 +36,12 @@ set-flat f i j x h k =
     (λ m l. entry m (rw (length-set (flatOf f) (8 * i + j) x, length-tabulate) at l) (ℕ-discrete (m / 8) i) (ℕ-discrete (m % 8) j))
   where
     other : (m : ℕ) → m < 64 → (m ≡ 8 * i + j → ⊥) → f (m / 8) (m % 8) ≡ stored i j x f (m / 8) (m % 8) → getD (set (flatOf f) (8 * i + j) x) m (pos 0) ≡ getD (flatOf (stored i j x f)) m (pos 0)
-    other m l d e = getD-set-other (flatOf f) (8 * i + j) m x (pos 0) d ∙ getD-tabulate 64 m _ l ∙ e ∙ sym (getD-tabulate 64 m _ l)
+    other m l d e = getD-set-other (flatOf f) (8 * i + j) m x (pos 0) d ∙ getD-tabulate 64 _ m (pos 0) l ∙ e ∙ sym (getD-tabulate 64 _ m (pos 0) l)
 
     entry : (m : ℕ) → m < 64 → Dec (m / 8 ≡ i) → Dec (m % 8 ≡ j) → getD (set (flatOf f) (8 * i + j) x) m (pos 0) ≡ getD (flatOf (stored i j x f)) m (pos 0)
     entry m l (yes e) (yes d) =
         let place : 8 * i + j ≡ m = omega arith in
-        rw (place, getD-set-same (flatOf f) m x (pos 0) (rw length-tabulate l), getD-tabulate 64 m (λ m. stored i j x f (m / 8) (m % 8)) l, e, d)
+        rw (place, getD-set-same (flatOf f) m x (pos 0) (rw length-tabulate l), getD-tabulate 64 (λ m. stored i j x f (m / 8) (m % 8)) m (pos 0) l, e, d)
         (sym (stored-here i j x f))
     entry m l (yes e) (no d) = other m l (λ p. d (omega arith)) (sym (stored-column i j x f (m / 8) (m % 8) d))
     entry m l (no e) d = other m l (λ p. e (omega arith)) (sym (stored-row i j x f (m / 8) (m % 8) e))

@@ -8,11 +8,12 @@ use native.Mathlib.Nat.{le-trans}
 use native.Mathlib.Omega.{arith}
 use lib.Dec.{eqb, ltb}
 use lib.IntN.{ℤ, pos}
-use lib.ListN.{length, getD, replicate}
+use lib.ListN.{length, replicate}
 use borrow.Author.Tests.{eqb-true}
 use Rattle.integer.specs.Matrix.{Matrix, squares, squares-cong}
 use Rattle.integer.specs.Square.{sq}
 use Rattle.integer.specs.Sum.{sumℕ, sumℕ-cong}
+use Rattle.integer.specs.Tabulate.{getD-repeated}
 use Rattle.ledger.specs.Accepted.{Turns, turn-accepted, sweep-accepted}
 use Rattle.ledger.specs.Call.{Call, load, turn, sweep, loosePair, axis}
 use Rattle.ledger.specs.Cyclic.{cyclic-length, cyclic-pairs}
@@ -113,17 +114,12 @@ after-kept r call k = by-refusal (eqb (refusalOf (r .n) (r .m) call) 0) refl
     by-refusal false e = refused-kept r k
 
 -- a fresh record
-nothing : (k count : ℕ) → getD (replicate count (pos 0)) k (pos 0) ≡ pos 0
-nothing k zero = refl
-nothing zero (suc count) = refl
-nothing (suc k) (suc count) = nothing k count
-
 empty : (i j : ℕ) → at (rowsOf (replicate 64 (pos 0))) i j ≡ pos 0
 unfolding rowsOf entriesOf kept
 empty i j = at-square (kept (replicate 64 (pos 0))) i j ∙ by-use (use-of 8 i j)
   where
     by-use : Use 8 i j → inUse 8 (kept (replicate 64 (pos 0))) i j ≡ pos 0
-    by-use (inside h k) = inUse-inside 8 _ i j h k ∙ nothing (8 * i + j) 64
+    by-use (inside h k) = inUse-inside 8 _ i j h k ∙ getD-repeated 64 (8 * i + j) (pos 0)
     by-use (outside e) = inUse-outside 8 _ i j e
 
 pub fresh-kept : Kept fresh

@@ -1,9 +1,10 @@
 -- The kept matrix and axes: flat lists of 64 entries, 8 to a row.
-use Prim.Native.Nat.{ℕ, zero, suc, _+_, _*_, _/_, _%_}
-use mathlib.Core.List.{List, [], _∷_, _++_}
+use Prim.Native.Nat.{ℕ, _+_, _*_, _/_, _%_}
+use mathlib.Core.List.{List}
 use lib.IntN.{ℤ, pos}
 use lib.ListN.{getD, replicate}
 use Rattle.integer.specs.Matrix.{Matrix}
+use Rattle.integer.specs.Tabulate.{tabulate}
 use Rattle.rotation.specs.Turn.{eight}
 
 -- the entry in row i and column j
@@ -20,11 +21,6 @@ rowsOf a = eight (entriesOf a)
 -- rows of 0
 unfoldable pub blank : List (List ℤ)
 blank = replicate 8 (replicate 8 (pos 0))
-
--- f 0, f 1 .., `count` of them
-unfoldable pub tabulate : ℕ → (ℕ → ℤ) → List ℤ
-tabulate zero f = []
-tabulate (suc count) f = tabulate count f ++ (f count ∷ [])
 
 -- the flat list of a matrix
 unfoldable pub flatOf : Matrix → List ℤ

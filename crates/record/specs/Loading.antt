@@ -2,19 +2,18 @@
 use mathlib.Core.Path.{_≡_, refl, sym, ap, _∙_}
 use mathlib.Core.Bool.{true}
 use mathlib.Core.List.{List, [], _∷_}
-use Prim.Native.Nat.{ℕ, suc, _+_, _*_, _<_, _≤_}
+use Prim.Native.Nat.{ℕ, suc, _*_, _<_, _≤_}
 use native.Mathlib.Decide.{decLt}
-use native.Mathlib.Nat.{le-trans, mul-le-mul}
 use native.Mathlib.Omega.{arith}
 use lib.IntN.{ℤ, pos, natAbs, _*ℤ_}
 use lib.ListN.{getD}
 use borrow.Author.Tests.{le-leb, lt-ltb, le-ltb}
-use Rattle.integer.specs.Laws.{natAbs-*ℤ}
-use Rattle.integer.specs.Matrix.{Matrix, Symmetric, diagonal, diagonal-squares, squares, squares-cong, squares-≤}
+use Rattle.integer.specs.Matrix.{Matrix, diagonal, diagonal-squares, squares, squares-cong}
 use Rattle.integer.specs.Square.{sq, sq-pos}
 use Rattle.integer.specs.Sum.{sumℕ, sumℕ-cong, sumℕ-const}
 use Rattle.ledger.specs.Accepted.{Loads, load-accepted}
 use Rattle.ledger.specs.Call.{load}
+use Rattle.ledger.specs.Loaded.{load-size}
 use Rattle.limits.specs.Limits.{entryLimit, units, whole}
 use Rattle.ledger.specs.Refusal.{matrixOf, refusalOf, within}
 use Rattle.ledger.specs.Sound.{matrixBound, axesBound}
@@ -57,10 +56,6 @@ module _ (r : Record) (n : ℕ) (numbers : List ℤ) (l : Loads n numbers) where
   entries : Matrix
   entries i j = pos units *ℤ matrixOf n numbers i j
 
-  entries-small : (i j : ℕ) → i < n → j < n → natAbs (entries i j) ≤ units * entryLimit
-  unfolding entries matrixOf
-  entries-small i j h k = rw (natAbs-*ℤ (pos units) (matrixOf n numbers i j)) (omega (arith, l .small (i * n + j)))
-
   matrix : (i j : ℕ) → at (rowsOf (flatOf (inUse n entries))) i j ≡ inUse n entries i j
   matrix = at-flat n entries (l .high)
 
@@ -68,12 +63,8 @@ module _ (r : Record) (n : ℕ) (numbers : List ℤ) (l : Loads n numbers) where
   axes = at-flat n (diagonal (pos whole)) (l .high)
 
   bound : squares n (at (rowsOf (flatOf (inUse n entries)))) ≤ matrixBound 0 * matrixBound 0
-  bound =
-      rw (squares-cong n (λ i j h k. matrix i j ∙ inUse-inside n entries i j h k))
-      (le-trans (squares-≤ n (units * entryLimit) entries entries-small) (mul-le-mul widest widest))
-    where
-      widest : n * (units * entryLimit) ≤ matrixBound 0
-      widest = omega (arith, l .high)
+  unfolding entries
+  bound = rw (squares-cong n (λ i j h k. matrix i j ∙ inUse-inside n entries i j h k)) (load-size n numbers l)
 
   column : (j : ℕ) → Dec (j < n) → sumℕ n (λ i. sq (at (rowsOf (flatOf (inUse n (diagonal (pos whole))))) i j)) ≤ axesBound 0 * axesBound 0
   column j (yes h) =

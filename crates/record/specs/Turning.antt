@@ -8,7 +8,7 @@ use native.Mathlib.Nat.{le-trans, mul-le-mul}
 use native.Mathlib.Omega.{arith}
 use lib.Dec.{ltb}
 use lib.IntN.{ℤ, pos, natAbs}
-use lib.ListN.{length, getD, List·getD-eq-default}
+use lib.ListN.{length}
 use borrow.Author.Tests.{lt-ltb, le-ltb, ltb-true}
 use Rattle.integer.specs.Matrix.{Matrix, Symmetric as SymmetricBelow, squares, squares-cong}
 use Rattle.integer.specs.Square.{sq, sq-pos, natAbs-≤}
@@ -17,7 +17,7 @@ use Rattle.integer.specs.Tests.{cond-same}
 use Rattle.ledger.specs.Cyclic.{Each, Ordered}
 use Rattle.ledger.specs.Pairs.{Pair}
 use Rattle.ledger.specs.Sound.{matrixBound, axesBound}
-use Rattle.rotation.specs.Eight.{getD-eight, length-eight}
+use Rattle.rotation.specs.Eight.{at-eight, at-outside}
 use Rattle.rotation.specs.Exact.{rotationOf-whole}
 use Rattle.rotation.specs.Norm.{turned-squares, axes-column}
 use Rattle.rotation.specs.Rotation.{rotationOf}
@@ -33,23 +33,13 @@ use Rattle.record.specs.Work.{Work, chosen, isTurn, workBy, workPair, wo
 
 -- an entry of an 8 by 8 array of arrays, at any indices
 pub at-square : (f : ℕ → ℕ → ℤ) (i j : ℕ) → at (eight (λ i. eight (f i))) i j ≡ inUse 8 f i j
-unfolding at inUse
+unfolding inUse
 at-square f i j = by-size (decLt i 8) (decLt j 8)
   where
     by-size : Dec (i < 8) → Dec (j < 8) → at (eight (λ i. eight (f i))) i j ≡ inUse 8 f i j
-    by-size (yes h) (yes k) = rw (getD-eight (λ i. eight (f i)) i [] h, getD-eight (f i) j (pos 0) k, lt-ltb i 8 h, lt-ltb j 8 k)
-    by-size (yes h) (no k) =
-        rw (
-          getD-eight (λ i. eight (f i)) i [] h,
-          List·getD-eq-default (eight (f i)) (pos 0) {n = j} (rw length-eight (omega arith)),
-          lt-ltb i 8 h,
-          le-ltb j 8 (omega arith),
-        )
-    by-size (no h) k =
-        rw (
-          List·getD-eq-default (eight (λ i. eight (f i))) [] {n = i} (rw length-eight (omega arith)),
-          le-ltb i 8 (omega arith),
-        )
+    by-size (yes h) (yes k) = at-eight f i j h k ∙ rw (lt-ltb i 8 h, lt-ltb j 8 k)
+    by-size (yes h) (no k) = at-outside f i j (λ _ l. k l) ∙ rw (lt-ltb i 8 h, le-ltb j 8 (omega arith))
+    by-size (no h) k = at-outside f i j (λ l _. h l) ∙ rw (le-ltb i 8 (omega arith))
 
 -- whether an entry is in use
 pub data Use (n i j : ℕ) : Type 0 where

@@ -47,7 +47,7 @@ fn entry_size(a: &[[i64; 8]; 8], i: usize, j: usize) -> u64
     requires { ⌜ (i < 8) × (j < 8) × Small (now a) ⌝ }
     ensures { λ r. ⌜ r ≡ natAbs (at (now (a .entry)) i j) ⌝ }
 {
-    rotation::choice::magnitude(a[i][j])
+    signed::magnitude(a[i][j])
 }
 
 // The first pair in row order whose entry is above t in size.

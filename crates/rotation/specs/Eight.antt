@@ -3,11 +3,11 @@ use mathlib.Core.Path.{_≡_, refl, sym, ap, _∙_}
 use mathlib.Core.Bool.{cond}
 use mathlib.Core.List.{List, [], _∷_}
 use Prim.Native.Nat.{ℕ, zero, suc, _+_, _<_}
-use native.Mathlib.Decide.{ℕ-discrete}
+use native.Mathlib.Decide.{decLt, ℕ-discrete}
 use native.Mathlib.Omega.{arith}
 use lib.Dec.{lit<, ltb}
 use lib.IntN.{ℤ, pos}
-use lib.ListN.{length, getD, length-set, set}
+use lib.ListN.{length, getD, length-set, set, List·getD-eq-default}
 use lib.Seq.{ext-getD, getD-set-other, getD-set-same}
 use borrow.Author.Tests.{lt-ltb}
 use Rattle.integer.specs.Sum.{update, update-other, update-same}
@@ -66,6 +66,17 @@ front-more f z i x h e = set-eight (λ k. cond (ltb k i) (f k) z) i x h ∙ eigh
 pub at-eight : (f : ℕ → ℕ → ℤ) (i j : ℕ) → i < 8 → j < 8 → at (square f) i j ≡ f i j
 unfolding at
 at-eight f i j h k = rw (getD-eight (λ i. eight (f i)) i [] h) (getD-eight (f i) j (pos 0) k)
+
+pub at-outside : (f : ℕ → ℕ → ℤ) (i j : ℕ) → (i < 8 → j < 8 → ⊥) → at (square f) i j ≡ pos 0
+unfolding at
+at-outside f i j h = by (decLt i 8) (decLt j 8)
+  where
+    by : Dec (i < 8) → Dec (j < 8) → at (square f) i j ≡ pos 0
+    by (yes a) (yes b) = absurd (h a b)
+    by (yes a) (no b) =
+        rw (getD-eight (λ i. eight (f i)) i [] a) (List·getD-eq-default (eight (f i)) (pos 0) (rw length-eight (omega (arith, b))))
+    by (no a) b =
+        rw (List·getD-eq-default (eight (λ i. eight (f i))) [] {n = i} (rw length-eight (omega (arith, a))))
 
 pub square-cong : {f g : ℕ → ℕ → ℤ} → ((i j : ℕ) → i < 8 → j < 8 → f i j ≡ g i j) → square f ≡ square g
 square-cong h = eight-cong (λ i k. eight-cong (λ j l. h i j k l))

@@ -5,7 +5,11 @@ use mathlib.Core.Bool.{Bool, true, false, _&&_}
 use mathlib.Core.List.{List}
 use lib.IntN.{ℤ, natAbs}
 use lib.Dec.{T, ltb, ltb→lt}
+use native.Mathlib.Omega.{arith}
+use mir.Syntax.{w64}
+use mir.Val.{toZ, ofZ}
 use mir.Facts.{and-yes}
+use Rattle.integer.specs.Word.{read-back}
 use Rattle.rotation.specs.Rotation.{rotationOf, signed}
 use Rattle.rotation.specs.Threshold.{from-1-to-14}
 use Rattle.rotation.specs.Turn.{at}
@@ -18,6 +22,10 @@ widest = 2 ^ 34 + 1792
 
 pub record Small (a : List (List ℤ)) : Type 0 where
   pub small : (i j : ℕ) → natAbs (at a i j) ≤ widest
+
+-- an entry is read back from its bits
+pub entry-back : (a : List (List ℤ)) → Small a → (i j : ℕ) → toZ w64 (ofZ w64 (at a i j)) ≡ at a i j
+entry-back a h i j = read-back (at a i j) (omega (arith, h .small i j))
 
 pub record Symmetric (a : List (List ℤ)) : Type 0 where
   pub mirror : (i j : ℕ) → at a i j ≡ at a j i

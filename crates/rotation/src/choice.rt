@@ -1,6 +1,6 @@
 // The thresholds and the choice of a turn.
 ghost use mathlib.Core.Path.{_≡_};
-ghost use Prim.Native.Nat.{_+_, _*_, _<_, _≤_, _^_};
+ghost use Prim.Native.Nat.{_*_, _≤_};
 ghost use lib.IntN.{natAbs};
 ghost use Rattle.rotation.specs.Threshold.{threshold};
 ghost use Rattle.rotation.specs.Choice.{choose, smallest};
@@ -38,14 +38,6 @@ pub fn threshold_of(l: u32) -> u64
     THRESHOLDS[(l - 1) as usize]
 }
 
-// |z|, of a number that has one in the same type.
-pub fn magnitude(z: i64) -> u64
-    requires { ⌜ natAbs z < 2 ^ 63 ⌝ }
-    ensures { λ m. ⌜ m ≡ natAbs z ⌝ }
-{
-    if z < 0 { (0 - z) as u64 } else { z as u64 }
-}
-
 // The smallest l from 1 to 14 that fits y and g.
 fn smallest_fit(y: u64, g: u64, minus: bool) -> Choice
     requires { ⌜ (y ≤ 2 * widest) × (g ≤ 2 * widest) ⌝ }
@@ -72,5 +64,9 @@ pub fn choose_turn(app: i64, aqq: i64, apq: i64) -> Choice
     }
     let difference = aqq - app;
     let minus = (apq < 0) == (difference < 0);
-    smallest_fit(2 * magnitude(apq), magnitude(difference), minus)
+    smallest_fit(
+        2 * signed::magnitude(apq),
+        signed::magnitude(difference),
+        minus,
+    )
 }

@@ -1,13 +1,16 @@
 -- A signed number moved away from zero by h, as `nearest` computes it, and that the quotient of that is rnd.
 use mathlib.Core.Path.{_≡_, refl, ap, sym, _∙_}
-use Prim.Native.Nat.{ℕ, zero, suc, _+_, _*_, _/_, _<_, _≤_, _^_}
+use Prim.Native.Nat.{ℕ, zero, suc, _+_, _*_, _/_, _<_, _^_}
 use native.Mathlib.Nat.{one-mul, add-suc, suc-add, div-eq-of-lt, add-zero, div-le-self}
 use native.Mathlib.Omega.{arith}
 use lib.IntN.{ℤ, pos, negsuc, negℤ, natAbs, _+ℤ_, _*ℤ_, +ℤ-idr}
-use lib.Signed.{shrZ, quotZ, mag}
+use lib.Signed.{shrZ, quotZ}
 use mir.Syntax.{w64}
 use mir.Val.{SFits, toZ, ofZ}
 use mir.Facts.{toZ-ofZ, toZ-pos, sfits-lit}
+use Rattle.integer.specs.Laws.{natAbs-negℤ}
+use Rattle.integer.specs.Word.{held}
+use Rattle.rounding.specs.Nearest.{rnd-size}
 use Rattle.rounding.specs.Rounding.{rnd, sign}
 
 -- 0 for a number that is not negative, −1 for a negative one
@@ -58,14 +61,10 @@ unfolding sign
 moved (pos u) h = ap (λ n. pos (u + n)) (one-mul h)
 moved (negsuc u) h = ap (λ n. negsuc u +ℤ negℤ (pos n)) (one-mul h) ∙ down u h
 
-mag-down : (n : ℕ) → mag (negℤ (pos n)) ≤ n
-mag-down zero = omega arith
-mag-down (suc n) = omega arith
-
 pub step-fits : (u : ℤ) (h : ℕ) → h < 2 ^ 63 → SFits w64 (sign u *ℤ pos h)
 unfolding sign
-step-fits (pos u) h f = record { sfits = rw one-mul f }
-step-fits (negsuc u) h f = record { sfits = rw one-mul (omega (arith, mag-down h)) }
+step-fits (pos u) h f = rw one-mul (held (pos h) f)
+step-fits (negsuc u) h f = rw one-mul (held (negℤ (pos h)) (rw natAbs-negℤ f))
 
 pub away-fits : (u : ℤ) (h : ℕ) → natAbs u + h < 2 ^ 63 → SFits w64 (away u h)
 away-fits (pos u) h f = record { sfits = f }
@@ -77,10 +76,7 @@ quotient (pos u) w = refl
 quotient (negsuc u) w = ap (λ n. negℤ (pos (n / w))) (sym (suc-add u (w / 2)))
 
 pub rnd-fits : (u : ℤ) (w : ℕ) → natAbs u + w / 2 < 2 ^ 63 → SFits w64 (rnd u w)
-unfolding rnd
-rnd-fits (pos u) w f = record { sfits = omega (arith, div-le-self (u + w / 2) w) }
-rnd-fits (negsuc u) w f =
-    record { sfits = omega (arith, mag-down ((suc u + w / 2) / w), div-le-self (suc u + w / 2) w) }
+rnd-fits u w f = held (rnd u w) (rw rnd-size (omega (arith, div-le-self (natAbs u + w / 2) w)))
 
 -- What `nearest` computes, of numbers as the machine reads them back from their bits
 module _ (u r : ℤ) (w : ℕ) (f : SFits w64 u) (e : r ≡ sign (toZ w64 (ofZ w64 u))) (fits : natAbs u + w / 2 < 2 ^ 63) where

@@ -18,10 +18,13 @@ pub rnd-bound : (u : ℤ) (w k : ℕ) → 0 < w → natAbs u ≤ k * w → natAb
 rnd-bound u w k h b =
     rw rnd-size (omega (arith, div-lt-iff-lt-mul {k = w} {x = natAbs u + w / 2} {y = suc k} h .1 (omega arith)))
 
+pub rnd-zero : (w : ℕ) → 0 < w → rnd (pos 0) w ≡ pos 0
+unfolding rnd
+rnd-zero w h = rw (zero-add, div-eq-of-lt {n = w / 2} {m = w} (omega arith))
+
 pub rnd-neg : (u : ℤ) (w : ℕ) → 0 < w → rnd (negℤ u) w ≡ negℤ (rnd u w)
 unfolding rnd
-rnd-neg (pos zero) w h =
-    rw (zero-add, div-eq-of-lt {n = w / 2} {m = w} (omega arith))
+rnd-neg (pos zero) w h = rnd-zero w h ∙ sym (ap negℤ (rnd-zero w h))
 rnd-neg (pos (suc u)) w h = refl
 rnd-neg (negsuc u) w h = sym (negℤ-negℤ _)
 

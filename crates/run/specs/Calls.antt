@@ -10,6 +10,7 @@ use lib.ListN.{length}
 use Rattle.ledger.specs.Accepted as given
 use Rattle.ledger.specs.Call.{Call, axis, load, loosePair, sweep}
 use Rattle.ledger.specs.Cyclic.{cyclic-length}
+use Rattle.limits.specs.Channels.{pairs-twice}
 use Rattle.limits.specs.Limits.{toleranceLimit, turnLimit}
 use Rattle.ledger.specs.Pairs.{cyclic}
 use Rattle.ledger.specs.Refusal.{refusalOf}
@@ -81,7 +82,7 @@ module _ (r : Record) (h : 1 ≤ r .n) where
 
 -- the pairs of a sweep, at most 28
 pairs-most : (n : ℕ) → n ≤ 8 → n * (n - 1) / 2 ≤ 28
-pairs-most n h = omega (arith, mul-le-mul {n₁ = n} {m₁ = n - 1} {n₂ = 8} {m₂ = 7} h (omega arith))
+pairs-most n h = omega (arith, pairs-twice n h)
 
 -- 'sweep with m + n(n−1)/2 > 448' does not come to pass in 16 sweeps
 pub turns-suffice : (n m sweeps : ℕ) → n ≤ 8 → sweeps < 16 → m ≤ sweeps * (n * (n - 1) / 2) → m + n * (n - 1) / 2 ≤ turnLimit

@@ -10,7 +10,8 @@ use Rattle.ledger.specs.Axis.{errorOf}
 use Rattle.ledger.specs.Call.{axis, load}
 use Rattle.ledger.specs.Pairs.{cyclic, row, rowsFrom}
 use Rattle.ledger.specs.Refusal.{equal, matrixOf, refusalOf, symmetric, within}
-use Rattle.record.specs.Flat.{entriesOf, flatOf, kept, rowsOf, tabulate}
+use Rattle.integer.specs.Tabulate.{tabulate}
+use Rattle.record.specs.Flat.{entriesOf, flatOf, kept, rowsOf}
 use Rattle.record.specs.Record.{acceptedOf, afterOf, answerOf, axisOf, fresh, inUse, loadedOf, looseOf, sweptOf, valueOf, workOf, workedOf}
 use Rattle.record.specs.Work.{chosen, workBy, workPair, workPairs}
 use Rattle.record.specs.declared.Answer.the-variants.{Axis}

@@ -2,12 +2,12 @@
 use mathlib.Core.Path.{_≡_, sym, ap, _∙_}
 use mathlib.Core.List.{List}
 use Prim.Native.Nat.{ℕ, _-_, _*_, _^_, _<_, _≤_}
-use native.Mathlib.Nat.{mul-le-mul}
 use native.Mathlib.Omega.{arith}
 use lib.IntN.{ℤ, pos}
 use lib.ListN.{length, getD}
+use Rattle.integer.specs.Tabulate.{tabulate, tabulate-ext, getD-repeated}
+use Rattle.limits.specs.Channels.{places}
 use Rattle.rounding.specs.Rounding.{rnd}
-use Rattle.scatter.specs.Tabulate.{tabulate, tabulate-ext}
 use Rattle.scatter.specs.declared.sums.Sums.{Sums}
 use Rattle.scatter.specs.declared.table.Table.{Table}
 use Rattle.scatter.specs.Table.{scatter, largest, shift, entries, padded, tableOf}
@@ -15,7 +15,7 @@ use Rattle.scatter.specs.Entries.{entry-at, padded-at, length-scatter, l
 use Rattle.scatter.specs.Ranges.{Bounded, Small, ZeroFrom}
 use Rattle.scatter.specs.Bounds.{padded-small}
 use Rattle.scatter.specs.Shift.{Smallest, shift-is, shift-small, largest-least}
-use Rattle.scatter.proofs.Places.{no-entry, zero-at}
+use Rattle.scatter.proofs.Places.{no-entry}
 
 rounded-all : (us : List ℤ) → tabulate 64 (λ p. rnd (getD (padded us) p (pos 0)) (2 ^ shift us)) ≡ padded (entries us)
 unfolding padded
@@ -26,10 +26,10 @@ module _ (n : ℕ) (t : Sums) (h : n ≤ 8) (b : Bounded t) {s : List ℤ} (is :
   scatter-small = rw is (padded-small t b n)
 
   pub zero-from : ZeroFrom (n * n) s
-  zero-from = record { most = mul-le-mul h h; zero = λ p l. rw is (no-entry n t p l ∙ zero-at p) }
+  zero-from = record { most = places n h; zero = λ p l. rw is (no-entry n t p l ∙ getD-repeated 64 p (pos 0)) }
 
   fits : length (scatter n t) ≤ 64
-  fits = rw length-scatter (mul-le-mul h h)
+  fits = rw length-scatter (places n h)
 
   module _ {m : ℕ} (most : m ≡ largest s) where
     pub most-small : m < 2 ^ 62

@@ -6,7 +6,7 @@ use native.Mathlib.Nat.{le-trans, mul-le-mul-right, mul-le-mul-left, mul-suc}
 use native.Mathlib.Numerals.{add-one}
 use native.Mathlib.Omega.{arith}
 use lib.ListN.{length, getD, take, drop}
-use Rattle.scatter.specs.Tabulate.{tabulate, length-tabulate, tabulate-suc}
+use Rattle.integer.specs.Tabulate.{tabulate, length-tabulate, tabulate-suc}
 use Rattle.scatter.specs.Samples.{Sample, sample, sampleAt, samples, sumsAt, sumsOf, raised, z, products}
 use Rattle.scatter.specs.declared.sums.Sums.{Sums}
 use Rattle.scatter.specs.Sums.{sumsAt-more}

@@ -2,34 +2,28 @@
 use mathlib.Core.Path.{_≡_, sym, _∙_}
 use mathlib.Core.List.{List}
 use Prim.Native.Nat.{ℕ, _+_, _*_, _/_, _%_, _^_, _<_, _≤_, min, max}
-use native.Mathlib.Nat.{one-mul, mul-le-mul, mul-le-mul-left}
+use native.Mathlib.Nat.{mul-le-mul-left}
 use native.Mathlib.Decide.{decLt}
 use native.Mathlib.Omega.{arith}
 use lib.IntN.{ℤ, pos, natAbs, _-ℤ_}
-use lib.ListN.{getD, replicate, getD-replicate, List·getD-eq-default}
-use lib.Pow.{pow-pos, pow-mono, shl-exact}
+use lib.ListN.{getD, replicate, List·getD-eq-default}
+use lib.Pow.{pow-pos, pow-mono}
 use mir.Syntax.{w64}
 use mir.Val.{toZ, ofZ}
+use Rattle.integer.specs.Word.{read-back, shifted-one}
+use Rattle.integer.specs.Tabulate.{tabulate, getD-tabulate, getD-repeated}
+use Rattle.limits.specs.Channels.{place-below, places}
 use Rattle.rounding.specs.Rounding.{rnd}
-use Rattle.rounding.specs.Nearest.{rnd-bound}
-use Rattle.scatter.specs.Tabulate.{tabulate, getD-tabulate}
+use Rattle.rounding.specs.Nearest.{rnd-bound, rnd-zero}
 use Rattle.scatter.specs.declared.sums.Sums.{Sums}
 use Rattle.scatter.specs.Table.{S, scatter, padded}
-use Rattle.scatter.specs.Entries.{padded-at, scatter-at, length-scatter, length-padded, place-below, rnd-zero}
+use Rattle.scatter.specs.Entries.{padded-at, scatter-at, length-scatter, length-padded}
 use Rattle.scatter.specs.Ranges.{Small, Bounded}
 use Rattle.scatter.specs.Bounds.{S-small}
 use Rattle.scatter.proofs.Filled.{Filled, filled-skip, filled-all}
-use Rattle.scatter.proofs.Signed.{back, element}
 
 abbrev pub zeros : List ℤ
 zeros = replicate 64 (pos 0)
-
-pub zero-at : (p : ℕ) → getD zeros p (pos 0) ≡ pos 0
-zero-at p = go (decLt p 64)
-  where
-    go : Dec (p < 64) → getD zeros p (pos 0) ≡ pos 0
-    go (yes h) = getD-replicate 64 p (pos 0) (pos 0) h
-    go (no f) = List·getD-eq-default zeros (pos 0) {n = p} (omega arith)
 
 module _ (n : ℕ) (t : Sums) where
   -- S_ij at its place
@@ -38,11 +32,11 @@ module _ (n : ℕ) (t : Sums) where
     unfolding S
     S-stored v place at e l a =
         let is : v ≡ S t i j = rw l at e in
-        rw (is, a) (back (S t i j) (omega (arith, S-small t b i j)) ∙ sym (padded-at (scatter n t) (i * n + j) (place-below n i j h g f) ∙ scatter-at n t i j g f))
+        rw (is, a) (read-back (S t i j) (omega (arith, S-small t b i j)) ∙ sym (padded-at (scatter n t) (i * n + j) (place-below n i j h g f) ∙ scatter-at n t i j g f))
 
   -- past the last row
   pub no-entry : (p : ℕ) → n * n ≤ p → getD (padded (scatter n t)) p (pos 0) ≡ getD zeros p (pos 0)
-  no-entry p h = go (decLt p 64) ∙ sym (zero-at p)
+  no-entry p h = go (decLt p 64) ∙ sym (getD-repeated 64 p (pos 0))
     where
       go : Dec (p < 64) → getD (padded (scatter n t)) p (pos 0) ≡ pos 0
       go (yes g) = padded-at (scatter n t) p g ∙ List·getD-eq-default (scatter n t) (pos 0) {n = p} (rw length-scatter h)
@@ -51,23 +45,23 @@ module _ (n : ℕ) (t : Sums) where
   pub all-rows : {s : List ℤ} (i at : ℕ) → n ≤ 8 → Filled (pos 0) (padded (scatter n t)) zeros s at → at ≡ i * n → i ≡ n → s ≡ padded (scatter n t)
   all-rows i at h f e g =
       let last : at ≡ n * n = rw g at e in
-      let low : n * n ≤ 64 = mul-le-mul h h in
+      let low : n * n ≤ 64 = places n h in
       filled-all (filled-skip f 64 (omega arith) (λ p a b. no-entry p (omega arith))) (length-padded (scatter n t)) (omega arith)
 
--- 2^e, as a shifted 1
-power : (e : ℕ) → e < 62 → (1 * 2 ^ e) % 2 ^ 64 ≡ 2 ^ e
-power e h = shl-exact 1 e 64 (omega arith) (omega arith) ∙ one-mul (2 ^ e)
+-- an element of numbers that are small, read back from its bits
+element : (us : List ℤ) → Small us → (p : ℕ) → toZ w64 (ofZ w64 (getD us p (pos 0))) ≡ getD us p (pos 0)
+element us s p = read-back (getD us p (pos 0)) (omega (arith, s .small p))
 
 module _ (s : List ℤ) (small : Small s) (e : ℕ) (h : e < 62) (p : ℕ) where
   pub nearest-asks : (0 < (1 * 2 ^ e) % 2 ^ 64) × ((1 * 2 ^ e) % 2 ^ 64 < 2 ^ 63) × (natAbs (toZ w64 (ofZ w64 (getD s p (pos 0)))) + (1 * 2 ^ e) % 2 ^ 64 / 2 < 2 ^ 63)
   nearest-asks =
       let l : 2 ^ e ≤ 2 ^ 62 = pow-mono {i = e} {j = 62} (omega arith) in
-      rw (power e h, element s small p) (pow-pos e, omega arith, omega (arith, small .small p))
+      rw (shifted-one e (omega arith), element s small p) (pow-pos e, omega arith, omega (arith, small .small p))
 
   pub rounded : (v : ℤ) → v ≡ rnd (toZ w64 (ofZ w64 (getD s p (pos 0)))) ((1 * 2 ^ e) % 2 ^ 64) → p < 64 → toZ w64 (ofZ w64 v) ≡ getD (tabulate 64 (λ p. rnd (getD s p (pos 0)) (2 ^ e))) p (pos 0)
   rounded v f g =
-      let is : v ≡ rnd (getD s p (pos 0)) (2 ^ e) = rw (element s small p, power e h) at f in
-      rw is (back (rnd (getD s p (pos 0)) (2 ^ e)) (omega (arith, size, small .small p)) ∙ sym (getD-tabulate 64 (λ p. rnd (getD s p (pos 0)) (2 ^ e)) p (pos 0) g))
+      let is : v ≡ rnd (getD s p (pos 0)) (2 ^ e) = rw (element s small p, shifted-one e (omega arith)) at f in
+      rw is (read-back (rnd (getD s p (pos 0)) (2 ^ e)) (omega (arith, size, small .small p)) ∙ sym (getD-tabulate 64 (λ p. rnd (getD s p (pos 0)) (2 ^ e)) p (pos 0) g))
     where
       grows : natAbs (getD s p (pos 0)) ≤ natAbs (getD s p (pos 0)) * 2 ^ e
       grows = omega (arith, mul-le-mul-left (natAbs (getD s p (pos 0))) (pow-pos e))
@@ -78,4 +72,4 @@ module _ (s : List ℤ) (small : Small s) (e : ℕ) (h : e < 62) (p : ℕ) where
 -- where there is a zero, one is rounded
 pub rounded-zero : (s : List ℤ) (e p : ℕ) → getD s p (pos 0) ≡ pos 0 → p < 64 → getD (tabulate 64 (λ p. rnd (getD s p (pos 0)) (2 ^ e))) p (pos 0) ≡ getD zeros p (pos 0)
 rounded-zero s e p z h =
-    getD-tabulate 64 (λ p. rnd (getD s p (pos 0)) (2 ^ e)) p (pos 0) h ∙ rw z (rnd-zero (2 ^ e) (pow-pos e)) ∙ sym (zero-at p)
+    getD-tabulate 64 (λ p. rnd (getD s p (pos 0)) (2 ^ e)) p (pos 0) h ∙ rw z (rnd-zero (2 ^ e) (pow-pos e)) ∙ sym (getD-repeated 64 p (pos 0))

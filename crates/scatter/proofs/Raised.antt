@@ -9,7 +9,7 @@ use borrow.Author.Tests.{lt-leb}
 use lib.Dec.{leb}
 use native.Mathlib.Omega.{arith}
 use lib.ListN.{length, getD, set, List·getD-eq-default}
-use Rattle.scatter.specs.Tabulate.{length-tabulate, getD-tabulate}
+use Rattle.integer.specs.Tabulate.{length-tabulate, getD-tabulate}
 use Rattle.scatter.specs.Samples.{Sample, z, raised, products}
 use Rattle.scatter.specs.Sums.{products-at}
 use Rattle.scatter.proofs.Filled.{Filled, filled-more, filled-skip, filled-all}

@@ -1,15 +1,15 @@
 -- The sizes of sums, of S and of the shift, for readings within the ranges: no number needs more than 63 bits.
-use mathlib.Core.Path.{_≡_, refl}
-use mathlib.Core.Bool.{Bool, true, false, cond}
+use mathlib.Core.Bool.{true, false, cond}
 use mathlib.Core.List.{List, [], _∷_}
 use Prim.Native.Nat.{ℕ, zero, suc, _+_, _*_, _/_, _%_, _-_, _^_, _<_, _≤_, min, max}
 use native.Mathlib.Nat.{mul-le-mul, suc-mul, le-trans, le-refl}
 use native.Mathlib.Omega.{arith}
-use lib.Dec.{leb, ltb}
-use lib.IntN.{pos, natAbs, subℕ, _-ℤ_}
+use lib.Dec.{leb}
+use lib.IntN.{pos, natAbs, _-ℤ_}
 use lib.ListN.{length, getD, take, drop, length-take}
 use lib.Seq.{getD-drop}
-use Rattle.scatter.specs.Tabulate.{tabulate, length-tabulate, tabulate-all}
+use Rattle.integer.specs.Laws.{natAbs--ℤ}
+use Rattle.integer.specs.Tabulate.{tabulate, length-tabulate, tabulate-all}
 use Rattle.scatter.specs.declared.sums.Sums.{Sums}
 use Rattle.scatter.specs.Samples.{Sample, z, sampleAt, samples, sum, products, sumsAt, sumsOf}
 use Rattle.scatter.specs.Ranges.{Readings, InRange, noSample, AllInRange, zLimit, Bounded, Small}
@@ -65,13 +65,8 @@ module _ (n : ℕ) (dilutions counts : List ℕ) (r : Readings n dilutions count
   unfolding samples
   readings-bounded = sums-bounded _ (rw length-tabulate (r .number)) (all-in-range (length dilutions))
 
-pub difference-within : (a b m : ℕ) → a ≤ m → b ≤ m → natAbs (pos a -ℤ pos b) ≤ m
-difference-within a zero m h g = omega arith
-difference-within a (suc b) m h g = go (ltb a (suc b)) refl
-  where
-    go : (t : Bool) → ltb a (suc b) ≡ t → natAbs (subℕ a (suc b)) ≤ m
-    go true e = rw e (omega arith)
-    go false e = rw e (omega arith)
+difference-within : (a b m : ℕ) → a ≤ m → b ≤ m → natAbs (pos a -ℤ pos b) ≤ m
+difference-within a b m h g = omega (arith, natAbs--ℤ a b)
 
 module _ (t : Sums) (b : Bounded t) where
   pub number-times-cross : (p : ℕ) → t .k * getD (t .cross) p 0 ≤ 256 * (256 * (zLimit * zLimit))

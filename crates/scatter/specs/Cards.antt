@@ -4,8 +4,8 @@ use mathlib.Core.List.{List, [], _∷_}
 use Prim.Native.Nat.{_^_}
 use lib.IntN.{ℤ, pos}
 use lib.ListN.{replicate}
+use Rattle.integer.specs.Tabulate.{tabulate}
 use Rattle.rounding.specs.Rounding.{rnd}
-use Rattle.scatter.specs.Tabulate.{tabulate}
 use Rattle.scatter.specs.Samples.{samples, sampleAt, sumsOf, sumsAt, sum, products, z}
 use Rattle.limits.specs.Limits.{entryLimit}
 use Rattle.scatter.specs.Table.{S, scatter, largest, smallest, shift, entries}

@@ -2,7 +2,7 @@
 use mathlib.Core.Path.{_≡_, ap, sym, _∙_}
 use mathlib.Core.List.{List}
 use Prim.Native.Nat.{ℕ, _+_, _*_, _/_, _%_, _^_, _<_, _≤_}
-use native.Mathlib.Nat.{min-comm, max-comm, mul-comm, mul-le-mul, zero-add, div-eq-of-lt}
+use native.Mathlib.Nat.{min-comm, max-comm, mul-comm}
 use native.Mathlib.Decide.{decLt}
 use native.Mathlib.Omega.{arith}
 use lib.Arith.{digits-lt, digits-div, digits-mod}
@@ -10,10 +10,11 @@ use lib.IntN.{ℤ, pos, natAbs}
 use lib.ListN.{length, getD, take, length-map, List·getD-map, List·getD-eq-default}
 use lib.Pow.{pow-pos}
 use lib.Seq.{ext-getD, length-take-le, getD-take}
+use Rattle.integer.specs.Tabulate.{length-tabulate, getD-tabulate, tabulate-all}
 use Rattle.rounding.specs.Rounding.{rnd}
-use Rattle.rounding.specs.Nearest.{rnd-bound}
-use Rattle.scatter.specs.Tabulate.{length-tabulate, getD-tabulate, tabulate-all}
+use Rattle.rounding.specs.Nearest.{rnd-bound, rnd-zero}
 use Rattle.scatter.specs.declared.sums.Sums.{Sums}
+use Rattle.limits.specs.Channels.{place-below, places}
 use Rattle.limits.specs.Limits.{entryLimit}
 use Rattle.scatter.specs.Table.{S, scatter, largest, shift, entries, padded, tableOf}
 use Rattle.scatter.specs.Shift.{shift-smallest, largest-bounds, largest-least, largest-is}
@@ -26,10 +27,6 @@ pub scatter-at : (n : ℕ) (t : Sums) (i j : ℕ) → i < n → j < n → getD (
 unfolding scatter
 scatter-at n t i j h g =
     rw (getD-tabulate (n * n) (λ p. S t (p / n) (p % n)) (i * n + j) (pos 0) (digits-lt h g), digits-div i {m = n} g, digits-mod i {m = n} g)
-
-pub rnd-zero : (w : ℕ) → 0 < w → rnd (pos 0) w ≡ pos 0
-unfolding rnd
-rnd-zero w h = rw (zero-add, div-eq-of-lt {n = w / 2} {m = w} (omega arith))
 
 pub entry-at : (us : List ℤ) (p : ℕ) → getD (entries us) p (pos 0) ≡ rnd (getD us p (pos 0)) (2 ^ shift us)
 unfolding entries
@@ -81,9 +78,6 @@ pub record Loadable (n : ℕ) (us : List ℤ) : Type 0 where
   pub within : (p : ℕ) → natAbs (getD us p (pos 0)) ≤ entryLimit
   pub symmetric : (i j : ℕ) → i < n → j < n → getD us (i * n + j) (pos 0) ≡ getD us (j * n + i) (pos 0)
 
-pub place-below : (n i j : ℕ) → n ≤ 8 → i < n → j < n → i * n + j < 64
-place-below n i j h g f = omega (arith, digits-lt {q = i} {m = n} {r = j} {c = n} g f, mul-le-mul h h)
-
 module _ (n : ℕ) (t : Sums) (h : n ≤ 8) where
   pub table-loadable : Loadable n (tableOf n t .entries)
   unfolding tableOf
@@ -96,4 +90,4 @@ module _ (n : ℕ) (t : Sums) (h : n ≤ 8) where
   -- the first n × n numbers of a table are its entries
   pub table-entries : take (n * n) (tableOf n t .entries) ≡ entries (scatter n t)
   unfolding tableOf
-  table-entries = ap (λ m. take m (padded (entries (scatter n t)))) (sym (length-entries n t)) ∙ take-padded (entries (scatter n t)) (rw length-entries (mul-le-mul h h))
+  table-entries = ap (λ m. take m (padded (entries (scatter n t)))) (sym (length-entries n t)) ∙ take-padded (entries (scatter n t)) (rw length-entries (places n h))

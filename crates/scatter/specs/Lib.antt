@@ -1,4 +1,3 @@
-pub mod Tabulate
 pub mod Samples
 pub mod Table
 pub mod Ranges

@@ -4,7 +4,7 @@ use mathlib.Core.List.{List, [], _∷_}
 use Prim.Native.Nat.{ℕ, _+_, _*_, _/_, _%_}
 use lib.Dec.{leb}
 use lib.ListN.{length, getD, take, drop}
-use Rattle.scatter.specs.Tabulate.{tabulate}
+use Rattle.integer.specs.Tabulate.{tabulate}
 use Rattle.scatter.specs.declared.sums.Sums.{Sums}
 
 -- 'A sample has a dilution and n counts'

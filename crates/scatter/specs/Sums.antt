@@ -9,7 +9,7 @@ use borrow.Author.Tests.{le-leb}
 use lib.Arith.{digits-div, digits-mod}
 use lib.IntN.{pos, _-ℤ_}
 use lib.ListN.{length, getD}
-use Rattle.scatter.specs.Tabulate.{tabulate, getD-tabulate, tabulate-ext}
+use Rattle.integer.specs.Tabulate.{tabulate, getD-tabulate, tabulate-ext}
 use Rattle.scatter.specs.Samples.{Sample, z, sum, products, sumsAt, sumsOf, raised}
 use Rattle.scatter.specs.Table.{S, scatter}
 

@@ -5,9 +5,9 @@ use Prim.Native.Nat.{ℕ, zero, suc, _+_, _*_, _/_, _%_, _^_, min, max}
 use lib.Dec.{leb}
 use lib.IntN.{ℤ, pos, _-ℤ_, natAbs}
 use lib.ListN.{getD}
+use Rattle.integer.specs.Tabulate.{tabulate}
 use Rattle.limits.specs.Limits.{entryLimit}
 use Rattle.rounding.specs.Rounding.{rnd}
-use Rattle.scatter.specs.Tabulate.{tabulate}
 use Rattle.scatter.specs.declared.sums.Sums.{Sums}
 use Rattle.scatter.specs.declared.table.Table.{Table}
 

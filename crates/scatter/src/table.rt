@@ -2,10 +2,10 @@
 use crate::sums::Sums;
 ghost use mathlib.Core.Path.{_≡_};
 ghost use Prim.Native.Nat.{_+_, _*_, _^_, _<_, _≤_, min, max};
-ghost use lib.IntN.{pos, _-ℤ_, natAbs};
+ghost use lib.IntN.{pos, _-ℤ_};
 ghost use lib.ListN.{getD};
+ghost use Rattle.integer.specs.Tabulate.{tabulate};
 ghost use Rattle.rounding.specs.Rounding.{rnd};
-ghost use Rattle.scatter.specs.Tabulate.{tabulate};
 ghost use Rattle.scatter.specs.Samples.{samples, sumsOf};
 ghost use Rattle.scatter.specs.Table.{scatter, largest, padded, tableOf};
 ghost use Rattle.scatter.specs.Ranges.{Readings, Bounded, Small, ZeroFrom};
@@ -34,14 +34,6 @@ fn difference(k: u64, c: u64, a: u64, b: u64) -> i64
     (k * c) as i64 - (a * b) as i64
 }
 
-// |u|
-pub fn size_of(u: i64) -> u64
-    requires { ⌜ natAbs u < 2 ^ 63 ⌝ }
-    ensures { λ r. ⌜ r ≡ natAbs u ⌝ }
-{
-    if u < 0 { (-u) as u64 } else { u as u64 }
-}
-
 // S_ij, row after row.
 fn scatter_of(n: usize, t: Sums) -> [i64; 64]
     requires { ⌜ (n ≤ 8) × Bounded t ⌝ }
@@ -65,13 +57,13 @@ fn scatter_of(n: usize, t: Sums) -> [i64; 64]
 
 // The greatest |S_ij|; from `size` on there are zeros.
 fn largest_of(s: &[i64; 64], size: usize) -> u64
-    requires { ⌜ Small (now s) × ZeroFrom size (now s) ⌝ }
+    requires { ⌜ ZeroFrom size (now s) ⌝ }
     ensures { λ r. ⌜ r ≡ largest (now (s .entry)) ⌝ }
 {
     let mut m = 0;
     let mut p = 0;
     while p < size {
-        let a = size_of(s[p]);
+        let a = signed::magnitude(s[p]);
         if m < a {
             m = a;
         }

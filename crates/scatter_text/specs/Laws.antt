@@ -5,13 +5,14 @@ use mathlib.Core.List.{List, [], _∷_, _++_, map}
 use native.Mathlib.Omega.{arith}
 use lib.IntN.{ℤ, pos}
 use lib.ListN.{length}
+use Rattle.integer.specs.Tabulate.{tabulate-ext}
 use Rattle.job.specs.Job.{Job}
 use Rattle.job.specs.declared.Job as arrays
 use Rattle.job_table.specs.Held.{Held, jobIn, sumsFor, tableFor}
 use Rattle.job_table.specs.Laws.{channels-held, samples-held}
-use Rattle.scatter.specs.Entries.{padded-at, place-below, scatter-at}
+use Rattle.limits.specs.Channels.{place-below}
+use Rattle.scatter.specs.Entries.{padded-at, scatter-at}
 use Rattle.scatter.specs.Table.{scatter, tableOf}
-use Rattle.scatter.specs.Tabulate.{tabulate-ext}
 use Rattle.scatter.specs.declared.table.Table.{Table}
 use Rattle.text.specs.Line.{numberLine}
 use Rattle.text.specs.Lines.{lines-same}

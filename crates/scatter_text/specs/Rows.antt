@@ -6,7 +6,7 @@ use native.Mathlib.Numerals.{add-one}
 use native.Mathlib.Omega.{arith}
 use lib.IntN.{ℤ, pos}
 use lib.ListN.{take, getD, length-append}
-use Rattle.scatter.specs.Tabulate.{tabulate, getD-tabulate, length-tabulate}
+use Rattle.integer.specs.Tabulate.{tabulate, getD-tabulate, length-tabulate}
 use Rattle.text.specs.Rows.{Wide, rowLine}
 use Rattle.scatter_text.specs.Table.{lineS}
 

@@ -3,10 +3,10 @@ use Prim.Native.Nat.{ℕ, _+_}
 use mathlib.Core.List.{List, [], _∷_, _++_, map}
 use lib.IntN.{ℤ, pos}
 use lib.ListN.{length}
+use Rattle.integer.specs.Tabulate.{tabulate}
 use Rattle.job.specs.Job.{Job}
 use Rattle.job_table.specs.Held.{sumsFor}
 use Rattle.scatter.specs.Table.{S, scatter, shift}
-use Rattle.scatter.specs.Tabulate.{tabulate}
 use Rattle.text.specs.Line.{numberLine}
 use Rattle.text.specs.Lines.{lines}
 

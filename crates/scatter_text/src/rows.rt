@@ -4,7 +4,7 @@ ghost use mathlib.Core.List.{_∷_, _++_, []};
 ghost use Prim.Native.Nat.{_+_, _≤_, _<_};
 ghost use lib.IntN.{pos};
 ghost use lib.ListN.{getD};
-ghost use Rattle.scatter.specs.Tabulate.{tabulate};
+ghost use Rattle.integer.specs.Tabulate.{tabulate};
 ghost use Rattle.scatter_text.specs.Rows.{rowOf, rowsOf};
 
 // A number, eight numbers from a place on, and two that no line has.

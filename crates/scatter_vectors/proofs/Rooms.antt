@@ -1,28 +1,18 @@
--- Lists of readings within their ranges, as zeros, after a write and cut to a length; and the size of a table's entries.
+-- Lists of readings within their ranges, as zeros, after a write and cut to a length.
 use mathlib.Core.Path.{_≡_, _∙_}
 use mathlib.Core.List.{List}
-use Prim.Native.Nat.{ℕ, zero, suc, _*_, _≤_, _<_}
+use Prim.Native.Nat.{ℕ, _*_, _≤_, _<_}
 use native.Mathlib.Decide.{ℕ-discrete}
 use native.Mathlib.Omega.{arith}
 use lib.ListN.{getD, set, take, replicate, length-replicate, length-set}
 use lib.Seq.{length-take-le, getD-set-same, getD-set-other}
-use Rattle.scatter.specs.declared.sums.Sums.{Sums}
-use Rattle.scatter.specs.declared.table.Table.{Table}
-use Rattle.limits.specs.Limits.{entryLimit}
-use Rattle.scatter.specs.Table.{tableOf}
-use Rattle.scatter.specs.Entries.{table-loadable}
-use Rattle.scatter_vectors.specs.Limit.{Printable}
+use Rattle.integer.specs.Tabulate.{getD-repeated}
 use Rattle.scatter.specs.Ranges.{Room, Readings}
 use Rattle.scatter.specs.Bounds.{take-bound}
 
 module _ {m b : ℕ} where
   pub room-zeros : Room m b (replicate m 0)
-  room-zeros = record { size = length-replicate m 0; most = below m }
-    where
-      below : (m p : ℕ) → getD (replicate m 0) p 0 ≤ b
-      below zero p = omega arith
-      below (suc m) zero = omega arith
-      below (suc m) (suc p) = below m p
+  room-zeros = record { size = length-replicate m 0; most = λ p. rw getD-repeated (omega arith) }
 
   pub room-set : {xs : List ℕ} → Room m b xs → (p v : ℕ) → p < m → v ≤ b → Room m b (set xs p v)
   room-set {xs} r p v h l = record { size = length-set xs p v ∙ r .size; most = λ q. most q (ℕ-discrete q p) }
@@ -40,6 +30,3 @@ readings n k {dilutions} {counts} r q h g f e =
       dilution = take-bound 100 k dilutions (r .most);
       count = take-bound 65_535 (n * k) counts (q .most);
     }
-
-pub printable : (n : ℕ) (t : Sums) (r : Table) → n ≤ 8 → r ≡ tableOf n t → Printable (r .entries)
-printable n t r h e p = rw e (omega (arith, table-loadable n t h .within p))

@@ -15,10 +15,9 @@
 // draw(a) = ((a × 69069 + 1) mod 2^31 × 1103515245 + 12345) mod 2^31 div 2^15.
 use libc::STDOUT_FILENO;
 use scatter::table::Table;
-ghost use Prim.Native.Nat.{_*_, _^_, _<_, _≤_};
-ghost use lib.IntN.{natAbs};
+ghost use Prim.Native.Nat.{_^_, _<_, _≤_};
 ghost use Rattle.scatter.specs.Ranges.{Room};
-ghost use Rattle.scatter_vectors.specs.Limit.{limitOf, Printable};
+ghost use Rattle.scatter_vectors.specs.Limit.{limitOf};
 
 fn draw(a: u64) -> u64
     requires { ⌜ a < 2 ^ 32 ⌝ }
@@ -113,7 +112,6 @@ fn channels_of(c: u64) -> usize
 
 fn table_at(c: u64) -> Table
     requires { ⌜ c < 210 ⌝ }
-    ensures { λ r. ⌜ Printable (r .entries) ⌝ }
 {
     let n = channels_of(c);
     let k = samples_of(c);
@@ -123,19 +121,17 @@ fn table_at(c: u64) -> Table
     scatter::table::table_of_readings(n, &dilutions[..k], &counts[..held])
 }
 
-fn print_entry(u: i64)
-    requires { ⌜ natAbs u < 2 ^ 63 ⌝ }
-{
+fn print_entry(u: i64) {
     if u < 0 {
         io::write_all(STDOUT_FILENO, b"\t-");
     } else {
         io::write_all(STDOUT_FILENO, b"\t");
     }
-    io::print_decimal(STDOUT_FILENO, scatter::table::size_of(u));
+    io::print_decimal(STDOUT_FILENO, signed::magnitude(u));
 }
 
 fn print_entries(entries: &[i64; 64], count: usize)
-    requires { ⌜ (count ≤ 64) × Printable (now entries) ⌝ }
+    requires { ⌜ count ≤ 64 ⌝ }
 {
     let mut p = 0;
     while p < count {

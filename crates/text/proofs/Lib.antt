@@ -1,2 +1,2 @@
 mod Writers
-mod Negative
+mod Sign

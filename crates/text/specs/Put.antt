@@ -3,7 +3,7 @@
 use Prim.Native.Nat.{ℕ, _+_, _-_, _<_, _≤_}
 use mathlib.Core.Path.{_≡_, sym, _∙_}
 use mathlib.Core.List.{List, [], _++_, append-assoc, append-nil}
-use native.Mathlib.Nat.{zero-add, add-assoc, add-zero}
+use native.Mathlib.Nat.{zero-add, add-assoc, add-zero, le-refl}
 use native.Mathlib.Numerals.{add-one}
 use native.Mathlib.Omega.{arith}
 use lib.ListN.{length, take, drop, set, getD, length-append, length-drop, take-append-drop, drop-of-length-le}
@@ -22,6 +22,10 @@ pub record Put {X : Type 0} (text : List X) (at : ℕ) (entry exit : List X) (r 
 
 pub put-nothing : {X : Type 0} (at : ℕ) (entry : List X) → at ≤ length entry → Put [] at entry entry at
 put-nothing at entry h = record { bytes = sym (take-append-drop at entry); answer = sym (add-zero at); within = h }
+
+-- All that follows the first k.
+pub rest-all : {X : Type 0} (k : ℕ) (f : List X) → take (length f - k) (drop k f) ≡ drop k f
+rest-all k f = take-all (length f - k) (drop k f) (rw length-drop (le-refl _))
 
 module _ {X : Type 0} {t e x : List X} {a r : ℕ} (p : Put t a e x r) where
   front : length (take a e ++ t) ≡ r
@@ -48,11 +52,8 @@ module _ {X : Type 0} {t e x : List X} {a r : ℕ} (p : Put t a e x r) where
     within = rw same-size at (q .within);
   }
 
-  part : take (length x - r) (drop r x) ≡ drop r x
-  part = take-all (length x - r) (drop r x) (rw length-drop (omega arith))
-
   pub part-size : r + length (take (length x - r) (drop r x)) ≡ length e
-  part-size = rw (part, length-drop) (let w = p .within in omega (arith, same-size))
+  part-size = rw (rest-all r x, length-drop) (let w = p .within in omega (arith, same-size))
 
   past : drop (length x - r) (drop r x) ≡ []
   past = drop-of-length-le (drop r x) {i = length x - r} (rw length-drop (omega arith))
@@ -61,7 +62,7 @@ module _ {X : Type 0} {t e x : List X} {a r : ℕ} (p : Put t a e x r) where
   pub put-part : {u y : List X} {s : ℕ} → Put u 0 (take (length x - r) (drop r x)) y s
       → Put (t ++ u) a e (take r x ++ (y ++ drop (length x - r) (drop r x))) (r + s)
   put-part {u} {y} {s} q = put-then (record {
-    bytes = rw (past, append-nil, q .bytes, part);
+    bytes = rw (past, append-nil, q .bytes, rest-all r x);
     answer = rw (q .answer, zero-add);
     within = omega (arith, q .within, part-size, same-size);
   })

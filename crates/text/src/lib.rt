@@ -1,11 +1,9 @@
 // Writers of text into a lent buffer: bytes, decimal numbers, and lines of tab-parted fields.
 pub mod rows;
 
-ghost use mathlib.Core.Path.{_≡_};
 ghost use mathlib.Core.List.{_∷_, []};
 ghost use Prim.Native.Nat.{_+_, _*_, _≤_, _<_, _^_};
 ghost use lib.ListN.{length, take};
-ghost use lib.IntN.{natAbs};
 ghost use Rattle.text.specs.Decimal.{digits, number};
 ghost use Rattle.text.specs.Line.{numbers, numberLine, wordLine, lineX};
 ghost use Rattle.text.specs.Put.{Put, Sized};
@@ -29,22 +27,11 @@ pub fn natural_length(x: u64) -> usize
     n
 }
 
-// |z|. The negation is of z + 1, since that of the least number does not fit.
-fn magnitude(z: i64) -> u64
-    ensures { λ r. ⌜ r ≡ natAbs z ⌝ }
-{
-    if z < 0 {
-        (-(z + 1)) as u64 + 1
-    } else {
-        z as u64
-    }
-}
-
 // How many bytes z's text has, its minus counted.
 pub fn number_length(z: i64) -> usize
     ensures { λ r. ⌜ Sized (number z) 20 r ⌝ }
 {
-    let n = natural_length(magnitude(z));
+    let n = natural_length(signed::magnitude(z));
     if z < 0 { 1 + n } else { n }
 }
 
@@ -86,7 +73,7 @@ pub fn put_number(buf: &mut [u8], at: usize, z: i64) -> usize
     requires { ⌜ at + length (number z) ≤ length (now buf) ⌝ }
     ensures { λ r. ⌜ Put (number z) at (now (buf .entry)) (now (buf .exit)) r ⌝ }
 {
-    let size = magnitude(z);
+    let size = signed::magnitude(z);
     if z < 0 {
         let first = put_byte(buf, at, MINUS);
         put_natural(buf, first, size)

@@ -1,2 +1,1 @@
 mod Gathered
-mod Negative

@@ -1,19 +1,17 @@
 -- The test values lie in the ranges that choice and turn take: values up to their most, matrices small and symmetric.
 use mathlib.Core.Path.{_≡_, refl, sym, ap, _∙_}
 use mathlib.Core.Bool.{Bool, true, false, cond}
-use mathlib.Core.List.{List, []}
 use Prim.Native.Nat.{ℕ, _+_, _-_, _*_, _/_, _%_, _<_, _≤_, _^_}
 use native.Mathlib.Nat.{mod-lt, add-right-comm}
 use native.Mathlib.Decide.{decLt}
 use native.Mathlib.Omega.{arith}
 use lib.Dec.{eqb, ltb, ltb→lt}
 use lib.IntN.{ℤ, pos, natAbs}
-use lib.ListN.{length, getD, List·getD-eq-default}
 use Rattle.integer.specs.Laws.{natAbs-negℤ}
 use Rattle.rotation.specs.Rotation.{signed}
 use Rattle.rotation.specs.Threshold.{threshold, roundedUp, u, w, from-1-to-14}
-use Rattle.rotation.specs.Turn.{at, eight}
-use Rattle.rotation.specs.Eight.{at-eight, getD-eight, length-eight}
+use Rattle.rotation.specs.Turn.{at, square}
+use Rattle.rotation.specs.Eight.{at-eight, at-outside}
 use Rattle.rotation.specs.Size.{Small, Symmetric, widest}
 use Rattle.turns.specs.Generator.{sizeFrom, valueOf, offset, rowOf, matrixOf, axesOf}
 
@@ -44,52 +42,36 @@ pub threshold-positive : (l : ℕ) → 1 ≤ l → l ≤ 14 → 0 < threshold l
 unfolding threshold roundedUp u w
 threshold-positive l h k = ltb→lt _ _ (from-1-to-14 (λ m. ltb 0 (threshold m)) tt l h k)
 
--- an 8 by 8 array of given entries has 0 outside
+-- an 8 by 8 array of given entries
 module _ (f : ℕ → ℕ → ℤ) where
-  whole : List (List ℤ)
-  whole = eight (λ i. eight (f i))
-
-  outside : (i j : ℕ) → (i < 8 → j < 8 → ⊥) → at whole i j ≡ pos 0
-  unfolding at whole
-  outside i j h = cases (decLt i 8) (decLt j 8)
-    where
-      cases : Dec (i < 8) → Dec (j < 8) → at whole i j ≡ pos 0
-      cases (yes a) (yes b) = absurd (h a b)
-      cases (yes a) (no b) =
-          rw (getD-eight (λ i. eight (f i)) i [] a) (List·getD-eq-default (eight (f i)) (pos 0) (rw length-eight (omega (arith, b))))
-      cases (no a) b =
-          rw (List·getD-eq-default (eight (λ i. eight (f i))) [] {n = i} (rw length-eight (omega (arith, a))))
-
-  inside : (n : ℕ) → ((i j : ℕ) → natAbs (f i j) ≤ n) → (i j : ℕ) → natAbs (at whole i j) ≤ n
-  unfolding whole
+  inside : (n : ℕ) → ((i j : ℕ) → natAbs (f i j) ≤ n) → (i j : ℕ) → natAbs (at (square f) i j) ≤ n
   inside n h i j = cases (decLt i 8) (decLt j 8)
     where
-      cases : Dec (i < 8) → Dec (j < 8) → natAbs (at whole i j) ≤ n
+      cases : Dec (i < 8) → Dec (j < 8) → natAbs (at (square f) i j) ≤ n
       cases (yes a) (yes b) = rw (at-eight f i j a b) (h i j)
-      cases (yes a) (no b) = rw (outside i j (λ c d. b d)) (omega arith)
-      cases (no a) b = rw (outside i j (λ c d. a c)) (omega arith)
+      cases (yes a) (no b) = rw (at-outside f i j (λ c d. b d)) (omega arith)
+      cases (no a) b = rw (at-outside f i j (λ c d. a c)) (omega arith)
 
-  mirrored : ((i j : ℕ) → f i j ≡ f j i) → (i j : ℕ) → at whole i j ≡ at whole j i
-  unfolding whole
+  mirrored : ((i j : ℕ) → f i j ≡ f j i) → (i j : ℕ) → at (square f) i j ≡ at (square f) j i
   mirrored h i j = cases (decLt i 8) (decLt j 8)
     where
-      cases : Dec (i < 8) → Dec (j < 8) → at whole i j ≡ at whole j i
+      cases : Dec (i < 8) → Dec (j < 8) → at (square f) i j ≡ at (square f) j i
       cases (yes a) (yes b) = at-eight f i j a b ∙ h i j ∙ sym (at-eight f j i b a)
-      cases (yes a) (no b) = outside i j (λ c d. b d) ∙ sym (outside j i (λ c d. b c))
-      cases (no a) b = outside i j (λ c d. a c) ∙ sym (outside j i (λ c d. a d))
+      cases (yes a) (no b) = at-outside f i j (λ c d. b d) ∙ sym (at-outside f j i (λ c d. b c))
+      cases (no a) b = at-outside f i j (λ c d. a c) ∙ sym (at-outside f j i (λ c d. a d))
 
 pub matrixOf-small : (base : ℕ) → Small (matrixOf base)
-unfolding matrixOf rowOf whole
+unfolding matrixOf rowOf
 matrixOf-small base =
     record { small = inside (λ i j. valueOf (base + offset i + offset j) widest) widest (λ i j. valueOf-most _ widest (omega arith)) }
 
 pub matrixOf-symmetric : (base : ℕ) → Symmetric (matrixOf base)
-unfolding matrixOf rowOf whole
+unfolding matrixOf rowOf
 matrixOf-symmetric base =
     record { mirror = mirrored (λ i j. valueOf (base + offset i + offset j) widest) (λ i j. ap (λ k. valueOf k widest) (add-right-comm base (offset i) (offset j))) }
 
 pub axesOf-small : (base : ℕ) → Small (axesOf base)
-unfolding axesOf rowOf whole
+unfolding axesOf rowOf
 axesOf-small base =
     record {
       small = λ i j. omega (

@@ -1,14 +1,4 @@
 // Lines of text: a letter, then numbers, each after a tab.
-use rotation::choice;
-
-// The size of a number, also of the smallest.
-fn size_of(x: i64) -> u64 {
-    if x < 0 {
-        choice::magnitude(x + 1) + 1
-    } else {
-        x as u64
-    }
-}
 
 pub fn number(x: i64) {
     if x < 0 {
@@ -16,7 +6,7 @@ pub fn number(x: i64) {
     } else {
         io::write_all(1, b"\t");
     }
-    io::print_decimal(1, size_of(x));
+    io::print_decimal(1, signed::magnitude(x));
 }
 
 pub fn natural(x: u64) {
@@ -41,7 +31,7 @@ pub fn array(a: &[[i64; 8]; 8]) {
 }
 
 fn folded(sum: u64, x: i64) -> u64 {
-    let next = (sum % 2147483647 * 48271 + size_of(x) % 2147483647) % 2147483647;
+    let next = (sum % 2147483647 * 48271 + signed::magnitude(x) % 2147483647) % 2147483647;
     if x < 0 { 2147483647 - next } else { next }
 }
 

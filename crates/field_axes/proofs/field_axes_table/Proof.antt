@@ -7,7 +7,8 @@ use mir.Syntax.{w64}
 use mir.Val.{SFits}
 use mir.Facts.{toZ-ofZ, toZ-pos}
 use borrow.Author.Needs.{needs}
-use Rattle.field_axes.specs.Readable.{length-table, readable, square-small}
+use Rattle.limits.specs.Channels.{places}
+use Rattle.field_axes.specs.Readable.{length-table, readable}
 use Rattle.field_axes.specs.Table.{tableNumbersOf, tableRefusal}
 use Rattle.field_axes.proofs.Answered.{refused-answer, refused-buffer, written-answer, written-buffer}
 use Rattle.field_axes.proofs.field_axes_table.Statement.{statement}
@@ -32,7 +33,7 @@ small : (c : tie.After-put-table) → c .put-table .result ≤ 129
 small c =
     let a = c .before .before .before .before .before .before .args in
     let h = readable (a .n) (a .dilutions .now) (a .counts .now) _ (taken c) .readings .channels in
-    omega (arith, c .put-table .ensures .answer, length-table (a .n) (a .dilutions .now) (a .counts .now) h, square-small (a .n) h)
+    omega (arith, c .put-table .ensures .answer, length-table (a .n) (a .dilutions .now) (a .counts .now) h, places (a .n) h)
 
 returns-2 : tie.Need-returns-2
 returns-2 c =

@@ -1,19 +1,19 @@
 -- `scatter_vectors::print_table` is safe: there are at most 64 entries.
-use native.Mathlib.Nat.{mul-le-mul}
 use native.Mathlib.Omega.{arith}
 use borrow.Author.Needs.{needs}
+use Rattle.limits.specs.Channels.{places}
 use Rattle.scatter_vectors.proofs.print_table.Statement.{statement}
 use Rattle.scatter_vectors.proofs.print_table.Tie as tie
 
 mul-print-entries : tie.Need-mul-print-entries
 mul-print-entries c =
     let n = c .before .before .before .before .before .before .before .before .before .before .before .before .channels-of in
-    record { fits = omega (arith, mul-le-mul (n .ensures .1) (n .ensures .1)) }
+    record { fits = omega (arith, places _ (n .ensures .1)) }
 
 print-entries-requires : tie.Need-print-entries-requires
 print-entries-requires c κs =
     let n = c .before .before .before .before .before .before .before .before .before .before .before .before .channels-of in
-    (mul-le-mul (n .ensures .1) (n .ensures .1), c .before .before .before .before .before .before .before .before .before .before .before .table-at .ensures)
+    places _ (n .ensures .1)
 
 pub print-table-spec : {M : Type 1} → statement M
 print-table-spec =

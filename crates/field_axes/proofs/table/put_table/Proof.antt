@@ -6,8 +6,9 @@ use lib.ListN.{length, take}
 use mir.Syntax.{w64}
 use mir.Facts.{toZ-pos}
 use borrow.Author.Needs.{needs}
+use Rattle.limits.specs.Channels.{places}
 use Rattle.text.specs.Put.{put-then, same-size}
-use Rattle.field_axes.specs.Readable.{entries-used, length-entries, length-scatter, scatter-used, square-small}
+use Rattle.field_axes.specs.Readable.{entries-used, length-entries, length-scatter, scatter-used}
 use Rattle.field_axes.specs.Table.{tableNumbers, tableNumbersOf}
 use Rattle.field_axes.proofs.table.put_table.Statement.{statement}
 use Rattle.field_axes.proofs.table.put_table.Tie as tie
@@ -21,10 +22,10 @@ module _ (c : tie.After-table-of-readings) where
   entries = rw (c .table-of-readings .ensures) (entries-used _ _ (c .before .before .before .pre .readings .channels))
 
   sums-within : (let n = c .before .before .before .args .n in n * n ≤ length (c .table-of-readings .result .scatter))
-  sums-within = rw (c .table-of-readings .ensures, length-scatter) (square-small _ (c .before .before .before .pre .readings .channels))
+  sums-within = rw (c .table-of-readings .ensures, length-scatter) (places _ (c .before .before .before .pre .readings .channels))
 
   entries-within : (let n = c .before .before .before .args .n in n * n ≤ length (c .table-of-readings .result .entries))
-  entries-within = rw (c .table-of-readings .ensures, length-entries) (square-small _ (c .before .before .before .pre .readings .channels))
+  entries-within = rw (c .table-of-readings .ensures, length-entries) (places _ (c .before .before .before .pre .readings .channels))
 
 put-requires-2 : tie.Need-put-requires-2
 put-requires-2 c κs =

@@ -5,7 +5,7 @@ use mathlib.Core.Bool.{true}
 use native.Mathlib.Omega.{arith}
 use borrow.Author.Needs.{needs}
 use borrow.Author.Tests.{not-false, not-true}
-use Rattle.field_axes.specs.Readable.{square-small}
+use Rattle.limits.specs.Channels.{places}
 use Rattle.text.specs.Range.{allWithin}
 use Rattle.field_axes.specs.Table.{valuesWithin}
 use Rattle.field_axes.proofs.TableRefusals.{buffer-short, count-off, dilution-off, few-samples, left-over, many-samples, n-high, n-low, none-refused, other-number, values-good}
@@ -56,7 +56,7 @@ returns-8 c =
 
 -- the numbers of a table are few
 few : (c : tie.Else8) → (let n = c .before .before .before .before .before .before .before .before .before .before .before .before .args .n in n * n ≤ 64)
-few c = square-small _ (c .before .before .before .before .before .before .before .before .if2 .left)
+few c = places _ (c .before .before .before .before .before .before .before .before .if2 .left)
 
 returns-9 : tie.Need-returns-9
 returns-9 c =

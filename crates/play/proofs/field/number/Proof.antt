@@ -4,7 +4,8 @@ use mir.Syntax.{w64}
 use mir.Val.{SFits}
 use mir.Facts.{toZ-ofZ}
 use borrow.Author.Needs.{needs}
-use Rattle.play.proofs.Digits.{reads-below, rest-all, signed-empty, minus-none, minus-zero, minus-some, plain-none, plain-some}
+use Rattle.text.specs.Put.{rest-all}
+use Rattle.play.proofs.Digits.{reads-below, signed-empty, minus-none, minus-zero, minus-some, plain-none, plain-some}
 use Rattle.play.proofs.field.number.Statement.{statement}
 use Rattle.play.proofs.field.number.Tie as tie
 

@@ -5,7 +5,8 @@ use mir.Syntax.{w64}
 use mir.Val.{SFits}
 use mir.Facts.{toZ-ofZ}
 use borrow.Author.Needs.{needs}
-use Rattle.play.proofs.Playing.{negative-no, whole-is, whole-fits}
+use Rattle.integer.specs.Word.{unsigned}
+use Rattle.play.proofs.Playing.{negative-no, whole-is}
 use Rattle.play.proofs.played.natural_at.Statement.{statement}
 use Rattle.play.proofs.played.natural_at.Tie as tie
 
@@ -19,7 +20,7 @@ cast : tie.Need-cast-t8
 cast c =
     let s = c .before .before in
     let f : SFits w64 (getD (s .args .numbers .now) (s .args .i) (pos 0)) = search needs in
-    rw (toZ-ofZ f) (whole-fits _ (rw (toZ-ofZ f) at (c .if1 .left)) f)
+    unsigned _ f (c .if1 .left)
 
 returns-2 : tie.Need-returns-2
 returns-2 c =

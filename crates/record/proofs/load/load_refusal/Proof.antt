@@ -6,7 +6,8 @@ use lib.ListN.{length}
 use borrow.Author.Needs.{needs}
 use borrow.Author.Tests.{le-leb, lt-leb, ne-eqb, not-true, not-false}
 use Rattle.ledger.specs.Refusal.{refusalOf}
-use Rattle.record.proofs.Checks.{places, sized}
+use Rattle.limits.specs.Channels.{places}
+use Rattle.record.proofs.Checks.{sized}
 use Rattle.record.proofs.load.load_refusal.Statement.{statement}
 use Rattle.record.proofs.load.load_refusal.Tie as tie
 

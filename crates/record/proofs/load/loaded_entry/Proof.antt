@@ -2,6 +2,7 @@
 use mathlib.Core.Path.{_≡_}
 use Prim.Native.Nat.{_+_, _*_, _<_, _≤_}
 use native.Mathlib.Omega.{arith}
+use lib.Arith.{digits-lt}
 use lib.IntN.{ℤ, pos, _*ℤ_}
 use lib.ListN.{getD}
 use mir.Syntax.{w64}
@@ -11,9 +12,9 @@ use borrow.Author.Needs.{needs}
 use Rattle.integer.specs.Laws.{natAbs-*ℤ}
 use Rattle.integer.specs.Word.{held}
 use Rattle.ledger.specs.Accepted.{within-small}
+use Rattle.limits.specs.Channels.{places}
 use Rattle.limits.specs.Limits.{units}
 use Rattle.ledger.specs.Refusal.{matrixOf}
-use Rattle.record.proofs.Checks.{place-below, places}
 use Rattle.record.proofs.load.loaded_entry.Statement.{statement}
 use Rattle.record.proofs.load.loaded_entry.Tie as tie
 
@@ -23,7 +24,7 @@ module _ (s : tie.Start) where
   few = places _ (s .pre .2)
 
   below : s .args .i * s .args .n + s .args .j < s .args .n * s .args .n
-  below = place-below _ _ _ (s .pre .0) (s .pre .1)
+  below = digits-lt (s .pre .0) (s .pre .1)
 
 -- the number there, and it in units
 module _ (c : tie.After-result) where

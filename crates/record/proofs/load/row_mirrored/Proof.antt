@@ -3,14 +3,17 @@ use mathlib.Core.Path.{_≡_, refl, sym, ap}
 use mathlib.Core.Bool.{true}
 use Prim.Native.Nat.{_+_, _-_, _*_, _<_, _≤_}
 use native.Mathlib.Omega.{arith}
+use lib.Arith.{digits-lt}
 use lib.IntN.{pos}
 use lib.ListN.{getD}
 use mir.Syntax.{w64}
 use mir.Val.{SFits, ofZ}
 use borrow.Author.Needs.{needs}
 use Rattle.integer.specs.Range.{all}
+use Rattle.integer.specs.Word.{same-bits}
 use Rattle.ledger.specs.Refusal.{matrixOf}
-use Rattle.record.proofs.Checks.{all-more, all-fails, equal-yes, equal-no, mirrored, same-bits, place-below, places}
+use Rattle.limits.specs.Channels.{places}
+use Rattle.record.proofs.Checks.{all-more, all-fails, equal-yes, equal-no, mirrored}
 use Rattle.record.proofs.load.row_mirrored.Statement.{statement}
 use Rattle.record.proofs.load.row_mirrored.Tie as tie
 
@@ -26,10 +29,10 @@ module _ (c : tie.In-loop Inv-loop μ-loop) where
   few = places _ (omega arith)
 
   entry : c .before .before .args .i * c .before .before .args .n + c .before .loop .j < c .before .before .args .n * c .before .before .args .n
-  entry = place-below _ _ _ (omega arith) (omega arith)
+  entry = digits-lt (omega arith) (omega arith)
 
   mirror : c .before .loop .j * c .before .before .args .n + c .before .before .args .i < c .before .before .args .n * c .before .before .args .n
-  mirror = place-below _ _ _ (omega arith) (omega arith)
+  mirror = digits-lt (omega arith) (omega arith)
 
 returns : tie.Need-returns Inv-loop μ-loop
 unfolding matrixOf

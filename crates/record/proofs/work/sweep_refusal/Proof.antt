@@ -1,25 +1,21 @@
 -- `record::work::sweep_refusal` meets its contract.
-use Prim.Native.Nat.{ℕ, _*_, _-_, _≤_}
-use native.Mathlib.Nat.{mul-le-mul}
 use native.Mathlib.Omega.{arith}
 use borrow.Author.Needs.{needs}
 use borrow.Author.Tests.{le-leb, le-ltb, lt-leb, lt-ltb}
 use Rattle.ledger.specs.Refusal.{refusalOf}
+use Rattle.limits.specs.Channels.{pairs-twice}
 use Rattle.record.proofs.work.sweep_refusal.Statement.{statement}
 use Rattle.record.proofs.work.sweep_refusal.Tie as tie
-
-pairs-few : (n : ℕ) → n ≤ 8 → n * (n - 1) ≤ 8 * 7
-pairs-few n h = let k : n - 1 ≤ 7 = omega arith in mul-le-mul h k
 
 returns : tie.Need-returns
 unfolding refusalOf
 returns c = rw (le-ltb 0 (c .before .args .n) (omega arith))
 
 mul-if2 : tie.Need-mul-if2
-mul-if2 c = record { fits = omega (arith, pairs-few (c .before .args .n) (c .before .pre .0)) }
+mul-if2 c = record { fits = omega (arith, pairs-twice (c .before .args .n) (c .before .pre .0)) }
 
 add-if2 : tie.Need-add-if2
-add-if2 c = record { fits = omega (arith, pairs-few (c .before .args .n) (c .before .pre .0)) }
+add-if2 c = record { fits = omega (arith, pairs-twice (c .before .args .n) (c .before .pre .0)) }
 
 returns-2 : tie.Need-returns-2
 unfolding refusalOf

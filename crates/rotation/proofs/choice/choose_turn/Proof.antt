@@ -1,11 +1,11 @@
 -- `rotation::choice::choose_turn` meets its contract.
-use mathlib.Core.Path.{_≡_, sym, ap, _∙_}
+use mathlib.Core.Path.{ap}
 use native.Mathlib.Omega.{arith}
-use lib.IntN.{pos, natAbs}
+use borrow.Author.Needs.{needs}
 use mir.Syntax.{w64}
 use mir.Val.{ofZ}
 use mir.Facts.{toZ-ofZ}
-use Rattle.integer.specs.Word.{held, zero-bits}
+use Rattle.integer.specs.Word.{zero-bits}
 use Rattle.rotation.proofs.Chosen.{difference, difference-back, difference-held, difference-size, none, some}
 use Rattle.rotation.proofs.choice.choose_turn.Statement.{statement}
 use Rattle.rotation.proofs.choice.choose_turn.Tie as tie
@@ -20,18 +20,9 @@ sub-difference c =
     rw (difference _ _ (s .fits .app) (s .fits .aqq) (s .pre .0) (s .pre .1))
     (difference-held _ _ (s .fits .app) (s .fits .aqq) (s .pre .0) (s .pre .1))
 
-magnitude-requires : tie.Need-magnitude-requires
-magnitude-requires c κs = rw (toZ-ofZ (c .before .fits .apq)) (omega arith)
-
 mul-smallest-fit : tie.Need-mul-smallest-fit
 mul-smallest-fit c =
     record { fits = omega (arith, rw (toZ-ofZ (c .before .before .fits .apq)) at (c .magnitude .ensures)) }
-
-magnitude-requires-2 : tie.Need-magnitude-requires-2
-magnitude-requires-2 c κs =
-    let s = c .before .before in
-    rw (difference-back _ _ (s .fits .app) (s .fits .aqq) (s .pre .0) (s .pre .1))
-    (omega (arith, difference-size _ _ (s .fits .app) (s .fits .aqq) (s .pre .0) (s .pre .1)))
 
 smallest-fit-requires : tie.Need-smallest-fit-requires
 smallest-fit-requires c κs =
@@ -63,8 +54,8 @@ choose-turn-spec =
     (tie.spec
     returns
     sub-difference
-    magnitude-requires
+    (λ c κs. search needs)
     mul-smallest-fit
-    magnitude-requires-2
+    (λ c κs. search needs)
     smallest-fit-requires
     returns-2)

@@ -5,7 +5,7 @@ use native.Mathlib.Nat.{mul-zero}
 use native.Mathlib.Omega.{arith}
 use borrow.Author.Needs.{needs}
 use lib.ListN.{length}
-use Rattle.scatter.specs.Tabulate.{tabulate}
+use Rattle.integer.specs.Tabulate.{tabulate}
 use Rattle.scatter.specs.Samples.{sampleAt, sumsAt, sum, z, products}
 use Rattle.scatter.specs.Ranges.{zLimit}
 use Rattle.scatter.specs.Bounds.{z-bound, products-bound}

@@ -2,15 +2,15 @@
 use borrow.Author.Needs.{needs}
 use mir.Syntax.{w64}
 use mir.Facts.{toZ-ofZ, toZ-pos}
-use Rattle.scatter.proofs.Signed.{difference-fits}
+use Rattle.integer.specs.Word.{difference-held}
 use Rattle.scatter.proofs.table.difference.Statement.{statement}
 use Rattle.scatter.proofs.table.difference.Tie as tie
 
 sub-result : tie.Need-sub-result
-sub-result c = rw (toZ-pos w64 (c .pre .0), toZ-pos w64 (c .pre .1)) (difference-fits _ _ (c .pre .0) (c .pre .1))
+sub-result c = rw (toZ-pos w64 (c .pre .0), toZ-pos w64 (c .pre .1)) (difference-held _ _ (c .pre .0) (c .pre .1))
 
 returns : tie.Need-returns
-returns c = rw (toZ-pos w64 (c .pre .0), toZ-pos w64 (c .pre .1)) (toZ-ofZ (difference-fits _ _ (c .pre .0) (c .pre .1)))
+returns c = rw (toZ-pos w64 (c .pre .0), toZ-pos w64 (c .pre .1)) (toZ-ofZ (difference-held _ _ (c .pre .0) (c .pre .1)))
 
 pub difference-spec : {M : Type 1} → statement M
 difference-spec =

@@ -5,8 +5,8 @@ use native.Mathlib.Omega.{arith}
 use borrow.Author.Needs.{needs}
 use lib.IntN.{pos}
 use lib.ListN.{getD}
+use Rattle.integer.specs.Tabulate.{tabulate, length-tabulate}
 use Rattle.rounding.specs.Rounding.{rnd}
-use Rattle.scatter.specs.Tabulate.{tabulate, length-tabulate}
 use Rattle.scatter.proofs.Filled.{Filled, filled-none, filled-more, filled-skip, filled-all}
 use Rattle.scatter.proofs.Places.{zeros, nearest-asks, rounded, rounded-zero}
 use Rattle.scatter.proofs.table.entries_of.Statement.{statement}

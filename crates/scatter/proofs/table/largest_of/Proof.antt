@@ -10,10 +10,12 @@ use borrow.Author.Count.{below-more}
 use borrow.Author.Needs.{needs}
 use lib.IntN.{ℤ, pos, natAbs}
 use lib.ListN.{length, getD}
+use mir.Syntax.{w64}
+use mir.Val.{SFits}
+use mir.Facts.{toZ-ofZ}
 use Rattle.scatter.specs.Ranges.{ZeroFrom}
 use Rattle.scatter.specs.Table.{largest}
 use Rattle.scatter.specs.Shift.{largest-bounds, largest-is}
-use Rattle.scatter.proofs.Signed.{element}
 use Rattle.scatter.proofs.table.largest_of.Statement.{statement}
 use Rattle.scatter.proofs.table.largest_of.Tie as tie
 
@@ -26,18 +28,13 @@ abbrev μ-loop : tie.MeasureT-loop
 loop-holds : tie.Need-loop-holds Inv-loop μ-loop
 loop-holds c = (search needs, search needs, λ q h. absurd (omega arith))
 
-size-of-requires : tie.Need-size-of-requires Inv-loop μ-loop
-size-of-requires c κs =
-    let a = c .before .before .before in
-    let p = c .before .before .loop .p in
-    rw (element (a .args .s .now) (a .pre .0) p) (omega (arith, a .pre .0 .small p))
-
 -- Where the arms meet: m is at least what it was and the size that was read, and at most the greatest.
 met : (c : tie.Joined1 Inv-loop μ-loop) → (c .before .before .before .before .loop .m ≤ c .if1 .m) × (natAbs (getD (c .before .before .before .before .before .args .s .now) (c .before .before .before .before .loop .p) (pos 0)) ≤ c .if1 .m) × (c .if1 .m ≤ largest (c .before .before .before .before .before .args .s .now))
 met c =
     let s = c .before .before .before .before .before .args .s .now in
     let p = c .before .before .before .before .loop .p in
-    let a : c .before .size-of .result ≡ natAbs (getD s p (pos 0)) = c .before .size-of .ensures ∙ ap natAbs (element s (c .before .before .before .before .before .pre .0) p) in
+    let f : SFits w64 (getD s p (pos 0)) = search needs in
+    let a : c .before .magnitude .result ≡ natAbs (getD s p (pos 0)) = c .before .magnitude .ensures ∙ ap natAbs (toZ-ofZ f) in
     let b : natAbs (getD s p (pos 0)) ≤ largest s = largest-bounds s p in
     ⊎-elim (λ w. (omega (arith, w .0 .taken, w .1), omega (arith, w .1), omega (arith, w .1))) (λ w. (omega (arith, w .1), omega (arith, w .0 .left, w .1), omega (arith, w .1))) (c .if1 .came)
 
@@ -57,7 +54,7 @@ returns : tie.Need-returns Inv-loop μ-loop
 returns c =
     let l = c .before .loop in
     let a = c .before .before in
-    largest-is _ _ (l .inv .1) (all-sizes (a .args .s .now) (a .pre .1) (λ p h. l .inv .2 p (omega arith)))
+    largest-is _ _ (l .inv .1) (all-sizes (a .args .s .now) (a .pre) (λ p h. l .inv .2 p (omega arith)))
 
 pub largest-of-spec : {M : Type 1} → statement M
 largest-of-spec =
@@ -68,7 +65,7 @@ largest-of-spec =
     loop-holds
     (λ c. search needs)
     (λ c. search needs)
-    size-of-requires
+    (λ c κs. search needs)
     (λ c. search needs)
     (λ c. search needs)
     loop-again

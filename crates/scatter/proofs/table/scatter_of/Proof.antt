@@ -6,8 +6,8 @@ use native.Mathlib.Numerals.{add-one}
 use native.Mathlib.Omega.{arith}
 use borrow.Author.Needs.{needs}
 use lib.IntN.{pos}
+use Rattle.limits.specs.Channels.{place-below}
 use Rattle.scatter.specs.Table.{scatter, padded}
-use Rattle.scatter.specs.Entries.{place-below}
 use Rattle.scatter.specs.Bounds.{number-times-cross, channel-times-channel}
 use Rattle.scatter.proofs.Filled.{Filled, filled-none, filled-more}
 use Rattle.scatter.proofs.Places.{zeros, S-stored, all-rows}

@@ -14,7 +14,7 @@ largest-of-requires : tie.Need-largest-of-requires
 largest-of-requires c κs =
     let s = c .before in
     let a = s .before in
-    (scatter-small (a .args .n) (a .args .t) (a .pre .0) (a .pre .1) (s .scatter-of .ensures), zero-from (a .args .n) (a .args .t) (a .pre .0) (a .pre .1) (s .scatter-of .ensures))
+    zero-from (a .args .n) (a .args .t) (a .pre .0) (a .pre .1) (s .scatter-of .ensures)
 
 shift-of-requires : tie.Need-shift-of-requires
 shift-of-requires c κs =

@@ -11,7 +11,7 @@ use lib.Signed.{mag}
 use mir.Syntax.{w64}
 use mir.Val.{toZ, ofZ}
 use mir.Facts.{toZ-pos, toZ-ofZ}
-use Rattle.scatter.specs.Tabulate.{tabulate}
+use Rattle.integer.specs.Tabulate.{tabulate}
 use Rattle.scatter_text.proofs.rows.row_from.Statement.{statement}
 use Rattle.scatter_text.proofs.rows.row_from.Tie as tie
 

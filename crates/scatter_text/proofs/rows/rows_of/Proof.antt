@@ -1,7 +1,7 @@
 -- `scatter_text::rows::rows_of` meets its contract.
 use mathlib.Core.List.{[], _∷_}
 use borrow.Author.Needs.{needs}
-use Rattle.scatter.specs.Tabulate.{tabulate}
+use Rattle.integer.specs.Tabulate.{tabulate}
 use Rattle.scatter_text.specs.Rows.{rowsOf}
 use Rattle.scatter_text.proofs.rows.rows_of.Statement.{statement}
 use Rattle.scatter_text.proofs.rows.rows_of.Tie as tie

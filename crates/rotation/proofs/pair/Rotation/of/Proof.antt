@@ -1,21 +1,19 @@
 -- `rotation::pair::Rotation::of` meets its contract: the shifts are powers, and nothing wraps.
-use mathlib.Core.Path.{_≡_}
 use Prim.Native.Nat.{ℕ, _≤_, _<_, _^_}
 use native.Mathlib.Omega.{arith}
-use lib.IntN.{pos, negℤ, _-ℤ_}
+use lib.IntN.{pos, _-ℤ_}
 use mir.Syntax.{w64}
 use mir.Val.{SFits}
 use mir.Facts.{toZ-ofZ, toZ-pos}
 use borrow.Author.Needs.{needs}
-use Rattle.integer.specs.Laws.{natAbs-+ℤ}
-use Rattle.integer.specs.Word.{held}
+use Rattle.integer.specs.Word.{difference-held, held}
 use Rattle.rotation.specs.Rotation.{rotationOf}
 use Rattle.rotation.proofs.Power.{power, power-small, sine, sine-small}
 use Rattle.rotation.proofs.pair.Rotation.of.Statement.{statement}
 use Rattle.rotation.proofs.pair.Rotation.of.Tie as tie
 
 cosine-held : (l : ℕ) → l ≤ 14 → SFits w64 (pos (4 ^ l) -ℤ pos 1)
-cosine-held l h = held _ (omega (arith, power-small l h, natAbs-+ℤ (pos (4 ^ l)) (negℤ (pos 1))))
+cosine-held l h = difference-held (4 ^ l) 1 (omega (arith, power-small l h)) (omega arith)
 
 cast-t6 : tie.Need-cast-t6
 cast-t6 c = rw (power (c .args .l) (c .pre .1)) (held (pos _) (omega (arith, power-small (c .args .l) (c .pre .1))))

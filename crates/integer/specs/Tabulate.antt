@@ -1,9 +1,9 @@
--- The list of a function's values at 0, 1, .., and its laws.
+-- The list of a function's values at 0, 1, .., and its laws; and what stands in a list of one value repeated.
 use mathlib.Core.Path.{_≡_, refl, ap}
 use mathlib.Core.List.{List, [], _∷_, _++_}
 use Prim.Native.Nat.{ℕ, zero, suc, _<_}
 use native.Mathlib.Omega.{arith}
-use lib.ListN.{length, getD}
+use lib.ListN.{length, getD, replicate}
 
 -- f 0, .., f (m − 1)
 unfoldable pub tabulate : {A : Type 0} → ℕ → (ℕ → A) → List A
@@ -39,3 +39,9 @@ module _ {A : Type 0} where
   tabulate-all P zero f d h g i = h
   tabulate-all P (suc m) f d h g zero = g zero
   tabulate-all P (suc m) f d h g (suc i) = tabulate-all P m (λ j. f (suc j)) d h (λ j. g (suc j)) i
+
+  -- d repeated has d at every place, within and beyond
+  pub getD-repeated : (m i : ℕ) (d : A) → getD (replicate m d) i d ≡ d
+  getD-repeated zero i d = refl
+  getD-repeated (suc m) zero d = refl
+  getD-repeated (suc m) (suc i) d = getD-repeated m i d
