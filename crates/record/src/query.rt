@@ -44,7 +44,7 @@ pub fn axis_refusal(n: usize, i: usize) -> u32
 
 // |a_ij|, i and j from 0.
 fn entry_size(a: &[[i64; 8]; 8], i: usize, j: usize) -> u64
-    requires { ⌜ (i < 8) × (j < 8) × Small (now a) ⌝ }
+    requires { ⌜ (i < 8) × (j < 8) ⌝ }
     ensures { λ r. ⌜ r ≡ natAbs (at (now (a .entry)) i j) ⌝ }
 {
     signed::magnitude(a[i][j])
@@ -52,7 +52,7 @@ fn entry_size(a: &[[i64; 8]; 8], i: usize, j: usize) -> u64
 
 // The first pair in row order whose entry is above t in size.
 pub fn loose_pair_of(a: &[[i64; 8]; 8], n: usize, t: u64) -> Answer
-    requires { ⌜ (n ≤ 8) × Small (now a) ⌝ }
+    requires { ⌜ n ≤ 8 ⌝ }
     ensures { λ r. ⌜ r ≡ looseOf (at (now (a .entry))) t (cyclic n) ⌝ }
 {
     let mut p = 0;
@@ -71,7 +71,7 @@ pub fn loose_pair_of(a: &[[i64; 8]; 8], n: usize, t: u64) -> Answer
 
 // What column j adds to the error of the axis in row i.
 fn off_diagonal(a: &[[i64; 8]; 8], i: usize, j: usize) -> u64
-    requires { ⌜ (i < 8) × (j < 8) × Small (now a) ⌝ }
+    requires { ⌜ (i < 8) × (j < 8) ⌝ }
     ensures { λ r. ⌜ r ≡ cond (eqb j i) 0 (natAbs (at (now (a .entry)) i j)) ⌝ }
 {
     if j == i {

@@ -13,7 +13,6 @@ ghost use Rattle.record.specs.Record.{afterOf, fresh, looseOf};
 ghost use Rattle.record.specs.Rows.{Holds, heldOf};
 ghost use Rattle.record.specs.Run.{noPair, runFrom, stop};
 ghost use Rattle.record.specs.declared.Answer.the-variants.{Refused};
-ghost use Rattle.rotation.specs.Size.{Small};
 ghost use Rattle.rotation.specs.Turn.{at};
 use crate::Answer;
 use crate::load;
@@ -47,7 +46,7 @@ pub fn load_rows(matrix: &mut [[i64; 8]; 8], axes: &mut [[i64; 8]; 8], n: usize,
 
 // Whether a loose-pair call answers none, where `number` is its refusal's number or 0.
 fn is_settled(number: u32, matrix: &[[i64; 8]; 8], n: usize, tolerance: u64) -> bool
-    requires { ⌜ (n ≤ 8) × Small (now matrix) ⌝ }
+    requires { ⌜ n ≤ 8 ⌝ }
     ensures { λ b. ⌜ b ≡ noPair (cond (eqb number 0) (looseOf (at (now (matrix .entry))) tolerance (cyclic n)) (Refused number)) ⌝ }
 {
     if number != 0 {

@@ -8,7 +8,7 @@ use Rattle.ledger.specs.Pairs.{cyclic}
 use Rattle.ledger.specs.Refusal.{refusalOf}
 use Rattle.record.specs.Fill.{at-rowsOf}
 use Rattle.record.specs.Record.{acceptedOf, valueOf}
-use Rattle.record.proofs.Outcome.{accepted, kept-small, refused}
+use Rattle.record.proofs.Outcome.{accepted, refused}
 use Rattle.record.proofs.Search.{same-loose}
 use Rattle.record.proofs.Record.loose_pair.Statement.{statement}
 use Rattle.record.proofs.Record.loose_pair.Tie as tie
@@ -20,9 +20,7 @@ returns c =
     refused (s .args .t1) (loosePair (s .args .t)) (s .pre) _ (c .before .before .loose-pair-refusal .ensures) _ (c .before .if1 .taken) (c .after-refusal .ensures)
 
 loose-pair-of-requires : tie.Need-loose-pair-of-requires
-loose-pair-of-requires c κs =
-    let s = c .before .before .before .before .before .before in
-    (s .pre .size, rw (c .before .unpacked .ensures) (kept-small (s .args .t1) (s .pre)))
+loose-pair-of-requires c κs = c .before .before .before .before .before .before .pre .size
 
 returns-2 : tie.Need-returns-2
 unfolding refusalOf valueOf acceptedOf

@@ -25,7 +25,7 @@ unfolding sumℕ
 loop-holds c = (omega arith, refl, omega arith)
 
 off-diagonal-requires : tie.Need-off-diagonal-requires Inv-loop μ-loop
-off-diagonal-requires c κs = (omega arith, omega arith, c .before .before .pre .3)
+off-diagonal-requires c κs = (omega arith, omega arith)
 
 -- a column adds at most the largest entry
 column : (c : tie.After-off-diagonal Inv-loop μ-loop) → c .off-diagonal .result ≤ widest

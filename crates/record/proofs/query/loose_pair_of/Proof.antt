@@ -35,7 +35,7 @@ entry-size-requires : tie.Need-entry-size-requires Inv-loop2 μ-loop2 Inv-loop �
 entry-size-requires c κs =
     let s = c .before .before .before .before in
     let inner = c .before .loop2 .inv .0 in
-    (omega (arith, inner, c .loop2-test .taken, s .pre .0), omega (arith, c .loop2-test .taken, s .pre .0), s .pre .1)
+    (omega (arith, inner, c .loop2-test .taken, s .pre), omega (arith, c .loop2-test .taken, s .pre))
 
 -- the answer is that of the pair at p and q, and those after it
 module _ (c : tie.After-entry-size Inv-loop2 μ-loop2 Inv-loop μ-loop) where

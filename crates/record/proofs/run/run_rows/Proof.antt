@@ -5,7 +5,7 @@ use mathlib.Core.Bool.{false}
 use borrow.Author.Needs.{needs}
 use Rattle.record.specs.Rows.{heldOf}
 use Rattle.record.specs.Run.{runFrom}
-use Rattle.record.proofs.Going.{Going, begun, going-holds, held-ready, held-small, is-spent, is-still, refused-on, settles, sweeps-on}
+use Rattle.record.proofs.Going.{Going, begun, going-holds, held-ready, is-spent, is-still, refused-on, settles, sweeps-on}
 use Rattle.record.proofs.run.run_rows.Statement.{statement}
 use Rattle.record.proofs.run.run_rows.Tie as tie
 
@@ -20,9 +20,7 @@ loop-holds : tie.Need-loop-holds Inv-loop μ-loop
 loop-holds c = begun _ _ _ _ _ (c .before .pre)
 
 is-settled-requires : tie.Need-is-settled-requires Inv-loop μ-loop
-is-settled-requires c κs =
-    let g = c .before .loop .inv in
-    (g .keeps .size, held-small _ _ _ _ _ (g .matrix) (g .axes) (g .keeps))
+is-settled-requires c κs = c .before .loop .inv .keeps .size
 
 returns : tie.Need-returns Inv-loop μ-loop
 returns c =
