@@ -5,9 +5,9 @@ use job::Job;
 use job::reply::Reply;
 use record::run::Ended;
 ghost use Rattle.job.specs.Job.{accepted};
+ghost use Rattle.job.specs.Reply.{Answers, Replies, printedOf};
 ghost use Rattle.job_table.specs.Held.{Held, jobIn};
 ghost use Rattle.text.specs.Put.{Put};
-ghost use Rattle.job.specs.Reply.{Answers, Replies, printedOf};
 ghost use Rattle.report.specs.Done.{Solves};
 ghost use Rattle.report.specs.Report.{reportOf};
 

@@ -6,10 +6,10 @@ use job::reply::Reply;
 ghost use Prim.Native.Nat.{_≤_};
 ghost use lib.ListN.{length, take};
 ghost use Rattle.job.specs.Job.{accepted};
+ghost use Rattle.job.specs.Reply.{Answers, Replies, printedOf};
 ghost use Rattle.job_table.specs.Held.{Held, jobIn};
 ghost use Rattle.text.specs.Put.{Put, Sized};
 ghost use Rattle.text.specs.Rows.{Wide};
-ghost use Rattle.job.specs.Reply.{Answers, Replies, printedOf};
 ghost use Rattle.scatter_text.specs.Done.{textOf};
 ghost use Rattle.scatter_text.specs.Table.{tableText};
 
