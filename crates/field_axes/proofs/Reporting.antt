@@ -1,11 +1,10 @@
 -- What `report` answers, as numbers.
 use Prim.Native.Nat.{ℕ, _≤_}
-use mathlib.Core.Path.{_≡_, refl, sym, ap, _∙_}
+use mathlib.Core.Path.{_≡_, sym, ap, _∙_}
 use mathlib.Core.Bool.{Bool, true, false, cond}
 use mathlib.Core.List.{List}
 use native.Mathlib.Omega.{arith}
 use lib.Dec.{leb}
-use lib.IntN.{pos, negℤ}
 use lib.ListN.{length}
 use Rattle.job.specs.Job.{Answer, refused, accepted, jobOf}
 use Rattle.job.specs.Reply.{Replies, Short, replyBy, replyOf}

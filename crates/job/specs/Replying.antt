@@ -1,6 +1,6 @@
 -- Laws of a job text answered by another text: a buffer that is long enough, one that is too short, a refused job, and what is printed.
 use Prim.Native.Nat.{ℕ, _≤_, _<_}
-use mathlib.Core.Path.{_≡_, refl, sym, ap, _∙_}
+use mathlib.Core.Path.{_≡_, refl, sym, _∙_}
 use mathlib.Core.Bool.{Bool, true, false, cond}
 use mathlib.Core.List.{List, _++_}
 use native.Mathlib.Nat.{zero-add}

@@ -1,6 +1,6 @@
 -- Document 01, 'The ledger of demand 3': fed the calls alone, each with its arguments, in order.
 use Prim.Native.Nat.{ℕ, suc, _-_, _*_}
-use mathlib.Core.Bool.{Bool, cond}
+use mathlib.Core.Bool.{cond}
 use mathlib.Core.List.{List, [], _∷_}
 use lib.Dec.{eqb}
 use lib.IntN.{ℤ, pos, _*ℤ_}

@@ -1,18 +1,15 @@
 -- The search for a loose pair, a pair at a time.
-use mathlib.Core.Path.{_≡_, refl, ap₂, _∙_}
-use mathlib.Core.Bool.{cond}
+use mathlib.Core.Path.{_≡_, refl}
 use mathlib.Core.List.{List, [], _∷_}
 use Prim.Native.Nat.{ℕ, suc, _≤_, _<_}
 use native.Mathlib.Omega.{arith}
-use lib.Dec.{ltb}
 use lib.IntN.{natAbs}
 use borrow.Author.Tests.{lt-ltb, le-ltb}
 use Rattle.integer.specs.Matrix.{Matrix}
 use Rattle.ledger.specs.Cyclic.{Each}
 use Rattle.ledger.specs.Pairs.{Pair}
 use Rattle.record.specs.Record.{looseOf}
-use Rattle.record.specs.declared.Answer.{Answer}
-use Rattle.record.specs.declared.Answer.the-variants.{Pair as PairIs, NoPair}
+use Rattle.record.specs.declared.Answer.the-variants.{Pair as PairIs}
 
 module _ (a : Matrix) (t : ℕ) (pair : Pair) (pairs : List Pair) where
   pub passed : natAbs (a (pair .p) (pair .q)) ≤ t → looseOf a t (pair ∷ pairs) ≡ looseOf a t pairs

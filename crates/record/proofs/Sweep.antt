@@ -1,9 +1,9 @@
 -- A sweep, pair by pair: the work so far, and the pairs that are left.
-use mathlib.Core.Path.{_≡_, refl, sym, ap, _∙_}
+use mathlib.Core.Path.{_≡_, refl, _∙_}
 use mathlib.Core.List.{List, [], _∷_}
 use Prim.Native.Nat.{ℕ, _+_, _≤_, _<_}
 use native.Mathlib.Omega.{arith}
-use lib.Dec.{T, leb, leb→le}
+use lib.Dec.{leb, leb→le}
 use lib.ListN.{length}
 use Rattle.integer.specs.Range.{below}
 use Rattle.ledger.specs.Pairs.{Pair, cyclic, row, rowsFrom}
@@ -15,7 +15,6 @@ use Rattle.rotation.specs.declared.choice.Choice.the-variants.{NoTurn, Turn}
 use Rattle.record.specs.Kept.{KeptWork}
 use Rattle.record.specs.Turning.{work-grows, work-keeps}
 use Rattle.record.specs.Work.{Work, chosen, workBy, workPair, workPairs}
-use Rattle.record.specs.Worked.{Ready}
 
 -- after a turn the rows have their shape, as before it
 module _ (n : ℕ) (w : Work) (pair : Pair) (matrix : Shaped (w .a)) (axes : Shaped (w .v)) where

@@ -1,9 +1,8 @@
 -- The record that a call leaves is kept, whatever the call.
 use mathlib.Core.Path.{_≡_, refl, sym, ap, _∙_}
-use mathlib.Core.Logic.{_≢_}
 use mathlib.Core.Bool.{Bool, true, false, cond, _&&_}
 use mathlib.Core.List.{List}
-use Prim.Native.Nat.{ℕ, zero, suc, _+_, _-_, _*_, _/_, _≤_, _<_}
+use Prim.Native.Nat.{ℕ, zero, suc, _+_, _-_, _*_, _/_, _≤_}
 use native.Mathlib.Nat.{le-trans}
 use native.Mathlib.Omega.{arith}
 use lib.Dec.{eqb, ltb}
@@ -14,7 +13,7 @@ use Rattle.integer.specs.Matrix.{Matrix, squares, squares-cong}
 use Rattle.integer.specs.Square.{sq}
 use Rattle.integer.specs.Sum.{sumℕ, sumℕ-cong}
 use Rattle.integer.specs.Tabulate.{getD-repeated}
-use Rattle.ledger.specs.Accepted.{Turns, turn-accepted, sweep-accepted}
+use Rattle.ledger.specs.Accepted.{turn-accepted, sweep-accepted}
 use Rattle.ledger.specs.Call.{Call, load, turn, sweep, loosePair, axis}
 use Rattle.ledger.specs.Cyclic.{cyclic-length, cyclic-pairs}
 use Rattle.limits.specs.Limits.{turnLimit}

@@ -2,28 +2,26 @@
 use mathlib.Core.Path.{_≡_, refl, sym, ap, subst, _∙_}
 use mathlib.Core.Bool.{Bool, true, false, cond}
 use mathlib.Core.List.{List, [], _∷_}
-use Prim.Native.Nat.{ℕ, zero, suc, _-_, _≤_, _<_}
+use Prim.Native.Nat.{ℕ, suc, _-_, _≤_}
 use native.Mathlib.Omega.{arith}
 use lib.Dec.{eqb}
-use lib.IntN.{ℤ, pos, _*ℤ_}
+use lib.IntN.{ℤ}
 use borrow.Author.Tests.{eqb-true}
-use Rattle.integer.specs.Matrix.{Matrix, Same}
-use Rattle.ledger.specs.Accepted.{Loads, Turns, load-accepted, turn-accepted}
+use Rattle.integer.specs.Matrix.{Same}
+use Rattle.ledger.specs.Accepted.{load-accepted, turn-accepted}
 use Rattle.ledger.specs.Call.{Call, load, turn, sweep, loosePair, axis}
 use Rattle.ledger.specs.Cyclic.{Each, Ordered, cyclic-pairs}
-use Rattle.ledger.specs.Invariant.{turnPair-continues}
 use Rattle.ledger.specs.Ledger as L
 use Rattle.ledger.specs.Ledger.{Ledger, State, empty, loaded, accepted, ledgerStep, sizeOf, turnsOf, take, turnPair, turnPairs}
 use Rattle.ledger.specs.Pairs.{Pair, cyclic}
 use Rattle.ledger.specs.Refusal.{refusalOf}
-use Rattle.rotation.specs.Choice.{choose}
 use Rattle.rotation.specs.Congruence.{choose-same, turned-same, turnedAxes-same}
 use Rattle.rotation.specs.Rotation.{rotationOf}
 use Rattle.rotation.specs.Turn.{at, turnMatrix, turnAxes}
 use Rattle.rotation.specs.declared.choice.Choice.{Choice}
 use Rattle.rotation.specs.declared.choice.Choice.the-variants.{NoTurn, Turn}
 use Rattle.record.specs.Fill.{at-rowsOf, kept-flatOf}
-use Rattle.record.specs.Flat.{flatOf, kept, rowsOf}
+use Rattle.record.specs.Flat.{kept}
 use Rattle.record.specs.Kept.{Kept, KeptWork}
 use Rattle.record.specs.Record.{acceptedOf, afterOf, loadedOf, refusedOf, sweptOf, turnedOf, workOf, workedOf}
 use Rattle.record.specs.Turning.{at-array, inUse-inside, work-keeps}

@@ -1,7 +1,6 @@
 -- What a call ensures: its answer, the record that it leaves, and that this record is kept.
 use mathlib.Core.Path.{_≡_}
 use Prim.Native.Nat.{ℕ}
-use lib.IntN.{ℤ}
 use Rattle.ledger.specs.Call.{Call, axis}
 use Rattle.record.specs.Kept.{Kept}
 use Rattle.record.specs.Record.{afterOf, answerOf, axisOf, fresh}

@@ -1,20 +1,20 @@
 -- A turn keeps what is kept: the matrix stays symmetric and 0 outside, and the bounds grow with m. And what is kept is small enough to turn.
-use mathlib.Core.Path.{_≡_, refl, sym, ap, _∙_}
-use mathlib.Core.Bool.{Bool, true, false, cond, _&&_}
+use mathlib.Core.Path.{_≡_, sym, ap, _∙_}
+use mathlib.Core.Bool.{false, cond, _&&_}
 use mathlib.Core.List.{List, [], _∷_}
-use Prim.Native.Nat.{ℕ, suc, _+_, _*_, _≤_, _<_, _^_}
+use Prim.Native.Nat.{ℕ, suc, _+_, _*_, _≤_, _<_}
 use native.Mathlib.Decide.{decLt}
-use native.Mathlib.Nat.{le-trans, mul-le-mul}
+use native.Mathlib.Nat.{le-trans}
 use native.Mathlib.Omega.{arith}
 use lib.Dec.{ltb}
 use lib.IntN.{ℤ, pos, natAbs}
 use lib.ListN.{length}
-use borrow.Author.Tests.{lt-ltb, le-ltb, ltb-true}
+use borrow.Author.Tests.{lt-ltb, le-ltb}
 use Rattle.integer.specs.Matrix.{Matrix, Symmetric as SymmetricBelow, squares, squares-cong}
 use Rattle.integer.specs.Square.{sq, sq-pos, natAbs-≤}
 use Rattle.integer.specs.Sum.{sumℕ, sumℕ-cong, sumℕ-const, term-≤-sumℕ}
 use Rattle.integer.specs.Tests.{cond-same}
-use Rattle.ledger.specs.Cyclic.{Each, Ordered}
+use Rattle.ledger.specs.Cyclic.{Each}
 use Rattle.ledger.specs.Pairs.{Pair}
 use Rattle.ledger.specs.Sound.{matrixBound, axesBound}
 use Rattle.rotation.specs.Eight.{at-eight, at-outside}

@@ -1,5 +1,4 @@
 -- The matrix and axes at work: as rows, and the flat lists that hold them before and after.
-use mathlib.Core.Path.{_≡_}
 use mathlib.Core.List.{List}
 use Prim.Native.Nat.{ℕ, _≤_}
 use lib.IntN.{ℤ}

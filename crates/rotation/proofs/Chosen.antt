@@ -1,10 +1,8 @@
 -- The choice as `choose_turn` computes it: the difference of the diagonal entries, its sign, and the two cases.
-use mathlib.Core.Path.{_≡_, refl, ap, sym, _∙_}
-use mathlib.Core.Bool.{Bool, true, false, cond, Bool·beq}
-use Prim.Native.Nat.{ℕ, zero, suc, _+_, _*_, _≤_, _<_, _^_}
-use native.Mathlib.Nat.{not-suc-le-zero}
+use mathlib.Core.Path.{_≡_, refl}
+use mathlib.Core.Bool.{Bool, Bool·beq}
+use Prim.Native.Nat.{ℕ, _*_, _≤_}
 use native.Mathlib.Omega.{arith}
-use lib.Dec.{ltb, eqb}
 use lib.IntN.{ℤ, pos, negsuc, natAbs, negℤ, _-ℤ_}
 use lib.Signed.{ltZ}
 use borrow.Author.Tests.{ne-eqb, le-ltb}
@@ -15,7 +13,6 @@ use Rattle.integer.specs.Laws.{natAbs-+ℤ, natAbs-negℤ, natAbs-zero}
 use Rattle.integer.specs.Word.{held}
 use Rattle.rotation.specs.Choice.{choose, smallest, negative, minusSign}
 use Rattle.rotation.specs.Size.{widest}
-use Rattle.rotation.specs.declared.choice.Choice.{Choice}
 use Rattle.rotation.specs.declared.choice.Choice.the-variants.{NoTurn}
 
 pub sign-test : (z : ℤ) → ltZ z (pos 0) ≡ negative z

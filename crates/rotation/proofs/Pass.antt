@@ -1,9 +1,8 @@
 -- A pass over entries of size k does not wrap, and gives entries of size `passed r k`.
-use mathlib.Core.Path.{_≡_}
-use Prim.Native.Nat.{ℕ, _+_, _*_, _/_, _<_, _≤_, _^_}
+use Prim.Native.Nat.{ℕ, _+_, _*_, _<_, _≤_, _^_}
 use native.Mathlib.Nat.{mul-le-mul-left, le-trans, le-div-iff-mul-le, div-mul-le-self}
 use native.Mathlib.Omega.{arith}
-use lib.IntN.{ℤ, natAbs, _+ℤ_, _*ℤ_}
+use lib.IntN.{ℤ, natAbs}
 use Rattle.rounding.specs.Nearest.{rnd-size}
 use Rattle.rotation.specs.Rotation.{first}
 use Rattle.rotation.specs.Size.{weight, passed}

@@ -1,16 +1,15 @@
 -- The search for the smallest l that fits, a step at a time.
-use mathlib.Core.Path.{_≡_, refl, sym, ap, _∙_}
-use mathlib.Core.Bool.{Bool, true, false, cond}
-use Prim.Native.Nat.{ℕ, zero, suc, _+_, _-_, _*_, _≤_, _<_, _^_}
+use mathlib.Core.Path.{_≡_, ap}
+use mathlib.Core.Bool.{Bool, cond}
+use Prim.Native.Nat.{ℕ, suc, _+_, _-_, _*_, _≤_, _<_, _^_}
 use native.Mathlib.Nat.{mul-le-mul, lt-of-le-of-lt}
 use native.Mathlib.Numerals.{add-one}
 use native.Mathlib.Omega.{arith}
-use lib.Dec.{leb, lit<}
+use lib.Dec.{lit<}
 use borrow.Author.Tests.{le-leb, lt-leb}
 use Rattle.rotation.specs.Size.{widest}
 use Rattle.rotation.specs.Threshold.{threshold, threshold-most, roundedUp, u, w}
 use Rattle.rotation.specs.Choice.{fits, smallest}
-use Rattle.rotation.specs.declared.choice.Choice.{Choice}
 use Rattle.rotation.specs.declared.choice.Choice.the-variants.{NoTurn, Turn}
 
 module _ (y g : ℕ) (minus : Bool) (l : ℕ) where

@@ -1,6 +1,6 @@
 -- A signed number moved away from zero by h, as `nearest` computes it, and that the quotient of that is rnd.
 use mathlib.Core.Path.{_≡_, refl, ap, sym, _∙_}
-use Prim.Native.Nat.{ℕ, zero, suc, _+_, _*_, _/_, _<_, _^_}
+use Prim.Native.Nat.{ℕ, zero, suc, _+_, _/_, _<_, _^_}
 use native.Mathlib.Nat.{one-mul, add-suc, suc-add, div-eq-of-lt, add-zero, div-le-self}
 use native.Mathlib.Omega.{arith}
 use lib.IntN.{ℤ, pos, negsuc, negℤ, natAbs, _+ℤ_, _*ℤ_, +ℤ-idr}

@@ -1,10 +1,10 @@
 -- The laws of rnd: its size, its sign, and that it is the one whole number that document 01's sentence names.
 use mathlib.Core.Path.{_≡_, refl, ap, sym, _∙_}
 use Prim.Native.Nat.{ℕ, zero, suc, _+_, _-_, _*_, _/_, _<_, _≤_, zero-le, suc-le-suc}
-use native.Mathlib.Nat.{div-lt-iff-lt-mul, lt-div-mul-add, div-mul-le-self, div-eq-of-lt, div-eq-of-lt-le, zero-add, mul-zero, mul-le-mul-left}
+use native.Mathlib.Nat.{div-lt-iff-lt-mul, lt-div-mul-add, div-mul-le-self, div-eq-of-lt, div-eq-of-lt-le, zero-add, mul-le-mul-left}
 use native.Mathlib.Decide.{decLt}
 use native.Mathlib.Omega.{arith}
-use lib.IntN.{ℤ, pos, negsuc, negℤ, natAbs, _+ℤ_, _*ℤ_, _-ℤ_, negℤ-negℤ, negℤ-+ℤ}
+use lib.IntN.{ℤ, pos, negsuc, negℤ, natAbs, _*ℤ_, _-ℤ_, negℤ-negℤ, negℤ-+ℤ}
 use Rattle.integer.specs.Laws.{natAbs-negℤ, natAbs--ℤ, natAbs-opposite, *ℤ-negℤ}
 use Rattle.rounding.specs.Rounding.{rnd}
 

@@ -1,6 +1,5 @@
 -- `field_axes::field_axes_report` meets its contract.
 use Prim.Native.Nat.{_≤_}
-use mathlib.Core.Path.{_∙_}
 use native.Mathlib.Omega.{arith}
 use lib.IntN.{pos}
 use mir.Syntax.{w64}
@@ -8,7 +7,6 @@ use mir.Val.{SFits}
 use mir.Facts.{toZ-ofZ, toZ-pos}
 use borrow.Author.Needs.{needs}
 use Rattle.integer.specs.Word.{held}
-use Rattle.job.specs.declared.reply.Reply.the-variants.{Written, Refused}
 use Rattle.field_axes.specs.Report.{lengthOrNumber, refusedLine}
 use Rattle.field_axes.proofs.Reporting.{as-numbers, short}
 use Rattle.field_axes.proofs.field_axes_report.Statement.{statement}

@@ -1,7 +1,6 @@
 -- `field_axes::field_axes_solve` meets its contract.
 use Prim.Native.Nat.{_<_, _^_}
 use mathlib.Core.Path.{_≡_, sym, _∙_}
-use native.Mathlib.Nat.{zero-add}
 use native.Mathlib.Omega.{arith}
 use mir.Syntax.{w64}
 use mir.Val.{SFits}

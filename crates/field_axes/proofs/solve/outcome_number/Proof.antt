@@ -1,7 +1,5 @@
 -- `field_axes::solve::outcome_number` meets its contract.
-use mathlib.Core.Path.{sym, ap, _∙_}
 use borrow.Author.Needs.{needs}
-use lib.IntN.{pos}
 use Rattle.field_axes.specs.Solution.{outcomeNumber}
 use Rattle.field_axes.proofs.solve.outcome_number.Statement.{statement}
 use Rattle.field_axes.proofs.solve.outcome_number.Tie as tie

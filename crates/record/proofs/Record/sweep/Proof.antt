@@ -1,5 +1,5 @@
 -- `record::Record::sweep` meets its contract.
-use mathlib.Core.Path.{_≡_, refl, ap, _∙_}
+use mathlib.Core.Path.{_∙_}
 use borrow.Author.Needs.{needs}
 use Rattle.ledger.specs.Call.{sweep}
 use Rattle.ledger.specs.Pairs.{cyclic}

@@ -1,5 +1,5 @@
 -- `record::run::is_settled` meets its contract.
-use mathlib.Core.Path.{_≡_, sym, ap, _∙_}
+use mathlib.Core.Path.{sym, ap, _∙_}
 use borrow.Author.Needs.{needs}
 use borrow.Author.Tests.{eq-eqb, ne-eqb}
 use Rattle.record.specs.Run.{noPair}

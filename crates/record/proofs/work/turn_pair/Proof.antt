@@ -1,5 +1,5 @@
 -- `record::work::turn_pair` meets its contract.
-use mathlib.Core.Path.{_≡_, ap}
+use mathlib.Core.Path.{ap}
 use native.Mathlib.Omega.{arith}
 use borrow.Author.Needs.{needs}
 use Rattle.record.specs.Worked.{flatWork, startOf}

@@ -1,5 +1,4 @@
 -- `rotation::pair::with_sign` meets its contract.
-use mathlib.Core.Path.{_≡_}
 use mir.Syntax.{w64}
 use mir.Facts.{toZ-pos}
 use lib.IntN.{pos}

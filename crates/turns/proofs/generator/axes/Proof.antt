@@ -1,5 +1,5 @@
 -- `turns::generator::axes` meets its contract, a row at a time.
-use mathlib.Core.Path.{_≡_, sym, subst}
+use mathlib.Core.Path.{sym, subst}
 use Prim.Native.Nat.{_+_, _*_, _^_}
 use borrow.Author.Needs.{needs}
 use Rattle.rotation.specs.Size.{Small}

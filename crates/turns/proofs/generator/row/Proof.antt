@@ -1,5 +1,4 @@
 -- `turns::generator::row` meets its contract, an entry at a time.
-use mathlib.Core.Path.{_≡_}
 use mathlib.Core.List.{[], _∷_}
 use borrow.Author.Needs.{needs}
 use Rattle.integer.specs.Word.{word}

@@ -1,6 +1,5 @@
 -- `turns::text::digest` is safe, and ends after 64 entries.
 use Prim.Native.Nat.{_≤_, _-_}
-use native.Mathlib.Omega.{arith}
 use borrow.Author.Needs.{needs}
 use Rattle.turns.proofs.text.digest.Statement.{statement}
 use Rattle.turns.proofs.text.digest.Tie as tie

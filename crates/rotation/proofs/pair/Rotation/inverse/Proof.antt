@@ -1,5 +1,4 @@
 -- `rotation::pair::Rotation::inverse` meets its contract.
-use mathlib.Core.Path.{_≡_}
 use mir.Syntax.{w64}
 use mir.Val.{SFits}
 use mir.Facts.{toZ-ofZ}
