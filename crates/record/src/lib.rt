@@ -2,7 +2,7 @@
 ghost use Rattle.ledger.specs.Call.{axis, load, loosePair, sweep, turn};
 ghost use Rattle.record.specs.Done.{AxisDone, Done, Fresh, withWork};
 ghost use Rattle.record.specs.Kept.{Kept};
-ghost use Rattle.record.specs.Record.{counted, fresh, refusedOf};
+ghost use Rattle.record.specs.Record.{counted, refusedOf};
 ghost use mathlib.Core.Path.{_≡_};
 
 pub mod lent;
