@@ -1,8 +1,10 @@
 -- A call refused and a call accepted, as the methods end them.
 use mathlib.Core.Path.{_≡_, sym, ap, _∙_}
+use mathlib.Core.List.{List}
 use Prim.Native.Nat.{ℕ}
 use native.Mathlib.Nat.{le-trans}
 use lib.Dec.{lit≤}
+use lib.IntN.{ℤ}
 use borrow.Author.Tests.{eq-eqb, ne-eqb}
 use Rattle.ledger.specs.Call.{Call}
 use Rattle.ledger.specs.Refusal.{refusalOf}
@@ -13,9 +15,11 @@ use Rattle.record.specs.Flat.{rowsOf}
 use Rattle.record.specs.Kept.{Kept}
 use Rattle.record.specs.Record.{acceptedOf, afterOf, answerOf, refusedOf, valueOf, workOf}
 use Rattle.record.specs.Turning.{matrix-small}
+use Rattle.record.specs.Worked.{Ready, workAt}
 use Rattle.record.specs.declared.Answer.{Answer}
 use Rattle.record.specs.declared.Answer.the-variants.{Refused}
 use Rattle.record.specs.declared.Record.{Record}
+use Rattle.record.proofs.Worked.{shaped-rows}
 
 module _ (r : Record) (call : Call) (k : Kept r) (number : ℕ) (e : number ≡ refusalOf (r .n) (r .m) call) where
   pub refused : (next : Record) → (number ≡ 0 → ⊥) → next ≡ refusedOf r → Done r call (Refused number) next
@@ -36,3 +40,18 @@ module _ (r : Record) (call : Call) (k : Kept r) (number : ℕ) (e : number ≡ 
 pub kept-small : (r : Record) → Kept r → Small (rowsOf (r .a))
 unfolding workOf
 kept-small r k = matrix-small (r .n) (workOf r) (k .work) (le-trans (k .turns) (lit≤ tt))
+
+-- rows that a record is unpacked to: they are its work, and may be turned
+module _ (r : Record) (a v : List (List ℤ)) (matrix : a ≡ rowsOf (r .a)) (axes : v ≡ rowsOf (r .v)) where
+  pub at-work : workAt a v (r .m) ≡ workOf r
+  unfolding workOf
+  at-work i = record { a = matrix i; v = axes i; m = r .m }
+
+  pub kept-ready : Kept r → Ready (r .n) a v (r .m)
+  kept-ready k =
+      record {
+        kept = rw at-work (k .work);
+        few = le-trans (k .turns) (lit≤ tt);
+        matrix = rw matrix (shaped-rows (r .a));
+        axes = rw axes (shaped-rows (r .v));
+      }

@@ -7,7 +7,6 @@ use Rattle.record.specs.Record.{afterOf, answerOf, axisOf, fresh}
 use Rattle.record.specs.declared.Answer.{Answer}
 use Rattle.record.specs.declared.AxisAnswer.{AxisAnswer}
 use Rattle.record.specs.declared.Record.{Record}
-use Rattle.record.specs.declared.work.Worked.{Worked}
 
 pub record Fresh (r : Record) : Type 0 where
   pub is : r ≡ fresh
@@ -24,7 +23,3 @@ pub record AxisDone (r : Record) (i : ℕ) (answer : AxisAnswer) (next : Record)
   pub row : answer .row ≡ axisOf r i
   pub leaves : next ≡ afterOf r (axis i)
   pub keeps : Kept next
-
--- the record with the matrix, axes and m of some work
-unfoldable pub withWork : Record → Worked → Record
-withWork r w = record { n = r .n; m = w .m; refused = r .refused; a = w .a; v = w .v }

@@ -1,8 +1,9 @@
 // The record and its calls: one matrix with its axes, the turns made of it, and the count of refused calls.
 ghost use Rattle.ledger.specs.Call.{axis, load, loosePair, sweep, turn};
-ghost use Rattle.record.specs.Done.{AxisDone, Done, Fresh, withWork};
+ghost use Rattle.record.specs.Done.{AxisDone, Done, Fresh};
 ghost use Rattle.record.specs.Kept.{Kept};
-ghost use Rattle.record.specs.Record.{counted, refusedOf};
+ghost use Rattle.record.specs.Record.{counted, refusedOf, workedOf};
+ghost use Rattle.record.specs.Worked.{workAt};
 ghost use mathlib.Core.Path.{_≡_};
 
 pub mod lent;
@@ -151,13 +152,12 @@ impl Record {
                 next: self.after_refusal(),
             };
         }
-        let a = self.a;
-        let v = self.v;
-        let done = work::turn_pair(a, v, n, m, p - 1, q - 1);
-        let made = done.m;
+        let mut matrix = rows::unpacked(&self.a);
+        let mut axes = rows::unpacked(&self.v);
+        let made = work::work_pair(&mut matrix, &mut axes, n, m, p - 1, q - 1);
         Step {
             answer: Answer::Turned(m < made),
-            next: self.with_work(done),
+            next: self.with_rows(matrix, axes, made),
         }
     }
 
@@ -174,13 +174,12 @@ impl Record {
                 next: self.after_refusal(),
             };
         }
-        let a = self.a;
-        let v = self.v;
-        let done = work::sweep_pairs(a, v, n, m);
-        let made = done.m;
+        let mut matrix = rows::unpacked(&self.a);
+        let mut axes = rows::unpacked(&self.v);
+        let made = work::work_pairs(&mut matrix, &mut axes, n, m);
         Step {
             answer: Answer::Swept(made - m),
-            next: self.with_work(done),
+            next: self.with_rows(matrix, axes, made),
         }
     }
 
@@ -230,14 +229,15 @@ impl Record {
         }
     }
 
-    fn with_work(self, done: work::Worked) -> Self
-        ensures { λ r. ⌜ r ≡ withWork self done ⌝ }
+    // The record with the matrix and axes of some turns, and m after them.
+    fn with_rows(self, matrix: [[i64; 8]; 8], axes: [[i64; 8]; 8], made: u64) -> Self
+        ensures { λ r. ⌜ r ≡ workedOf self (workAt matrix axes made) ⌝ }
     {
-        let a = done.a;
-        let v = done.v;
+        let a = rows::packed(matrix);
+        let v = rows::packed(axes);
         Record {
             n: self.n,
-            m: done.m,
+            m: made,
             refused: self.refused,
             a,
             v,

@@ -1,28 +1,19 @@
-// Turning pairs of the kept matrix and axes.
+// Turning pairs of lent rows, the matrix and the axes.
 ghost use mathlib.Core.Path.{_≡_};
 ghost use Prim.Native.Nat.{_<_, _≤_, _+_};
 ghost use Rattle.ledger.specs.Call.{turn, sweep};
 ghost use Rattle.ledger.specs.Pairs.{cyclic};
 ghost use Rattle.ledger.specs.Refusal.{refusalOf};
-ghost use Rattle.record.specs.Kept.{KeptWork};
-ghost use Rattle.record.specs.Worked.{Ready, flatWork, startOf, workAt};
+ghost use Rattle.record.specs.Worked.{Ready, workAt};
 ghost use Rattle.record.specs.Work.{workPair, workPairs};
 ghost use Rattle.rotation.specs.Choice.{choose};
 ghost use Rattle.rotation.specs.Size.{Small};
 ghost use Rattle.rotation.specs.Turn.{at};
 use crate::Record;
-use crate::rows;
 use rotation::choice;
 use rotation::choice::Choice;
 use rotation::pair::Rotation;
 use rotation::turn;
-
-// The kept matrix and axes after some turns, and m.
-pub struct Worked {
-    pub a: [i64; 64],
-    pub v: [i64; 64],
-    pub m: u64,
-}
 
 pub fn turn_refusal(n: usize, m: u64, p: usize, q: usize) -> u32
     ensures { λ r. ⌜ r ≡ refusalOf n m (turn p q) ⌝ }
@@ -67,7 +58,7 @@ fn choice_at(a: &[[i64; 8]; 8], p: usize, q: usize) -> Choice
 }
 
 // The pair p < q chosen, and turned if a turn was chosen, in lent rows. The answer is m after it.
-fn work_pair(
+pub fn work_pair(
     matrix: &mut [[i64; 8]; 8],
     axes: &mut [[i64; 8]; 8],
     n: usize,
@@ -103,34 +94,4 @@ pub fn work_pairs(matrix: &mut [[i64; 8]; 8], axes: &mut [[i64; 8]; 8], n: usize
         p += 1;
     }
     made
-}
-
-// The pair p < q chosen, and turned if a turn was chosen.
-pub fn turn_pair(a: [i64; 64], v: [i64; 64], n: usize, m: u64, p: usize, q: usize) -> Worked
-    requires { ⌜ (p < q) × (q < n) × (n ≤ 8) × (m ≤ 448) × KeptWork n (startOf a v m) ⌝ }
-    ensures { λ z. ⌜ z ≡ flatWork (workPair n (startOf a v m) (record { p = p; q = q })) ⌝ }
-{
-    let mut matrix = rows::unpacked(&a);
-    let mut axes = rows::unpacked(&v);
-    let made = work_pair(&mut matrix, &mut axes, n, m, p, q);
-    Worked {
-        a: rows::packed(matrix),
-        v: rows::packed(axes),
-        m: made,
-    }
-}
-
-// The pairs of a sweep over n channels, each chosen on the matrix as it then stands.
-pub fn sweep_pairs(a: [i64; 64], v: [i64; 64], n: usize, m: u64) -> Worked
-    requires { ⌜ (n ≤ 8) × (m ≤ 448) × KeptWork n (startOf a v m) ⌝ }
-    ensures { λ z. ⌜ z ≡ flatWork (workPairs n (startOf a v m) (cyclic n)) ⌝ }
-{
-    let mut matrix = rows::unpacked(&a);
-    let mut axes = rows::unpacked(&v);
-    let made = work_pairs(&mut matrix, &mut axes, n, m);
-    Worked {
-        a: rows::packed(matrix),
-        v: rows::packed(axes),
-        m: made,
-    }
 }

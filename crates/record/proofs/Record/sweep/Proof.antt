@@ -1,13 +1,16 @@
 -- `record::Record::sweep` meets its contract.
-use mathlib.Core.Path.{_∙_}
+use mathlib.Core.Path.{_≡_, ap, _∙_}
+use Prim.Native.Nat.{_-_}
 use borrow.Author.Needs.{needs}
 use Rattle.ledger.specs.Call.{sweep}
 use Rattle.ledger.specs.Pairs.{cyclic}
-use Rattle.record.specs.Done.{withWork}
 use Rattle.record.specs.Record.{acceptedOf, sweptOf, valueOf, workOf, workedOf}
 use Rattle.record.specs.Turning.{works-least}
-use Rattle.record.specs.Worked.{flatWork, startOf}
-use Rattle.record.proofs.Outcome.{accepted, refused}
+use Rattle.record.specs.Work.{Work, workPairs}
+use Rattle.record.specs.Worked.{Ready, workAt}
+use Rattle.record.specs.declared.Answer.the-variants.{Swept}
+use Rattle.record.specs.declared.Record.{Record}
+use Rattle.record.proofs.Outcome.{accepted, at-work, kept-ready, refused}
 use Rattle.record.proofs.Record.sweep.Statement.{statement}
 use Rattle.record.proofs.Record.sweep.Tie as tie
 
@@ -17,27 +20,48 @@ sweep-refusal-requires c κs = (c .pre .size, c .pre .turns)
 returns : tie.Need-returns
 returns c =
     let s = c .before .before .before in
-    refused (s .args .self) sweep (s .pre) _ (c .before .before .sweep-refusal .ensures) _ (c .before .if1 .taken) (c .after-refusal .ensures)
+    refused (s .args .t1) sweep (s .pre) _ (c .before .before .sweep-refusal .ensures) _ (c .before .if1 .taken) (c .after-refusal .ensures)
 
-sweep-pairs-requires : tie.Need-sweep-pairs-requires
-unfolding startOf workOf
-sweep-pairs-requires c κs = let s = c .before .before .before .before in (s .pre .size, s .pre .turns, s .pre .work)
+-- the rows of the record, unpacked
+module _ (c : tie.After-unpacked2) where
+  abbrev first : tie.After-unpacked
+  first = c .before .before .before
 
-sub-t12 : tie.Need-sub-t12
-unfolding startOf flatWork
-sub-t12 c =
-    let s = c .before .before .before .before .before in
-    let r = s .args .self in
-    rw (c .sweep-pairs .ensures) (works-least (r .n) (startOf (r .a) (r .v) (r .m)) (cyclic (r .n)))
+  abbrev checked : tie.Else1
+  checked = first .before .before .before
+
+  abbrev start : tie.Start
+  start = checked .before .before
+
+  abbrev r : Record
+  r = start .args .t1
+
+  rows : workAt (first .unpacked .result) (c .unpacked2 .result) (r .m) ≡ workOf r
+  rows = at-work r _ _ (first .unpacked .ensures) (c .unpacked2 .ensures)
+
+  ready : Ready (r .n) (first .unpacked .result) (c .unpacked2 .result) (r .m)
+  ready = kept-ready r _ _ (first .unpacked .ensures) (c .unpacked2 .ensures) (start .pre)
+
+work-pairs-requires : tie.Need-work-pairs-requires
+work-pairs-requires c κs =
+    let u = c .before .before in
+    let s = start u in
+    (s .pre .size, s .pre .turns, ready u)
+
+least : tie.Need-sub-t18
+unfolding workOf
+least c =
+    let u = c .before .before .before in
+    rw (← (c .work-pairs .ensures ∙ ap (λ w. workPairs (r u .n) w (cyclic (r u .n))) (rows u))) at (works-least (r u .n) (workOf (r u)) (cyclic (r u .n)))
 
 returns-2 : tie.Need-returns-2
-unfolding valueOf acceptedOf sweptOf workedOf workOf withWork flatWork startOf
+unfolding valueOf acceptedOf sweptOf workedOf
 returns-2 c =
-    let s = c .before .before .before .before .before .before in
-    accepted (s .args .self) sweep (s .pre) _ (c .before .before .before .before .before .sweep-refusal .ensures) _ _
-    (c .before .before .before .before .if1 .left)
-    (rw (c .before .sweep-pairs .ensures))
-    (c .with-work .ensures ∙ rw (c .before .sweep-pairs .ensures))
+    let u = c .before .before .before .before in
+    let swept = c .before .work-pairs .ensures ∙ ap (λ w. workPairs (r u .n) w (cyclic (r u .n))) (rows u) in
+    accepted (r u) sweep (start u .pre) _ (checked u .before .sweep-refusal .ensures) _ _ (checked u .if1 .left)
+    (ap (λ (w : Work). Swept (w .m - r u .m)) swept)
+    (c .with-rows .ensures ∙ ap (workedOf (r u)) swept)
 
 pub sweep-spec : {M : Type 1} → statement M
 sweep-spec =
@@ -46,7 +70,9 @@ sweep-spec =
     sweep-refusal-requires
     (λ c κs. search needs)
     returns
-    sweep-pairs-requires
-    sub-t12
+    (λ c κs. search needs)
+    (λ c κs. search needs)
+    work-pairs-requires
+    least
     (λ c κs. search needs)
     returns-2)

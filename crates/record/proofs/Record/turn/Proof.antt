@@ -1,49 +1,71 @@
 -- `record::Record::turn` meets its contract.
-use mathlib.Core.Path.{sym, _∙_}
+use mathlib.Core.Path.{_≡_, sym, ap, _∙_}
 use Prim.Native.Nat.{_-_}
 use native.Mathlib.Omega.{arith}
+use lib.Dec.{ltb}
 use borrow.Author.Needs.{needs}
 use Rattle.ledger.specs.Accepted.{Turns, turn-accepted}
 use Rattle.ledger.specs.Call.{turn}
-use Rattle.record.specs.Done.{withWork}
+use Rattle.ledger.specs.Pairs.{Pair}
 use Rattle.record.specs.Record.{acceptedOf, turnedOf, valueOf, workOf, workedOf}
 use Rattle.record.specs.Turning.{work-turned}
-use Rattle.record.specs.Worked.{flatWork, startOf}
-use Rattle.record.proofs.Outcome.{accepted, refused}
+use Rattle.record.specs.Work.{Work, workPair}
+use Rattle.record.specs.Worked.{Ready, workAt}
+use Rattle.record.specs.declared.Answer.the-variants.{Turned}
+use Rattle.record.specs.declared.Record.{Record}
+use Rattle.record.proofs.Outcome.{accepted, at-work, kept-ready, refused}
 use Rattle.record.proofs.Record.turn.Statement.{statement}
 use Rattle.record.proofs.Record.turn.Tie as tie
 
 returns : tie.Need-returns
 returns c =
     let s = c .before .before .before in
-    refused (s .args .self) (turn (s .args .p) (s .args .q)) (s .pre) _ (c .before .before .turn-refusal .ensures) _ (c .before .if1 .taken) (c .after-refusal .ensures)
+    refused (s .args .t1) (turn (s .args .p) (s .args .q)) (s .pre) _ (c .before .before .turn-refusal .ensures) _ (c .before .if1 .taken) (c .after-refusal .ensures)
 
 -- what the passed checks tell
-turns : (c : tie.Else1) → (let s = c .before .before .args in Turns (s .self .n) (s .self .m) (s .p) (s .q))
+turns : (c : tie.Else1) → (let s = c .before .before .args in Turns (s .t1 .n) (s .t1 .m) (s .p) (s .q))
 turns c = turn-accepted _ _ _ _ (sym (c .before .turn-refusal .ensures) ∙ c .if1 .left)
 
-sub-turn-pair : tie.Need-sub-turn-pair
-sub-turn-pair c = turns (c .before .before) .first
+-- the rows of the record, unpacked
+module _ (c : tie.After-unpacked2) where
+  abbrev first : tie.After-unpacked
+  first = c .before .before .before
 
-sub-turn-pair-2 : tie.Need-sub-turn-pair-2
-sub-turn-pair-2 c = omega (arith, turns (c .before .before) .first, turns (c .before .before) .ordered)
+  abbrev checked : tie.Else1
+  checked = first .before .before .before
 
-turn-pair-requires : tie.Need-turn-pair-requires
-unfolding startOf workOf
-turn-pair-requires c κs =
-    let s = c .before .before .before .before in
-    let t = turns (c .before .before) in
-    (omega (arith, t .first, t .ordered), omega (arith, t .first, t .ordered, t .last), s .pre .size, s .pre .turns, s .pre .work)
+  abbrev start : tie.Start
+  start = checked .before .before
+
+  abbrev r : Record
+  r = start .args .t1
+
+  -- counted from 0
+  abbrev pair : Pair
+  pair = record { p = start .args .p - 1; q = start .args .q - 1 }
+
+  rows : workAt (first .unpacked .result) (c .unpacked2 .result) (r .m) ≡ workOf r
+  rows = at-work r _ _ (first .unpacked .ensures) (c .unpacked2 .ensures)
+
+  ready : Ready (r .n) (first .unpacked .result) (c .unpacked2 .result) (r .m)
+  ready = kept-ready r _ _ (first .unpacked .ensures) (c .unpacked2 .ensures) (start .pre)
+
+work-pair-requires : tie.Need-work-pair-requires
+work-pair-requires c κs =
+    let u = c .before .before in
+    let s = start u in
+    let t = turns (checked u) in
+    (omega (arith, t .first, t .ordered), omega (arith, t .first, t .ordered, t .last), s .pre .size, ready u)
 
 returns-2 : tie.Need-returns-2
-unfolding valueOf acceptedOf turnedOf workedOf workOf withWork flatWork startOf
+unfolding valueOf acceptedOf turnedOf workedOf workOf
 returns-2 c =
-    let s = c .before .before .before .before .before .before in
-    let r = s .args .self in
-    accepted r (turn (s .args .p) (s .args .q)) (s .pre) _ (c .before .before .before .before .before .turn-refusal .ensures) _ _
-    (c .before .before .before .before .if1 .left)
-    (rw (c .before .turn-pair .ensures, work-turned (r .n) (startOf (r .a) (r .v) (r .m)) (record { p = s .args .p - 1; q = s .args .q - 1 })))
-    (c .with-work .ensures ∙ rw (c .before .turn-pair .ensures))
+    let u = c .before .before .before .before in
+    let s = start u in
+    let turned = c .before .work-pair .ensures ∙ ap (λ w. workPair (r u .n) w (pair u)) (rows u) in
+    accepted (r u) (turn (s .args .p) (s .args .q)) (s .pre) _ (checked u .before .turn-refusal .ensures) _ _ (checked u .if1 .left)
+    (ap (λ (w : Work). Turned (ltb (r u .m) (w .m))) turned ∙ ap Turned (work-turned (r u .n) (workOf (r u)) (pair u)))
+    (c .with-rows .ensures ∙ ap (workedOf (r u)) turned)
 
 pub turn-spec : {M : Type 1} → statement M
 turn-spec =
@@ -52,8 +74,10 @@ turn-spec =
     (λ c κs. search needs)
     (λ c κs. search needs)
     returns
-    sub-turn-pair
-    sub-turn-pair-2
-    turn-pair-requires
+    (λ c κs. search needs)
+    (λ c κs. search needs)
+    (λ c. turns (checked (c .before .before)) .first)
+    (λ c. let t = turns (checked (c .before .before)) in omega (arith, t .first, t .ordered))
+    work-pair-requires
     (λ c κs. search needs)
     returns-2)
