@@ -45,6 +45,9 @@ solvable n numbers limit t size e =
     }
 
 -- how many numbers
+pub numbers-few : (n : ℕ) → n ≤ 8 → n * (n + 2) ≤ 80
+numbers-few n h = mul-le-mul {n₁ = n} {m₁ = n + 2} {n₂ = 8} {m₂ = 10} h (omega arith)
+
 pub length-axis : (n : ℕ) (r : Record) (i : ℕ) → n ≤ 8 → length (axisSolution n r i) ≡ n + 2
 unfolding axisSolution
 length-axis n r i h = simp (length-append, length-values, length-take-le n (axisOf r i) (rw length-row h)) (omega arith)
@@ -63,5 +66,4 @@ module _ (n : ℕ) (numbers : List ℤ) (limit t size : ℕ) (s : Solvable n num
   length-solution = rw (length-append, length-axes n _ n channels)
 
   pub length-small : length (solutionOf n numbers limit t) ≤ 83
-  length-small =
-      rw length-solution (omega (arith, mul-le-mul {n₁ = n} {m₁ = n + 2} {n₂ = 8} {m₂ = 10} channels (omega (arith, channels))))
+  length-small = rw length-solution (omega (arith, numbers-few n channels))

@@ -1,12 +1,12 @@
 -- `report::solve` meets its contract.
 use Prim.Native.Nat.{_*_, _≤_}
 use mathlib.Core.Path.{sym, ap}
-use native.Mathlib.Nat.{mul-le-mul}
 use native.Mathlib.Omega.{arith}
 use lib.ListN.{length}
 use lib.Seq.{length-take-le}
 use borrow.Author.Needs.{needs}
 use Rattle.job_table.specs.Held.{jobIn, tableFor}
+use Rattle.limits.specs.Channels.{places}
 use Rattle.job_table.specs.Laws.{channels-held}
 use Rattle.scatter.specs.declared.table.Table.{Table}
 use Rattle.scatter.specs.Entries.{length-padded}
@@ -18,7 +18,7 @@ use Rattle.report.proofs.solve.Statement.{statement}
 use Rattle.report.proofs.solve.Tie as tie
 
 size : (s : tie.Start) → s .args .job .n * s .args .job .n ≤ 64
-size s = let high = channels-held (s .args .job) (s .pre) in mul-le-mul {n₂ = 8} {m₂ = 8} high high
+size s = places _ (channels-held (s .args .job) (s .pre))
 
 entries-within : (c : tie.After-table-of) → (let s = c .before in s .args .job .n * s .args .job .n ≤ length (c .table-of .result .entries))
 unfolding tableFor tableOf

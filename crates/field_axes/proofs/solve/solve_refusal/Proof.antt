@@ -3,10 +3,10 @@ use mathlib.Core.Path.{_≡_, sym, _∙_}
 use Prim.Native.Nat.{_+_, _*_, _≤_}
 use native.Mathlib.Omega.{arith}
 use borrow.Author.Needs.{needs}
-use native.Mathlib.Nat.{mul-le-mul}
 use Rattle.ledger.specs.Accepted.{load-accepted}
 use Rattle.ledger.specs.Call.{load}
 use Rattle.ledger.specs.Refusal.{refusalOf}
+use Rattle.field_axes.specs.Solvable.{numbers-few}
 use Rattle.field_axes.proofs.RunRefusals.{buffer-short, limit-high, limit-low, load-refused, none-refused, tolerance-high}
 use Rattle.field_axes.proofs.solve.solve_refusal.Statement.{statement}
 use Rattle.field_axes.proofs.solve.solve_refusal.Tie as tie
@@ -21,8 +21,8 @@ module _ (c : tie.After-load-refusal) (z : c .load-refusal .result ≡ 0) where
   low : c .before .args .n ≤ 8
   low = load-accepted 0 0 _ _ taken .high
 
-  few : let n = c .before .args .n in n * (n + 2) ≤ 8 * 10
-  few = mul-le-mul {n₁ = c .before .args .n} {m₁ = c .before .args .n + 2} {n₂ = 8} {m₂ = 10} low (omega (arith, low))
+  few : let n = c .before .args .n in n * (n + 2) ≤ 80
+  few = numbers-few _ low
 
 returns-2 : tie.Need-returns-2
 returns-2 c = limit-low _ _ _ _ _ (taken (c .before .before) (c .before .if1 .left)) (c .if2 .taken)
