@@ -24,7 +24,7 @@ use Rattle.record.specs.declared.Answer.the-variants.{NoPair}
 use Rattle.ledger.specs.Pairs.{cyclic}
 use Rattle.rounding.specs.Nearest.{rnd-zero}
 use Rattle.rounding.specs.Rounding.{rnd}
-use Rattle.run.specs.Accepted.{after-accepted, load-accepted, loose-pair-accepted}
+use Rattle.record.specs.Accepted.{after-accepted, load-accepted, loose-pair-accepted}
 use Rattle.record.specs.Run.{noPair, stop}
 use Rattle.record.specs.Running.{run-settled}
 use Rattle.run.specs.Run.{runOf}

@@ -1,9 +1,9 @@
--- A run on rows: the record that they are, and what a sweep makes of it.
+-- A run on rows: the record that holds them, and what a sweep makes of it.
 use mathlib.Core.Path.{_≡_, sym, _∙_}
-use mathlib.Core.Bool.{Bool, true, false, cond}
+use mathlib.Core.Bool.{Bool, true, false}
 use mathlib.Core.List.{List, [], _∷_}
 use mathlib.Core.Logic.{_≢_}
-use Prim.Native.Nat.{ℕ, _+_, _-_, _≤_}
+use Prim.Native.Nat.{ℕ, _+_, _-_, _*_, _/_, _≤_}
 use native.Mathlib.Decide.{ℕ-discrete}
 use native.Mathlib.Nat.{sub-zero}
 use native.Mathlib.Omega.{arith}
@@ -11,25 +11,25 @@ use lib.Dec.{eqb}
 use lib.IntN.{ℤ}
 use borrow.Author.Tests.{eq-eqb, ne-eqb}
 use Rattle.ledger.specs.Call.{loosePair, sweep}
-use Rattle.ledger.specs.Cyclic.{cyclic-pairs}
+use Rattle.ledger.specs.Cyclic.{cyclic-length, cyclic-pairs}
 use Rattle.ledger.specs.Pairs.{Pair, cyclic}
 use Rattle.ledger.specs.Refusal.{refusalOf}
 use Rattle.rotation.specs.Eight.{square-cong, square-of}
 use Rattle.rotation.specs.Shape.{Shaped}
 use Rattle.rotation.specs.Size.{Small}
 use Rattle.rotation.specs.Turn.{at}
+use Rattle.limits.specs.Limits.{toleranceLimit}
+use Rattle.record.specs.Accepted.{loose-pair-accepted, sweep-accepted, turns-suffice}
 use Rattle.record.specs.After.{after-kept}
 use Rattle.record.specs.Fill.{kept-flatOf}
 use Rattle.record.specs.Flat.{entriesOf, flatOf, rowsOf}
-use Rattle.record.specs.Kept.{Kept}
-use Rattle.record.specs.Record.{acceptedOf, afterOf, answerOf, counted, looseOf, refusedOf, sweptOf, valueOf, workOf, workedOf}
-use Rattle.record.specs.Rows.{Holds, heldOf, kept-uncounted}
+use Rattle.record.specs.Record.{acceptedOf, afterOf, answerOf, looseOf, sweptOf, valueOf, workOf, workedOf}
+use Rattle.record.specs.Rows.{Holds, heldOf}
 use Rattle.record.specs.Run.{Ran, noPair, noTurn, runFrom, stop}
 use Rattle.record.specs.Running.{run-settled, run-still, run-spent, run-sweeps}
-use Rattle.record.specs.Turning.{matrix-small, works-least}
+use Rattle.record.specs.Turning.{matrix-small, works-grow, works-least}
 use Rattle.record.specs.Work.{Work, workPair, workPairs}
 use Rattle.record.specs.Worked.{Ready, workAt}
-use Rattle.record.specs.declared.Answer.the-variants.{Refused}
 use Rattle.record.specs.declared.Record.{Record}
 use Rattle.record.specs.declared.run.Outcome.the-variants.{Settled, Still, Spent}
 use Rattle.record.proofs.Search.{same-loose}
@@ -53,108 +53,85 @@ no-more made m h = by (ℕ-discrete made m)
     by (yes e) = rw (eq-eqb made m e, eq-eqb (made - m) 0 (omega arith))
     by (no d) = rw (ne-eqb made m d, ne-eqb (made - m) 0 (omega arith))
 
--- rows a and v of n channels, m turns, and `refused` refused calls
-module _ (n m refused : ℕ) (a v : List (List ℤ)) (matrix : Shaped a) (axes : Shaped v) where
+-- rows a and v of n channels after m turns
+module _ (n m : ℕ) (a v : List (List ℤ)) (h : Holds n m a v) where
   abbrev r : Record
-  r = heldOf n m refused a v
+  r = heldOf n m a v
 
   work-held : workOf r ≡ workAt a v m
   unfolding workOf
-  work-held i = record { a = rows-flat a matrix i; v = rows-flat v axes i; m = m }
+  work-held i = record { a = rows-flat a (h .matrix) i; v = rows-flat v (h .axes) i; m = m }
 
-  pub held-ready : Kept r → Ready n a v m
-  held-ready k = record { kept = rw work-held at (k .work); few = omega (arith, k .turns); matrix = matrix; axes = axes }
+  pub held-ready : Ready n a v m
+  held-ready =
+      record { kept = rw work-held at (h .keeps .work); few = omega (arith, h .keeps .turns); matrix = h .matrix; axes = h .axes }
 
-  pub held-small : Kept r → Small a
-  held-small k = let w = held-ready k in matrix-small n (workAt a v m) (w .kept) (w .few)
+  pub held-small : Small a
+  held-small = matrix-small n (workAt a v m) (held-ready .kept) (held-ready .few)
 
-  pub held-loose : Kept r → (t number : ℕ) → number ≡ refusalOf n 0 (loosePair t)
-      → noPair (cond (eqb number 0) (looseOf (at a) t (cyclic n)) (Refused number)) ≡ noPair (answerOf r (loosePair t))
-  unfolding answerOf valueOf refusalOf
-  held-loose k t number e =
-      rw (e, same-loose n _ (at a) t (cyclic n) (cyclic-pairs n) (λ i j h l. kept-flatOf (at a) i j (omega (arith, h, k .size)) (omega (arith, l, k .size))))
+  held-loose : (t : ℕ) → refusalOf n m (loosePair t) ≡ 0 → noPair (looseOf (at a) t (cyclic n)) ≡ noPair (answerOf r (loosePair t))
+  unfolding answerOf valueOf
+  held-loose t e =
+      rw (eq-eqb (refusalOf n m (loosePair t)) 0 e, same-loose n _ (at a) t (cyclic n) (cyclic-pairs n) (λ i j g l. kept-flatOf (at a) i j (omega (arith, g, h .keeps .size)) (omega (arith, l, h .keeps .size))))
 
   module _ (e : refusalOf n m sweep ≡ 0) (made : ℕ) (a′ v′ : List (List ℤ)) (w : workAt a′ v′ made ≡ workPairs n (workAt a v m) (cyclic n)) where
-    pub swept-leaves : afterOf r sweep ≡ heldOf n made refused a′ v′
+    swept-leaves : afterOf r sweep ≡ heldOf n made a′ v′
     unfolding afterOf acceptedOf sweptOf workedOf
     swept-leaves = rw (eq-eqb (refusalOf n m sweep) 0 e, work-held, ← w)
 
-    pub swept-shaped : Shaped a′ × Shaped v′
-    swept-shaped = rw (← w) at (works-shaped n (workAt a v m) (cyclic n) matrix axes)
+    swept-holds : Holds n made a′ v′
+    swept-holds =
+        let shaped = rw (← w) at (works-shaped n (workAt a v m) (cyclic n) (h .matrix) (h .axes)) in
+        record { keeps = rw swept-leaves at (after-kept r sweep (h .keeps)); matrix = shaped .0; axes = shaped .1 }
 
-    pub swept-idle : noTurn (answerOf r sweep) ≡ eqb made m
+    swept-idle : noTurn (answerOf r sweep) ≡ eqb made m
     unfolding answerOf valueOf sweptOf workedOf noTurn
     swept-idle = rw (eq-eqb (refusalOf n m sweep) 0 e, work-held, ← w) (no-more made m (rw (← w) at (works-least n (workAt a v m) (cyclic n))))
 
-  module _ (f : refusalOf n m sweep ≡ 0 → ⊥) where
-    pub refused-leaves : afterOf r sweep ≡ heldOf n m (counted refused) a v
-    unfolding afterOf refusedOf
-    refused-leaves = rw (ne-eqb (refusalOf n m sweep) 0 f)
+    swept-more : 1 ≤ n → made ≤ m + n * (n - 1) / 2
+    swept-more some = omega (arith, rw (← w) at (works-grow n (workAt a v m) (cyclic n)), cyclic-length n some)
 
-    pub refused-idle : noTurn (answerOf r sweep) ≡ false
-    unfolding answerOf noTurn
-    refused-idle = rw (ne-eqb (refusalOf n m sweep) 0 f)
-
--- from here on the run is z
-pub record Going (n limit t : ℕ) (z : Ran) (a v : List (List ℤ)) (m refused sweeps : ℕ) (idle : Bool) : Type 0 where
-  pub is : z ≡ runFrom (limit - sweeps) sweeps idle t (heldOf n m refused a v)
+-- a run of n channels with a limit and a tolerance t: from here on it is z
+pub record Going (n limit t : ℕ) (z : Ran) (a v : List (List ℤ)) (m sweeps : ℕ) (idle : Bool) : Type 0 where
+  pub is : z ≡ runFrom (limit - sweeps) sweeps idle t (heldOf n m a v)
   pub within : sweeps ≤ limit
-  pub keeps : Kept (heldOf n m refused a v)
-  pub matrix : Shaped a
-  pub axes : Shaped v
+  pub few : m ≤ sweeps * (n * (n - 1) / 2)
+  pub holds : Holds n m a v
 
-pub begun : (n limit t : ℕ) (a v : List (List ℤ)) → Holds n 0 a v → Going n limit t (runFrom limit 0 false t (heldOf n 0 0 a v)) a v 0 0 0 false
-begun n limit t a v h = record { is = rw sub-zero; within = omega arith; keeps = h .keeps; matrix = h .matrix; axes = h .axes }
+pub begun : (n limit t : ℕ) (a v : List (List ℤ)) → Holds n 0 a v → Going n limit t (runFrom limit 0 false t (heldOf n 0 a v)) a v 0 0 false
+begun n limit t a v h = record { is = rw sub-zero; within = omega arith; few = omega arith; holds = h }
 
-module _ (n limit t m refused sweeps : ℕ) (z : Ran) (a v : List (List ℤ)) (idle : Bool) (g : Going n limit t z a v m refused sweeps idle) where
-  abbrev now : Record
-  now = heldOf n m refused a v
+-- on what a run is given no call of it is refused
+module _ (n limit t : ℕ) (some : 1 ≤ n) (sixteen : limit ≤ 16) (tolerance : t ≤ toleranceLimit) where
+  module _ (m sweeps : ℕ) (z : Ran) (a v : List (List ℤ)) (idle : Bool) (g : Going n limit t z a v m sweeps idle) where
+    abbrev now : Record
+    now = heldOf n m a v
 
-  pub going-holds : Holds n m a v
-  going-holds = record { keeps = kept-uncounted n m refused a v (g .keeps); matrix = g .matrix; axes = g .axes }
+    -- the first test: settled tells whether no pair is loose
+    module _ (settled : Bool) (s : settled ≡ noPair (looseOf (at a) t (cyclic n))) where
+      told : settled ≡ noPair (answerOf now (loosePair t))
+      told = s ∙ held-loose n m a v (g .holds) t (loose-pair-accepted n m some t tolerance)
 
-  -- the first test: settled tells whether no pair is loose
-  module _ (number : ℕ) (settled : Bool) (e : number ≡ refusalOf n 0 (loosePair t))
-      (s : settled ≡ noPair (cond (eqb number 0) (looseOf (at a) t (cyclic n)) (Refused number))) where
-    told : settled ≡ noPair (answerOf now (loosePair t))
-    told = s ∙ held-loose n m refused a v (g .matrix) (g .axes) (g .keeps) t number e
+      pub settles : settled ≡ true → stop Settled sweeps now ≡ z
+      settles h = sym (g .is ∙ run-settled (limit - sweeps) sweeps t idle now (sym told ∙ h))
 
-    pub settles : settled ≡ true → stop Settled sweeps now ≡ z
-    settles h = sym (g .is ∙ run-settled (limit - sweeps) sweeps t idle now (sym told ∙ h))
+      module _ (h : settled ≡ false) where
+        loose : noPair (answerOf now (loosePair t)) ≡ false
+        loose = sym told ∙ h
 
-    module _ (h : settled ≡ false) where
-      loose : noPair (answerOf now (loosePair t)) ≡ false
-      loose = sym told ∙ h
+        pub is-still : idle ≡ true → stop Still sweeps now ≡ z
+        is-still i = sym (g .is ∙ run-still (limit - sweeps) sweeps t idle now loose i)
 
-      pub is-still : idle ≡ true → stop Still sweeps now ≡ z
-      is-still i = sym (g .is ∙ run-still (limit - sweeps) sweeps t idle now loose i)
+        pub is-spent : idle ≡ false → sweeps ≡ limit → stop Spent sweeps now ≡ z
+        is-spent i l = sym (g .is ∙ run-spent (limit - sweeps) sweeps t idle now loose i (omega arith))
 
-      pub is-spent : idle ≡ false → sweeps ≡ limit → stop Spent sweeps now ≡ z
-      is-spent i l = sym (g .is ∙ run-spent (limit - sweeps) sweeps t idle now loose i (omega arith))
-
-      module _ (i : idle ≡ false) (l : sweeps ≢ limit) where
-        goes : runFrom (limit - sweeps) sweeps idle t now ≡ runFrom (limit - (sweeps + 1)) (sweeps + 1) (noTurn (answerOf now sweep)) t (afterOf now sweep)
-        goes = run-sweeps (limit - sweeps) sweeps t idle now loose i (limit - (sweeps + 1)) (omega (arith, g .within))
-
-        pub sweeps-on : refusalOf n m sweep ≡ 0 → (made : ℕ) (a′ v′ : List (List ℤ)) → workAt a′ v′ made ≡ workPairs n (workAt a v m) (cyclic n) → Going n limit t z a′ v′ made refused (sweeps + 1) (eqb made m)
-        sweeps-on f made a′ v′ w =
-            let leaves = swept-leaves n m refused a v (g .matrix) (g .axes) f made a′ v′ w in
-            let shaped = swept-shaped n m refused a v (g .matrix) (g .axes) f made a′ v′ w in
+        pub sweeps-on : idle ≡ false → sweeps ≢ limit → (made : ℕ) (a′ v′ : List (List ℤ)) → workAt a′ v′ made ≡ workPairs n (workAt a v m) (cyclic n) → Going n limit t z a′ v′ made (sweeps + 1) (eqb made m)
+        sweeps-on i l made a′ v′ w =
+            let goes = run-sweeps (limit - sweeps) sweeps t idle now loose i (limit - (sweeps + 1)) (omega (arith, g .within)) in
+            let taken = sweep-accepted n m some (turns-suffice n m sweeps (g .holds .keeps .size) (omega (arith, g .within)) (g .few)) in
             record {
-              is = g .is ∙ goes ∙ rw (leaves, swept-idle n m refused a v (g .matrix) (g .axes) f made a′ v′ w);
+              is = g .is ∙ goes ∙ rw (swept-leaves n m a v (g .holds) taken made a′ v′ w, swept-idle n m a v (g .holds) taken made a′ v′ w);
               within = omega (arith, g .within);
-              keeps = rw leaves at (after-kept now sweep (g .keeps));
-              matrix = shaped .0;
-              axes = shaped .1;
-            }
-
-        pub refused-on : (refusalOf n m sweep ≡ 0 → ⊥) → Going n limit t z a v m (counted refused) (sweeps + 1) idle
-        refused-on f =
-            let leaves = refused-leaves n m refused a v (g .matrix) (g .axes) f in
-            record {
-              is = g .is ∙ goes ∙ rw (leaves, refused-idle n m refused a v (g .matrix) (g .axes) f, i);
-              within = omega (arith, g .within);
-              keeps = rw leaves at (after-kept now sweep (g .keeps));
-              matrix = g .matrix;
-              axes = g .axes;
+              few = omega (arith, g .few, swept-more n m a v (g .holds) taken made a′ v′ w some);
+              holds = swept-holds n m a v (g .holds) taken made a′ v′ w;
             }

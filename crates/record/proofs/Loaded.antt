@@ -23,11 +23,11 @@ flat-square x f e = rw e (flat-cong _ _ (λ i j h l. at-eight f i j h l))
 
 module _ (n : ℕ) (numbers : List ℤ) (e : refusalOf 0 0 (load n numbers) ≡ 0) (a v : List (List ℤ))
     (matrix : a ≡ square (inUse n (λ i j. pos units *ℤ matrixOf n numbers i j))) (axes : v ≡ square (inUse n (diagonal (pos whole)))) where
-  load-held : heldOf n 0 0 a v ≡ afterOf fresh (load n numbers)
+  load-held : heldOf n 0 a v ≡ afterOf fresh (load n numbers)
   unfolding afterOf acceptedOf loadedOf fresh
   load-held = rw (eq-eqb (refusalOf 0 0 (load n numbers)) 0 e, flat-square a _ matrix, flat-square v _ axes)
 
-  pub load-holds : (heldOf n 0 0 a v ≡ afterOf fresh (load n numbers)) × Holds n 0 a v
+  pub load-holds : (heldOf n 0 a v ≡ afterOf fresh (load n numbers)) × Holds n 0 a v
   load-holds = (
     load-held,
     record {

@@ -6,6 +6,7 @@ pub mod Kept
 pub mod Done
 pub mod Turning
 pub mod Loading
+pub mod Accepted
 pub mod Order
 pub mod Among
 pub mod Loose

@@ -1,5 +1,5 @@
 -- Rows in place of a record: the record that holds them, and what its calls need of them.
-use mathlib.Core.Path.{_≡_, refl, sym, _∙_}
+use mathlib.Core.Path.{_≡_, sym, _∙_}
 use mathlib.Core.List.{List, [], _∷_}
 use Prim.Native.Nat.{ℕ, suc, _<_}
 use native.Mathlib.Omega.{arith}
@@ -9,31 +9,21 @@ use Rattle.ledger.specs.Axis.{errorOf, same-error}
 use Rattle.rotation.specs.Eight.{eight-cong, eight-of}
 use Rattle.rotation.specs.Shape.{Shaped}
 use Rattle.rotation.specs.Turn.{at}
-use Rattle.record.specs.AxisNumbers.{axesNumbers, axisNumbers, numbers-are}
+use Rattle.record.specs.AxisNumbers.{axisNumbers, numbers-are}
 use Rattle.record.specs.Fill.{kept-flatOf}
 use Rattle.record.specs.Flat.{entriesOf, flatOf, kept}
 use Rattle.record.specs.Kept.{Kept}
-use Rattle.record.specs.Record.{answerOf, axisOf, valueOf, workOf}
 use Rattle.record.specs.declared.Record.{Record}
 
--- the record that holds two arrays of rows
-abbrev pub heldOf : ℕ → ℕ → ℕ → List (List ℤ) → List (List ℤ) → Record
-heldOf n m refused a v = record { n = n; m = m; refused = refused; a = flatOf (at a); v = flatOf (at v) }
+-- the record that holds two arrays of rows, and of which no call was refused
+abbrev pub heldOf : ℕ → ℕ → List (List ℤ) → List (List ℤ) → Record
+heldOf n m a v = record { n = n; m = m; refused = 0; a = flatOf (at a); v = flatOf (at v) }
 
--- matrix and axes of n channels after m turns, as a kept record holds them; the count of refused calls does not matter
+-- matrix and axes of n channels after m turns, as a kept record holds them
 pub record Holds (n m : ℕ) (a v : List (List ℤ)) : Type 0 where
-  pub keeps : Kept (heldOf n m 0 a v)
+  pub keeps : Kept (heldOf n m a v)
   pub matrix : Shaped a
   pub axes : Shaped v
-
-module _ (n m refused : ℕ) (a v : List (List ℤ)) where
-  pub kept-uncounted : Kept (heldOf n m refused a v) → Kept (heldOf n m 0 a v)
-  unfolding workOf
-  kept-uncounted k = record { size = k .size; channels = k .channels; turns = k .turns; work = k .work }
-
-  pub axes-uncounted : axesNumbers (heldOf n m 0 a v) ≡ axesNumbers (heldOf n m refused a v)
-  unfolding axesNumbers axisNumbers answerOf valueOf axisOf
-  axes-uncounted = refl
 
 -- the numbers of axis i + 1, from the rows
 module _ (n m : ℕ) (a v : List (List ℤ)) (h : Holds n m a v) (i : ℕ) (l : i < n) where
@@ -47,7 +37,7 @@ module _ (n m : ℕ) (a v : List (List ℤ)) (h : Holds n m a v) (i : ℕ) (l : 
   unfolding entriesOf at
   row-held = eight-cong (λ j k. kept-flatOf (at v) i j below k) ∙ sym (eight-of (getD v i []) (pos 0) (h .axes .wide i below))
 
-  pub numbers-held : axisNumbers (heldOf n m 0 a v) (suc i) ≡ pos (suc i) ∷ at a i i ∷ pos (errorOf n (at a) m i) ∷ getD v i []
+  pub numbers-held : axisNumbers (heldOf n m a v) (suc i) ≡ pos (suc i) ∷ at a i i ∷ pos (errorOf n (at a) m i) ∷ getD v i []
   numbers-held =
-      numbers-are (heldOf n m 0 a v) i l ∙
+      numbers-are (heldOf n m a v) i l ∙
       (λ k. pos (suc i) ∷ kept-flatOf (at a) i i below below k ∷ pos (error-held k) ∷ row-held k)

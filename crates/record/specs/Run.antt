@@ -53,4 +53,4 @@ runFrom (suc left) sweeps idle t r =
 
 -- how a run ends, without its matrix and axes
 unfoldable pub endOf : Ran → Ended
-endOf z = record { outcome = z .outcome; sweeps = z .sweeps; m = z .last .m; refused = z .last .refused }
+endOf z = record { outcome = z .outcome; sweeps = z .sweeps; m = z .last .m }

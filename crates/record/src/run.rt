@@ -1,22 +1,20 @@
 // A run on rows that the caller lends: the load, the sweeps, and the numbers of the axes. Each by contract what the calls on a record do, which
 // would take the record's 1 KB in and out each time.
 ghost use mathlib.Core.Path.{_≡_};
-ghost use mathlib.Core.Bool.{cond, false};
+ghost use mathlib.Core.Bool.{false};
 ghost use Prim.Native.Nat.{_≤_};
-ghost use lib.Dec.{eqb};
 ghost use Rattle.ledger.specs.Call.{load};
 ghost use Rattle.ledger.specs.Pairs.{cyclic};
 ghost use Rattle.ledger.specs.Refusal.{refusalOf};
+ghost use Rattle.limits.specs.Limits.{toleranceLimit};
 ghost use Rattle.record.specs.AxisNumbers.{axesNumbers};
 ghost use Rattle.record.specs.Flat.{blank};
 ghost use Rattle.record.specs.Record.{afterOf, fresh, looseOf};
 ghost use Rattle.record.specs.Rows.{Holds, heldOf};
 ghost use Rattle.record.specs.Run.{noPair, runFrom, stop};
-ghost use Rattle.record.specs.declared.Answer.the-variants.{Refused};
 ghost use Rattle.rotation.specs.Turn.{at};
 use crate::Answer;
 use crate::load;
-use crate::one_more;
 use crate::query;
 use crate::work;
 
@@ -27,31 +25,27 @@ pub enum Outcome {
     Spent,
 }
 
-// The outcome, how many sweeps were run, and m and the refused calls as they leave them.
+// The outcome, how many sweeps were run, and m as they leave it.
 pub struct Ended {
     pub outcome: Outcome,
     pub sweeps: u64,
     pub m: u64,
-    pub refused: u32,
 }
 
 // The matrix and axes of a fresh record after a load, put into rows of 0.
 pub fn load_rows(matrix: &mut [[i64; 8]; 8], axes: &mut [[i64; 8]; 8], n: usize, numbers: &[i64])
     requires { ⌜ (now matrix ≡ blank) × (now axes ≡ blank) × (refusalOf 0 0 (load n (now numbers)) ≡ 0) ⌝ }
-    ensures { λ _. ⌜ (heldOf n 0 0 (now (matrix .exit)) (now (axes .exit)) ≡ afterOf fresh (load n (now (numbers .entry)))) × Holds n 0 (now (matrix .exit)) (now (axes .exit)) ⌝ }
+    ensures { λ _. ⌜ (heldOf n 0 (now (matrix .exit)) (now (axes .exit)) ≡ afterOf fresh (load n (now (numbers .entry)))) × Holds n 0 (now (matrix .exit)) (now (axes .exit)) ⌝ }
 {
     load::load_matrix(matrix, n, numbers);
     load::load_axes(axes, n);
 }
 
-// Whether a loose-pair call answers none, where `number` is its refusal's number or 0.
-fn is_settled(number: u32, matrix: &[[i64; 8]; 8], n: usize, tolerance: u64) -> bool
+// Whether a loose-pair call answers none.
+fn is_settled(matrix: &[[i64; 8]; 8], n: usize, tolerance: u64) -> bool
     requires { ⌜ n ≤ 8 ⌝ }
-    ensures { λ b. ⌜ b ≡ noPair (cond (eqb number 0) (looseOf (at (now (matrix .entry))) tolerance (cyclic n)) (Refused number)) ⌝ }
+    ensures { λ b. ⌜ b ≡ noPair (looseOf (at (now (matrix .entry))) tolerance (cyclic n)) ⌝ }
 {
-    if number != 0 {
-        return false;
-    }
     let answer = query::loose_pair_of(matrix, n, tolerance);
     if let Answer::NoPair = answer {
         true
@@ -60,7 +54,7 @@ fn is_settled(number: u32, matrix: &[[i64; 8]; 8], n: usize, tolerance: u64) -> 
     }
 }
 
-// Sweeps until no pair is loose, a sweep makes no turn, or the limit is reached.
+// Sweeps until no pair is loose, a sweep makes no turn, or the limit is reached. Sixteen sweeps make at most 448 turns, so that none is refused.
 pub fn run_rows(
     matrix: &mut [[i64; 8]; 8],
     axes: &mut [[i64; 8]; 8],
@@ -68,22 +62,18 @@ pub fn run_rows(
     limit: u64,
     tolerance: u64,
 ) -> Ended
-    requires { ⌜ Holds n 0 (now matrix) (now axes) ⌝ }
-    ensures { λ z. ⌜ (stop (z .outcome) (z .sweeps) (heldOf n (z .m) (z .refused) (now (matrix .exit)) (now (axes .exit))) ≡ runFrom limit 0 false tolerance (heldOf n 0 0 (now (matrix .entry)) (now (axes .entry)))) × Holds n (z .m) (now (matrix .exit)) (now (axes .exit)) ⌝ }
+    requires { ⌜ (1 ≤ n) × (limit ≤ 16) × (tolerance ≤ toleranceLimit) × Holds n 0 (now matrix) (now axes) ⌝ }
+    ensures { λ z. ⌜ (stop (z .outcome) (z .sweeps) (heldOf n (z .m) (now (matrix .exit)) (now (axes .exit))) ≡ runFrom limit 0 false tolerance (heldOf n 0 (now (matrix .entry)) (now (axes .entry)))) × Holds n (z .m) (now (matrix .exit)) (now (axes .exit)) ⌝ }
 {
-    let number = query::loose_pair_refusal(n, tolerance);
     let mut m = 0;
-    let mut refused = 0;
     let mut sweeps = 0;
     let mut idle = false;
     loop {
-        let settled = is_settled(number, matrix, n, tolerance);
-        if settled {
+        if is_settled(matrix, n, tolerance) {
             return Ended {
                 outcome: Outcome::Settled,
                 sweeps,
                 m,
-                refused,
             };
         }
         if idle {
@@ -91,7 +81,6 @@ pub fn run_rows(
                 outcome: Outcome::Still,
                 sweeps,
                 m,
-                refused,
             };
         }
         if sweeps == limit {
@@ -99,17 +88,12 @@ pub fn run_rows(
                 outcome: Outcome::Spent,
                 sweeps,
                 m,
-                refused,
             };
         }
         sweeps += 1;
-        if work::sweep_refusal(n, m) == 0 {
-            let made = work::work_pairs(matrix, axes, n, m);
-            idle = made == m;
-            m = made;
-        } else {
-            refused = one_more(refused);
-        }
+        let made = work::work_pairs(matrix, axes, n, m);
+        idle = made == m;
+        m = made;
     }
 }
 
@@ -121,7 +105,7 @@ pub fn axes_numbers(
     m: u64,
 ) -> [[i64; 11]; 8]
     requires { ⌜ Holds n m (now matrix) (now axes) ⌝ }
-    ensures { λ z. ⌜ z ≡ axesNumbers (heldOf n m 0 (now (matrix .entry)) (now (axes .entry))) ⌝ }
+    ensures { λ z. ⌜ z ≡ axesNumbers (heldOf n m (now (matrix .entry)) (now (axes .entry))) ⌝ }
 {
     let mut numbers = [[0i64; 11]; 8];
     let mut i = 0;

@@ -3,22 +3,21 @@ use mathlib.Core.Path.{_≡_, refl, sym, ap, _∙_}
 use mathlib.Core.Bool.{Bool, false}
 use mathlib.Core.List.{List, [], _∷_, _++_}
 use Prim.Native.Nat.{ℕ, zero, suc, _+_, _-_, _*_, _/_, _<_, _≤_}
-use native.Mathlib.Nat.{add-zero, mul-le-mul, zero-add}
+use native.Mathlib.Nat.{add-zero, zero-add}
 use native.Mathlib.Omega.{arith}
 use lib.IntN.{ℤ}
 use lib.ListN.{length}
 use Rattle.ledger.specs.Accepted as given
 use Rattle.ledger.specs.Call.{Call, axis, load, loosePair, sweep}
 use Rattle.ledger.specs.Cyclic.{cyclic-length}
-use Rattle.limits.specs.Channels.{pairs-twice}
-use Rattle.limits.specs.Limits.{toleranceLimit, turnLimit}
+use Rattle.limits.specs.Limits.{toleranceLimit}
 use Rattle.ledger.specs.Pairs.{cyclic}
 use Rattle.ledger.specs.Refusal.{refusalOf}
+use Rattle.record.specs.Accepted.{after-accepted, loose-pair-accepted, sweep-accepted, turns-suffice}
 use Rattle.record.specs.Loading.{load-refusal-alone}
 use Rattle.record.specs.Record.{acceptedOf, after, afterFrom, afterOf, fresh, loadedOf, sweptOf, workOf, workedOf}
 use Rattle.record.specs.Turning.{works-grow}
 use Rattle.record.specs.declared.Record.{Record}
-use Rattle.run.specs.Accepted.{after-accepted, loose-pair-accepted, sweep-accepted}
 use Rattle.run.specs.Course.{Course, settles, is-still, is-spent, sweeps-on, course}
 use Rattle.run.specs.Run.{runOf}
 use Rattle.record.specs.Run.{Ran}
@@ -79,15 +78,6 @@ module _ (r : Record) (h : 1 ≤ r .n) where
       let e = given.axis-taken (r .n) (r .m) i k (omega arith) in
       let later = axes-accepted (suc i) count (omega arith) (omega arith) in
       ((e, rw (axis-leaves i e) (later .0)), ap (λ x. afterFrom x (axesFrom (suc i) count)) (axis-leaves i e) ∙ later .1)
-
--- the pairs of a sweep, at most 28
-pairs-most : (n : ℕ) → n ≤ 8 → n * (n - 1) / 2 ≤ 28
-pairs-most n h = omega (arith, pairs-twice n h)
-
--- 'sweep with m + n(n−1)/2 > 448' does not come to pass in 16 sweeps
-pub turns-suffice : (n m sweeps : ℕ) → n ≤ 8 → sweeps < 16 → m ≤ sweeps * (n * (n - 1) / 2) → m + n * (n - 1) / 2 ≤ turnLimit
-turns-suffice n m sweeps h l g =
-    omega (arith, g, mul-le-mul {n₁ = suc sweeps} {m₁ = n * (n - 1) / 2} {n₂ = 16} {m₂ = 28} l (pairs-most n h))
 
 -- with n channels and tolerance t, the record after some sweeps
 module _ (n t : ℕ) (low : 1 ≤ n) (high : n ≤ 8) (h : t ≤ toleranceLimit) where

@@ -9,7 +9,7 @@ use Rattle.ledger.specs.Refusal.{matrixOf, refusalOf}
 use Rattle.scatter.specs.Entries.{entries-symmetric, entries-within, length-scatter, table-entries}
 use Rattle.scatter.specs.Table.{entries, scatter, tableOf}
 use Rattle.scatter.specs.declared.sums.Sums.{Sums}
-use Rattle.run.specs.Accepted.{load-accepted}
+use Rattle.record.specs.Accepted.{load-accepted}
 use Rattle.run.specs.Calls.{Allowed}
 
 module _ (n : ℕ) (t : Sums) (low : 2 ≤ n) (high : n ≤ 8) where

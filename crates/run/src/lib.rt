@@ -1,8 +1,6 @@
 // A run of document 01: a fresh record of its own, a load, and the sweeps. The record is kept as rows while it runs.
 use record::run::Ended;
-ghost use mathlib.Core.Path.{_≡_};
-ghost use Rattle.ledger.specs.Call.{load};
-ghost use Rattle.ledger.specs.Refusal.{refusalOf};
+ghost use Rattle.run.specs.Calls.{Allowed};
 ghost use Rattle.run.specs.Done.{RunDone};
 
 // The answer tells how the run ends; into `axes` go the numbers of axes 1 to n.
@@ -13,7 +11,7 @@ pub fn run(
     tolerance: u64,
     axes: &mut [[i64; 11]; 8],
 ) -> Ended
-    requires { ⌜ refusalOf 0 0 (load n (now numbers)) ≡ 0 ⌝ }
+    requires { ⌜ Allowed n (now numbers) limit tolerance ⌝ }
     ensures { λ z. ⌜ RunDone n (now (numbers .entry)) limit tolerance z (now (axes .exit)) ⌝ }
 {
     let mut matrix = [[0i64; 8]; 8];

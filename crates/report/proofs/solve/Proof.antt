@@ -28,7 +28,7 @@ run-requires : tie.Need-run-requires
 unfolding jobIn loadedFor
 run-requires c κs =
     let t = c .before .before .before in
-    rw (t .table-of .ensures) (allowed (jobIn (t .before .args .job)) (t .before .pre .proper) .matrix)
+    rw (t .table-of .ensures) (allowed (jobIn (t .before .args .job)) (t .before .pre .proper))
 
 returns : tie.Need-returns
 unfolding jobIn runFor

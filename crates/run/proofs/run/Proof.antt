@@ -1,9 +1,10 @@
 -- `run::run` meets its contract.
 use mathlib.Core.Path.{refl, ap, _∙_}
 use mathlib.Core.Bool.{false}
+use native.Mathlib.Omega.{arith}
+use Rattle.ledger.specs.Accepted.{load-accepted}
 use Rattle.record.specs.AxisNumbers.{axesNumbers}
 use Rattle.record.specs.Flat.{blank}
-use Rattle.record.specs.Rows.{axes-uncounted}
 use Rattle.record.specs.Run.{Ran, endOf, runFrom}
 use Rattle.run.specs.Run.{runOf}
 use Rattle.run.proofs.run.Statement.{statement}
@@ -11,10 +12,13 @@ use Rattle.run.proofs.run.Tie as tie
 
 load-rows-requires : tie.Need-load-rows-requires
 unfolding blank
-load-rows-requires c κs = (refl, refl, c .before .before .pre)
+load-rows-requires c κs = (refl, refl, c .before .before .pre .matrix)
 
 run-rows-requires : tie.Need-run-rows-requires
-run-rows-requires c κs = c .before .before .load-rows .ensures .1
+run-rows-requires c κs =
+    let loaded = c .before .before in
+    let a = loaded .before .before .before .pre in
+    (omega (arith, load-accepted 0 0 _ _ (a .matrix) .low), a .sweeps, a .tolerance, loaded .load-rows .ensures .1)
 
 axes-numbers-requires : tie.Need-axes-numbers-requires
 axes-numbers-requires c κs = c .before .before .run-rows .ensures .1
@@ -28,7 +32,7 @@ returns c =
     let e = ran .run-rows .ensures .0 ∙ ap (runFrom (s .args .limit) 0 false (s .args .tolerance)) (loaded .load-rows .ensures .0) in
     record {
       ends = ap endOf e;
-      answers = c .axes-numbers .ensures ∙ axes-uncounted _ _ _ _ _ ∙ ap (λ (z : Ran). axesNumbers (z .last)) e;
+      answers = c .axes-numbers .ensures ∙ ap (λ (z : Ran). axesNumbers (z .last)) e;
     }
 
 pub run-spec : {M : Type 1} → statement M

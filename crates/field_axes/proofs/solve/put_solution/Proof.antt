@@ -20,7 +20,7 @@ use Rattle.field_axes.proofs.solve.put_solution.Statement.{statement}
 use Rattle.field_axes.proofs.solve.put_solution.Tie as tie
 
 run-requires : tie.Need-run-requires
-run-requires c κs = c .before .pre .allowed .matrix
+run-requires c κs = c .before .pre .allowed
 
 sweeps : (c : tie.After-run) → c .run .result .sweeps < 2 ^ 63
 unfolding endOf

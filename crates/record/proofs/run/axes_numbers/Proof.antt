@@ -21,7 +21,7 @@ use Rattle.record.proofs.run.axes_numbers.Tie as tie
 
 abbrev Inv-loop : tie.InvT-loop
 Inv-loop matrix axes n m numbers₀ i₀ numbers i =
-    (i ≤ n) × (numbers ≡ front (λ i. axisNumbers (heldOf n m 0 matrix axes) (suc i)) (replicate 11 (pos 0)) i)
+    (i ≤ n) × (numbers ≡ front (λ i. axisNumbers (heldOf n m matrix axes) (suc i)) (replicate 11 (pos 0)) i)
 
 abbrev μ-loop : tie.MeasureT-loop
 μ-loop matrix axes n m numbers₀ i₀ numbers i = n - i
@@ -33,7 +33,7 @@ loop-holds c = (omega arith, refl)
 error-of-requires : tie.Need-error-of-requires Inv-loop μ-loop
 error-of-requires c κs =
     let h = c .before .before .pre in
-    (c .loop-test .taken, h .keeps .size, h .keeps .turns, held-small _ _ _ _ _ (h .matrix) (h .axes) (h .keeps))
+    (c .loop-test .taken, h .keeps .size, h .keeps .turns, held-small _ _ _ _ h)
 
 -- the error that was computed is small
 small : (c : tie.After-error-of Inv-loop μ-loop) → c .error-of .result < 2 ^ 63
@@ -41,7 +41,7 @@ small c =
     let s = c .before .before .before in
     let i = c .before .before .loop .i in
     let l = c .before .loop-test .taken in
-    rw (c .error-of .ensures, ← error-held _ _ _ _ (s .pre) i l) (error-small (heldOf (s .args .n) (s .args .m) 0 (s .args .matrix .now) (s .args .axes .now)) i l (s .pre .keeps))
+    rw (c .error-of .ensures, ← error-held _ _ _ _ (s .pre) i l) (error-small (heldOf (s .args .n) (s .args .m) (s .args .matrix .now) (s .args .axes .now)) i l (s .pre .keeps))
 
 loop-again : tie.Need-loop-again Inv-loop μ-loop
 unfolding at

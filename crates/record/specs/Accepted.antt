@@ -1,17 +1,20 @@
 -- Calls that no refusal applies to, by their arguments and the record's n and m.
 use mathlib.Core.Path.{_≡_}
 use mathlib.Core.List.{List}
-use Prim.Native.Nat.{ℕ, _+_, _-_, _*_, _/_, _≤_}
+use Prim.Native.Nat.{ℕ, suc, _+_, _-_, _*_, _/_, _<_, _≤_}
+use native.Mathlib.Nat.{mul-le-mul}
+use native.Mathlib.Omega.{arith}
 use lib.IntN.{ℤ}
 use lib.Ieee.Bits.{is-true}
 use borrow.Author.Tests.{eq-eqb, le-leb, lt-ltb}
 use Rattle.ledger.specs.Accepted.{Loads, symmetric-of}
 use Rattle.ledger.specs.Call.{Call, load, loosePair, sweep}
+use Rattle.limits.specs.Channels.{pairs-twice}
 use Rattle.limits.specs.Limits.{toleranceLimit, turnLimit}
 use Rattle.ledger.specs.Refusal.{matrixOf, refusalOf, symmetric}
 use Rattle.record.specs.Loading.{loads-within}
 use Rattle.record.specs.Record.{acceptedOf, afterOf}
 use Rattle.record.specs.declared.Record.{Record}
 
 -- the record after such a call
 pub after-accepted : (r : Record) (call : Call) → refusalOf (r .n) (r .m) call ≡ 0 → afterOf r call ≡ acceptedOf r call
@@ -38,3 +41,12 @@ load-accepted n m k numbers l =
       loads-within l,
       is-true (symmetric k (matrixOf k numbers)) (symmetric-of k (matrixOf k numbers) (l .same)),
     )
+
+-- the pairs of a sweep, at most 28
+pairs-most : (n : ℕ) → n ≤ 8 → n * (n - 1) / 2 ≤ 28
+pairs-most n h = omega (arith, pairs-twice n h)
+
+-- 'sweep with m + n(n−1)/2 > 448' does not come to pass in 16 sweeps
+pub turns-suffice : (n m sweeps : ℕ) → n ≤ 8 → sweeps < 16 → m ≤ sweeps * (n * (n - 1) / 2) → m + n * (n - 1) / 2 ≤ turnLimit
+turns-suffice n m sweeps h l g =
+    omega (arith, g, mul-le-mul {n₁ = suc sweeps} {m₁ = n * (n - 1) / 2} {n₂ = 16} {m₂ = 28} l (pairs-most n h))
