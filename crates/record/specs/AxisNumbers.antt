@@ -1,17 +1,18 @@
--- The numbers of an axis: a_ii and r_i, which an axis call answers, and the row beside them. How many they are, and that r_i fits 63 bits.
+-- The numbers of an axis: a_ii and r_i, which an axis call answers, and the row beside them. How many they are, and that r_i is below 2^63.
 use Prim.Native.Nat.{ℕ, suc, _+_, _-_, _^_, _<_, _≤_}
 use mathlib.Core.Path.{_≡_, refl}
 use mathlib.Core.Bool.{Bool, true, false, cond}
 use mathlib.Core.List.{List, [], _∷_, _++_}
 use native.Mathlib.Nat.{le-trans}
 use native.Mathlib.Omega.{arith}
-use borrow.Author.Tests.{eq-eqb, eqb-true, lt-ltb}
+use borrow.Author.Tests.{eq-eqb, lt-ltb}
 use lib.Dec.{eqb, lit≤, ltb}
 use lib.IntN.{ℤ, pos, natAbs}
 use lib.ListN.{getD, length, length-append, replicate, take}
 use lib.Seq.{take-append-add}
 use Rattle.integer.specs.Sum.{sumℕ-≤, sumℕ-const}
-use Rattle.ledger.specs.Accepted.{axis-accepted, axis-taken}
+use Rattle.integer.specs.Tests.{cond-≤}
+use Rattle.ledger.specs.Accepted.{axis-taken}
 use Rattle.ledger.specs.Axis.{errorOf}
 use Rattle.ledger.specs.Call.{axis}
 use Rattle.ledger.specs.Refusal.{refusalOf}
@@ -86,34 +87,6 @@ pub axes-row : (r : Record) (i : ℕ) → i < r .n → i < 8 → getD (axesNumbe
 unfolding axesNumbers
 axes-row r i l h = rw (getD-eight (λ k. cond (ltb k (r .n)) (axisNumbers r (suc k)) (replicate 11 (pos 0))) i [] h, lt-ltb i (r .n) l)
 
--- r_i is below 2^63
-unfoldable pub ErrorFits : Answer → Type 0
-ErrorFits Loaded = Unit
-ErrorFits (Turned made) = Unit
-ErrorFits (Swept made) = Unit
-ErrorFits (Pair p q) = Unit
-ErrorFits NoPair = Unit
-ErrorFits (Axis entry error) = error < 2 ^ 63
-ErrorFits (Refused number) = Unit
-
-module _ (r : Record) (k : Kept r) (i : ℕ) where
-  column : (j : ℕ) → i - 1 < 8 → j < 8 → (test : Bool) → cond test 0 (natAbs (kept (r .a) (i - 1) j)) ≤ widest
-  unfolding workOf
-  column j h l true = omega arith
-  column j h l false =
-      rw (← at-rowsOf (r .a) (i - 1) j h l) (matrix-small (r .n) (workOf r) (k .work) (le-trans (k .turns) (lit≤ tt)) .small (i - 1) j)
-
-  pub error-fits : ErrorFits (answerOf r (axis i))
-  unfolding ErrorFits answerOf valueOf errorOf
-  error-fits = by-test (eqb (refusalOf (r .n) (r .m) (axis i)) 0) refl
-    where
-      by-test : (test : Bool) → eqb (refusalOf (r .n) (r .m) (axis i)) 0 ≡ test → ErrorFits (answerOf r (axis i))
-      by-test true q =
-          let a = axis-accepted (r .n) (r .m) i (eqb-true _ 0 q) in
-          rw q
-          (omega (arith, sumℕ-≤ (r .n) {g = λ j. widest} (λ j l. column j (omega (arith, a .first, a .last, k .size)) (omega (arith, k .size)) (eqb j (i - 1))), sumℕ-const (r .n) widest, k .size, k .turns))
-      by-test false q = rw q tt
-
 -- the numbers of axis i + 1, and that its error fits
 module _ (r : Record) (i : ℕ) (h : i < r .n) where
   taken : eqb (refusalOf (r .n) (r .m) (axis (suc i))) 0 ≡ true
@@ -127,5 +100,11 @@ module _ (r : Record) (i : ℕ) (h : i < r .n) where
   numbers-are = rw (taken, place)
 
   pub error-small : Kept r → errorOf (r .n) (kept (r .a)) (r .m) i < 2 ^ 63
-  unfolding ErrorFits answerOf valueOf
-  error-small k = rw (taken, place) at (error-fits r k (suc i))
+  unfolding errorOf workOf
+  error-small k =
+      omega (arith, sumℕ-≤ (r .n) {g = λ j. widest} (λ j l. cond-≤ (eqb j i) {x = 0} (omega arith) (small j l)), sumℕ-const (r .n) widest, k .size, k .turns)
+    where
+      small : (j : ℕ) → j < r .n → natAbs (kept (r .a) i j) ≤ widest
+      small j l =
+          rw (← at-rowsOf (r .a) i j (omega (arith, h, k .size)) (omega (arith, l, k .size)))
+          (matrix-small (r .n) (workOf r) (k .work) (le-trans (k .turns) (lit≤ tt)) .small i j)

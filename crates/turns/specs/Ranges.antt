@@ -1,12 +1,13 @@
 -- The test values lie in the ranges that choice and turn take: values up to their most, matrices small and symmetric.
 use mathlib.Core.Path.{_≡_, refl, sym, ap, _∙_}
-use mathlib.Core.Bool.{Bool, true, false, cond}
+use mathlib.Core.Bool.{Bool, true, false}
 use Prim.Native.Nat.{ℕ, _+_, _-_, _*_, _/_, _%_, _<_, _≤_, _^_}
 use native.Mathlib.Nat.{mod-lt, add-right-comm}
 use native.Mathlib.Decide.{decLt}
 use native.Mathlib.Omega.{arith}
 use lib.Dec.{eqb, ltb, ltb→lt}
 use lib.IntN.{ℤ, pos, natAbs}
+use Rattle.integer.specs.Tests.{cond-≤}
 use Rattle.integer.specs.Laws.{natAbs-negℤ}
 use Rattle.rotation.specs.Rotation.{signed}
 use Rattle.rotation.specs.Threshold.{threshold, roundedUp, u, w, from-1-to-14}
@@ -15,16 +16,12 @@ use Rattle.rotation.specs.Eight.{at-eight, at-outside}
 use Rattle.rotation.specs.Size.{Small, Symmetric, widest}
 use Rattle.turns.specs.Generator.{sizeFrom, valueOf, offset, rowOf, matrixOf, axesOf}
 
-either : (b : Bool) (x y : ℕ) {n : ℕ} → x ≤ n → y ≤ n → cond b x y ≤ n
-either true x y h k = h
-either false x y h k = k
-
 pub sizeFrom-most : (wide mode most : ℕ) → 3 ≤ most → sizeFrom wide mode most ≤ most
 unfolding sizeFrom
 sizeFrom-most wide mode most h =
-    either (eqb (mode % 4) 0) (wide % 4) _ (omega arith)
-    (either (eqb (mode % 4) 1) (most - wide % 4) _ (omega arith)
-    (either (eqb (mode % 4) 2) (wide % (most + 1)) _ (below wide) (below (wide / 2 ^ (mode / 4 % 62)))))
+    cond-≤ (eqb (mode % 4) 0) {x = wide % 4} (omega arith)
+    (cond-≤ (eqb (mode % 4) 1) {x = most - wide % 4} (omega arith)
+    (cond-≤ (eqb (mode % 4) 2) {x = wide % (most + 1)} (below wide) (below (wide / 2 ^ (mode / 4 % 62)))))
   where
     below : (x : ℕ) → x % (most + 1) ≤ most
     below x = omega (arith, mod-lt x {m = most + 1} (omega arith))

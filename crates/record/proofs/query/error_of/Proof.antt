@@ -1,12 +1,13 @@
 -- `record::query::error_of` meets its contract: before column j the sum is that of the columns below j.
 use mathlib.Core.Path.{_≡_, refl, ap₂}
-use mathlib.Core.Bool.{Bool, true, false, cond}
-use Prim.Native.Nat.{ℕ, _+_, _-_, _*_, _≤_}
+use mathlib.Core.Bool.{cond}
+use Prim.Native.Nat.{_+_, _-_, _*_, _≤_}
 use native.Mathlib.Numerals.{add-one}
 use native.Mathlib.Omega.{arith}
 use lib.Dec.{eqb}
 use lib.IntN.{natAbs}
 use Rattle.integer.specs.Sum.{sumℕ}
+use Rattle.integer.specs.Tests.{cond-≤}
 use Rattle.ledger.specs.Axis.{errorOf}
 use Rattle.rotation.specs.Size.{widest}
 use Rattle.rotation.specs.Turn.{at}
@@ -33,11 +34,7 @@ column c =
     let s = c .before .before .before in
     let i = s .args .i in
     let j = c .before .before .loop .j in
-    rw (c .off-diagonal .ensures) (cond-≤ (eqb j i) (s .pre .3 .small i j))
-  where
-    cond-≤ : (b : Bool) {x w : ℕ} → x ≤ w → cond b 0 x ≤ w
-    cond-≤ true h = omega arith
-    cond-≤ false h = h
+    rw (c .off-diagonal .ensures) (cond-≤ (eqb j i) (omega arith) (s .pre .3 .small i j))
 
 add-sum : tie.Need-add-sum Inv-loop μ-loop
 add-sum c = record { fits = omega (arith, column c) }
