@@ -2,10 +2,11 @@
 use Prim.Native.Nat.{ℕ, _≤_}
 use mathlib.Core.Path.{_≡_}
 use mathlib.Core.Bool.{cond}
-use mathlib.Core.List.{List, _++_}
+use mathlib.Core.List.{List}
 use lib.Dec.{leb}
-use lib.ListN.{length, drop}
+use lib.ListN.{length}
 use Rattle.text.specs.Line.{lineX}
+use Rattle.text.specs.Put.{fitted}
 use Rattle.job.specs.Job.{Answer, Job, accepted, jobOf, refused}
 use Rattle.job.specs.declared.reply.Reply.{Reply}
 use Rattle.job.specs.declared.reply.Reply.the-variants.{Refused, Written}
@@ -22,7 +23,7 @@ module _ (f : Job → List ℕ) where
   -- The lent buffer: the text at its start, 'bytes past the report stay'; 'buffers stay' at a refusal
   unfoldable pub bufferBy : Answer → List ℕ → List ℕ
   bufferBy (refused number line) entry = entry
-  bufferBy (accepted j) entry = cond (leb (length (f j)) (length entry)) (f j ++ drop (length (f j)) entry) entry
+  bufferBy (accepted j) entry = fitted (f j) entry
 
   unfoldable pub bufferOf : List ℕ → List ℕ → List ℕ
   bufferOf text entry = bufferBy (jobOf text) entry

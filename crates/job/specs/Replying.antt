@@ -9,7 +9,7 @@ use borrow.Author.Tests.{le-leb, leb-false, leb-true, lt-leb}
 use lib.Dec.{leb}
 use lib.ListN.{drop, length}
 use Rattle.text.specs.Line.{lineX}
-use Rattle.text.specs.Put.{Put, front-length}
+use Rattle.text.specs.Put.{Put, fitted, front-length}
 use Rattle.job.specs.Job.{Answer, Job, accepted, jobOf, refused}
 use Rattle.job.specs.Reading.{readingOf}
 use Rattle.job.specs.Reply.{Answers, Replies, Short, bufferBy, bufferOf, printedBy, printedOf, replyBy, replyOf}
@@ -21,13 +21,13 @@ module _ (f : Job → List ℕ) where
   -- an accepted job, by its text's length
   module _ (j : Job) (short : length (f j) ≤ 2048) (entry : List ℕ) where
     pub too-short : length entry < length (f j) → Answers f (accepted j) entry entry (Refused 12 0)
-    unfolding replyBy bufferBy Short
+    unfolding replyBy bufferBy fitted Short
     too-short h =
         let test = lt-leb (length (f j)) (length entry) h in
         record { answer = rw test; buffer = rw test; short = short }
 
     pub put-whole : (exit : List ℕ) (r : ℕ) → Put (f j) 0 entry exit r → Answers f (accepted j) entry exit (Written r)
-    unfolding replyBy bufferBy Short
+    unfolding replyBy bufferBy fitted Short
     put-whole exit r p =
         let e = front-length p in
         let test = le-leb (length (f j)) (length entry) (omega (arith, p .within, e)) in
@@ -49,7 +49,7 @@ module _ (f : Job → List ℕ) where
   -- what is printed: of a buffer of 2,048 bytes, never that it is too short
   module _ (entry exit : List ℕ) where
     written-by : (a : Answer) (n : ℕ) → Answers f a entry exit (Written n) → Put (printedBy f a) 0 entry exit n
-    unfolding replyBy bufferBy printedBy
+    unfolding replyBy bufferBy fitted printedBy
     written-by (refused number line) n r = let e = r .answer in let x : _≡_ {A = ℕ} 0 1 = cc in absurd (omega arith)
     written-by (accepted j) n r = by-test (leb (length (f j)) (length entry)) refl (r .answer) (r .buffer)
       where
@@ -60,7 +60,7 @@ module _ (f : Job → List ℕ) where
         by-test false t e g = let x : _≡_ {A = ℕ} 0 1 = cc in absurd (omega arith)
 
     refused-by : (a : Answer) (number line : ℕ) → 2048 ≤ length entry → Answers f a entry exit (Refused number line) → (exit ≡ entry) × (printedBy f a ≡ lineX number line)
-    unfolding replyBy bufferBy printedBy Short
+    unfolding replyBy bufferBy fitted printedBy Short
     refused-by (refused number′ line′) number line h r =
         let e = r .answer in
         let p : number′ ≡ number = cc in

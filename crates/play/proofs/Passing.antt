@@ -11,7 +11,7 @@ use lib.Seq.{length-take-le}
 use Rattle.text.specs.Parts.{split}
 use Rattle.record.specs.Kept.{Kept}
 use Rattle.record.specs.declared.Record.{Record}
-use Rattle.text.specs.Put.{Put, front-length, put-then, same-size}
+use Rattle.text.specs.Put.{Put, fitted, front-length, put-then, same-size}
 use Rattle.play.specs.Buffer.{PlaysAll, bufferOf, outputOf}
 use Rattle.play.specs.Steps.{Reached, printedBy, stepped}
 use Rattle.play.specs.Text.{played, playedFrom}
@@ -75,11 +75,11 @@ module _ (text : List ℕ) (r : Record) (at k : ℕ) (z : Stepped) (e : z ≡ st
 -- The buffer at exit, by whether what the text prints fits: t.
 module _ (text entry : List ℕ) (t : Bool) (q : t ≡ leb (length (played text)) (length entry)) where
   pub too-short : t ≡ false → PlaysAll text entry entry TooShort
-  unfolding outputOf bufferOf
+  unfolding outputOf bufferOf fitted
   too-short e = record { answer = rw (← q, e); buffer = rw (← q, e) }
 
   pub all-written : t ≡ true → {exit : List ℕ} {r : ℕ} → Put (played text) 0 entry exit r → PlaysAll text entry exit (Written r)
-  unfolding outputOf bufferOf
+  unfolding outputOf bufferOf fitted
   all-written e p = record { answer = rw (← q, e, front-length p); buffer = rw (← q, e) (p .bytes) }
 
   pub all-fits : t ≡ true → length (played text) ≤ length entry

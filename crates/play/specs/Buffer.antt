@@ -2,9 +2,10 @@
 use Prim.Native.Nat.{ℕ}
 use mathlib.Core.Path.{_≡_}
 use mathlib.Core.Bool.{cond}
-use mathlib.Core.List.{List, _++_}
+use mathlib.Core.List.{List}
 use lib.Dec.{leb}
-use lib.ListN.{drop, length}
+use lib.ListN.{length}
+use Rattle.text.specs.Put.{fitted}
 use Rattle.play.specs.Text.{played}
 use Rattle.play.specs.declared.Output.{Output}
 use Rattle.play.specs.declared.Output.the-variants.{Written, TooShort}
@@ -15,8 +16,7 @@ outputOf text size = cond (leb (length (played text)) size) (Written (length (pl
 
 -- The buffer: what the text prints at its start, and bytes past it stay; where that is too long, all stay
 unfoldable pub bufferOf : List ℕ → List ℕ → List ℕ
-bufferOf text entry =
-    cond (leb (length (played text)) (length entry)) (played text ++ drop (length (played text)) entry) entry
+bufferOf text entry = fitted (played text) entry
 
 pub record PlaysAll (text entry exit : List ℕ) (r : Output) : Type 0 where
   pub answer : r ≡ outputOf text (length entry)

@@ -2,10 +2,12 @@
 -- and the answer is the place after what was written.
 use Prim.Native.Nat.{ℕ, _+_, _-_, _<_, _≤_}
 use mathlib.Core.Path.{_≡_, sym, _∙_}
+use mathlib.Core.Bool.{cond}
 use mathlib.Core.List.{List, [], _++_, append-assoc, append-nil}
 use native.Mathlib.Nat.{zero-add, add-assoc, add-zero, le-refl}
 use native.Mathlib.Numerals.{add-one}
 use native.Mathlib.Omega.{arith}
+use lib.Dec.{leb}
 use lib.ListN.{length, take, drop, set, getD, length-append, length-drop, take-append-drop, drop-of-length-le}
 use lib.Seq.{take-at, drop-at, drop-drop, length-take-le, take-all, take-length, paste, paste-suc}
 
@@ -13,6 +15,10 @@ use lib.Seq.{take-at, drop-at, drop-drop, length-take-le, take-all, take-length,
 pub record Sized (text : List ℕ) (most r : ℕ) : Type 0 where
   pub exact : r ≡ length text
   pub bounded : r ≤ most
+
+-- A text at the start of a lent buffer, and what stands past it stays; a buffer that is too short for it stays as it is.
+unfoldable pub fitted : List ℕ → List ℕ → List ℕ
+fitted text entry = cond (leb (length text) (length entry)) (text ++ drop (length text) entry) entry
 
 -- At the place 0 the exit is text ++ drop (length text) entry.
 pub record Put {X : Type 0} (text : List X) (at : ℕ) (entry exit : List X) (r : ℕ) : Type 0 where
