@@ -19,19 +19,18 @@ use Rattle.record.specs.Fill.{kept-flatOf}
 use Rattle.record.specs.Flat.{kept}
 use Rattle.record.specs.Loose.{PairOrNone, loose-holds}
 use Rattle.record.specs.Record.{acceptedOf, afterOf, answerOf, fresh, loadedOf, looseOf, valueOf}
-use Rattle.record.specs.Turning.{inUse-inside}
 use Rattle.record.specs.declared.Answer.the-variants.{NoPair}
 use Rattle.ledger.specs.Pairs.{cyclic}
 use Rattle.rounding.specs.Nearest.{rnd-zero}
 use Rattle.rounding.specs.Rounding.{rnd}
 use Rattle.record.specs.Accepted.{after-accepted, load-accepted, loose-pair-accepted}
-use Rattle.record.specs.Run.{noPair, stop}
-use Rattle.record.specs.Running.{run-settled}
-use Rattle.run.specs.Run.{runOf}
-use Rattle.record.specs.declared.run.Outcome.the-variants.{Settled}
 use Rattle.scatter.specs.Samples.{Sample, z, sum, sumsOf}
 use Rattle.scatter.specs.Sums.{scatter-of-samples}
 use Rattle.scatter.specs.Table.{scatter, shift, entries}
+use Rattle.rotation.specs.InUse.{inUse-inside}
+use Rattle.run.specs.Run.{noPair, stop, runOf}
+use Rattle.run.specs.Running.{run-settled}
+use Rattle.run.specs.declared.Outcome.the-variants.{Settled}
 
 abbrev pub zeros : ℕ → List ℤ
 zeros n = replicate (n * n) (pos 0)

@@ -11,10 +11,9 @@ use Rattle.limits.specs.Limits.{toleranceLimit}
 use Rattle.record.specs.AxisNumbers.{axisValues}
 use Rattle.record.specs.Record.{answerOf, axisOf}
 use Rattle.record.specs.declared.Record.{Record}
-use Rattle.run.specs.Run.{runOf}
-use Rattle.record.specs.declared.run.Outcome.{Outcome}
-use Rattle.record.specs.declared.run.Outcome.the-variants.{Settled, Still, Spent}
-use Rattle.record.specs.Run.{Ran}
+use Rattle.run.specs.Run.{runOf, Ran}
+use Rattle.run.specs.declared.Outcome.{Outcome}
+use Rattle.run.specs.declared.Outcome.the-variants.{Settled, Still, Spent}
 
 unfoldable pub outcomeNumber : Outcome → ℕ
 outcomeNumber Settled = 0

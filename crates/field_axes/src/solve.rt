@@ -1,7 +1,7 @@
 // A run and its axes: the refusal, and the numbers.
 use crate::numbers;
 use record::Record;
-use record::run::Outcome;
+use run::Outcome;
 ghost use mathlib.Core.Path.{_≡_};
 ghost use Prim.Native.Nat.{_+_, _*_, _≤_};
 ghost use lib.IntN.{pos};

@@ -1,6 +1,7 @@
 pub mod Call
 pub mod Refusal
 pub mod Pairs
+pub mod Order
 pub mod Ledger
 pub mod Axis
 pub mod Accepted

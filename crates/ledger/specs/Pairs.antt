@@ -1,5 +1,5 @@
 -- Document 01, 'Sweep': the pairs (1,2), (1,3) .. (1,n), (2,3) .. (n−1,n) in that order. Indices count from 0.
-use Prim.Native.Nat.{ℕ, zero, suc, _+_, _-_}
+use Prim.Native.Nat.{ℕ, zero, suc, _-_}
 use mathlib.Core.List.{List, [], _∷_, _++_}
 
 pub record Pair : Type 0 where

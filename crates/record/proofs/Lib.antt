@@ -1,15 +1,8 @@
-mod Axes
-mod Checks
-mod Filled
-mod Going
+pub mod FlatFilled
 mod Handed
 mod LentCall
 mod LentContract
-mod Loaded
 pub mod Outcome
 mod Parameters
-mod Search
+pub mod Search
 mod Steps
-mod Sweep
-mod Told
-mod Worked

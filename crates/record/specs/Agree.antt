@@ -20,12 +20,14 @@ use Rattle.rotation.specs.Rotation.{rotationOf}
 use Rattle.rotation.specs.Turn.{at, turnMatrix, turnAxes}
 use Rattle.rotation.specs.declared.choice.Choice.{Choice}
 use Rattle.rotation.specs.declared.choice.Choice.the-variants.{NoTurn, Turn}
+use Rattle.sweep.specs.Kept.{KeptWork}
+use Rattle.rotation.specs.InUse.{at-array, inUse-inside}
+use Rattle.sweep.specs.Turning.{work-keeps}
+use Rattle.sweep.specs.Work.{Work, chosen, workBy, workPair, workPairs}
 use Rattle.record.specs.Fill.{at-rowsOf, kept-flatOf}
 use Rattle.record.specs.Flat.{kept}
-use Rattle.record.specs.Kept.{Kept, KeptWork}
+use Rattle.record.specs.Kept.{Kept}
 use Rattle.record.specs.Record.{acceptedOf, afterOf, loadedOf, refusedOf, sweptOf, turnedOf, workOf, workedOf}
-use Rattle.record.specs.Turning.{at-array, inUse-inside, work-keeps}
-use Rattle.record.specs.Work.{Work, chosen, workBy, workPair, workPairs}
 use Rattle.record.specs.declared.Record.{Record}
 
 -- work and a ledger's state, below n

@@ -5,7 +5,8 @@ use Prim.Native.Nat.{ℕ, _+_, _*_, _/_, _%_, _<_}
 use native.Mathlib.Omega.{arith}
 use lib.IntN.{ℤ, pos}
 use Rattle.integer.specs.Tabulate.{getD-tabulate}
-use Rattle.rotation.specs.Eight.{at-eight}
+use Rattle.rotation.specs.Eight.{at-eight, shaped-square}
+use Rattle.rotation.specs.Shape.{Shaped}
 use Rattle.rotation.specs.Turn.{at}
 use Rattle.record.specs.Flat.{kept, entriesOf, rowsOf, flatOf}
 
@@ -22,3 +23,7 @@ kept-flatOf f i j h k = getD-tabulate 64 (λ k. f (k / 8) (k % 8)) (8 * i + j) (
 pub at-rowsOf : (a : List ℤ) (i j : ℕ) → i < 8 → j < 8 → at (rowsOf a) i j ≡ kept a i j
 unfolding rowsOf entriesOf
 at-rowsOf a i j h k = at-eight (kept a) i j h k
+
+pub shaped-rows : (a : List ℤ) → Shaped (rowsOf a)
+unfolding rowsOf entriesOf
+shaped-rows a = shaped-square (kept a)

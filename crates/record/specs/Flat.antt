@@ -2,7 +2,7 @@
 use Prim.Native.Nat.{ℕ, _+_, _*_, _/_, _%_}
 use mathlib.Core.List.{List}
 use lib.IntN.{ℤ, pos}
-use lib.ListN.{getD, replicate}
+use lib.ListN.{getD}
 use Rattle.integer.specs.Matrix.{Matrix}
 use Rattle.integer.specs.Tabulate.{tabulate}
 use Rattle.rotation.specs.Turn.{eight}
@@ -17,10 +17,6 @@ entriesOf a i = eight (kept a i)
 
 unfoldable pub rowsOf : List ℤ → List (List ℤ)
 rowsOf a = eight (entriesOf a)
-
--- rows of 0
-unfoldable pub blank : List (List ℤ)
-blank = replicate 8 (replicate 8 (pos 0))
 
 -- the flat list of a matrix
 unfoldable pub flatOf : Matrix → List ℤ

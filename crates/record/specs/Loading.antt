@@ -18,11 +18,11 @@ use Rattle.limits.specs.Limits.{entryLimit, units, whole}
 use Rattle.ledger.specs.Refusal.{matrixOf, refusalOf, within}
 use Rattle.ledger.specs.Sound.{matrixBound, axesBound}
 use Rattle.rotation.specs.Turn.{at}
+use Rattle.rotation.specs.InUse.{inUse, Use, inside, outside, use-of, at-square, inUse-inside, inUse-outside, inUse-symmetric}
 use Rattle.record.specs.Fill.{kept-flatOf}
 use Rattle.record.specs.Flat.{kept, entriesOf, rowsOf, flatOf}
 use Rattle.record.specs.Kept.{Kept}
-use Rattle.record.specs.Record.{inUse, loadedOf, workOf}
-use Rattle.record.specs.Turning.{Use, inside, outside, use-of, at-square, inUse-inside, inUse-outside, inUse-symmetric}
+use Rattle.record.specs.Record.{loadedOf, workOf}
 use Rattle.record.specs.declared.Record.{Record}
 
 -- a load's refusal is of its arguments alone

@@ -1,6 +1,6 @@
 -- Document 01, 'The record and its calls': what each call answers, and the record that it leaves.
 use Prim.Native.Nat.{ℕ, suc, _+_, _-_}
-use mathlib.Core.Bool.{cond, _&&_}
+use mathlib.Core.Bool.{cond}
 use mathlib.Core.List.{List, [], _∷_}
 use lib.Dec.{eqb, ltb}
 use lib.IntN.{ℤ, pos, natAbs, _*ℤ_}
@@ -11,9 +11,10 @@ use Rattle.ledger.specs.Call.{Call, load, turn, sweep, loosePair, axis}
 use Rattle.limits.specs.Limits.{units, whole}
 use Rattle.ledger.specs.Pairs.{Pair, cyclic}
 use Rattle.ledger.specs.Refusal.{matrixOf, refusalOf}
+use Rattle.rotation.specs.InUse.{inUse}
 use Rattle.rotation.specs.Turn.{at}
+use Rattle.sweep.specs.Work.{Work, chosen, isTurn, workPair, workPairs}
 use Rattle.record.specs.Flat.{kept, entriesOf, rowsOf, flatOf}
-use Rattle.record.specs.Work.{Work, chosen, isTurn, workPair, workPairs}
 use Rattle.record.specs.declared.Record.{Record}
 use Rattle.record.specs.declared.Answer.{Answer}
 use Rattle.record.specs.declared.Answer.the-variants.{Loaded, Turned, Swept, Pair as PairIs, NoPair, Axis, Refused}
@@ -29,10 +30,6 @@ counted refused = cond (ltb refused 4294967295) (refused + 1) refused
 -- A refusal: the record changes only in its refused-call count
 unfoldable pub refusedOf : Record → Record
 refusedOf r = record { n = r .n; m = r .m; refused = counted (r .refused); a = r .a; v = r .v }
-
--- x in the n by n entries in use, and 0 elsewhere
-unfoldable pub inUse : ℕ → Matrix → Matrix
-inUse n x i j = cond (ltb i n && ltb j n) (x i j) (pos 0)
 
 -- Kept entries are these times 1024, v is 2^30 on the diagonal and 0 elsewhere, m = 0
 unfoldable pub loadedOf : Record → ℕ → List ℤ → Record

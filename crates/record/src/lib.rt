@@ -1,17 +1,14 @@
 // The record and its calls: one matrix with its axes, the turns made of it, and the count of refused calls.
 ghost use Rattle.ledger.specs.Call.{axis, load, loosePair, sweep, turn};
+ghost use Rattle.sweep.specs.Worked.{workAt};
 ghost use Rattle.record.specs.Done.{AxisDone, Done, Fresh};
 ghost use Rattle.record.specs.Kept.{Kept};
 ghost use Rattle.record.specs.Record.{counted, refusedOf, workedOf};
-ghost use Rattle.record.specs.Worked.{workAt};
 ghost use mathlib.Core.Path.{_≡_};
 
 pub mod lent;
-mod load;
-mod query;
+pub mod query;
 mod rows;
-pub mod run;
-mod work;
 
 pub use load::load_refusal;
 
@@ -66,13 +63,13 @@ fn one_more(refused: u32) -> u32
 impl Record {
     pub const ENTRY_LIMIT: i64 = limits::ENTRY_LIMIT as i64;
 
-    pub const TOLERANCE_LIMIT: u64 = 1048576;
+    pub const TOLERANCE_LIMIT: u64 = limits::TOLERANCE_LIMIT;
 
-    pub const TURN_LIMIT: u64 = 448;
+    pub const TURN_LIMIT: u64 = limits::TURN_LIMIT;
 
-    pub const UNITS: i64 = 1024;
+    pub const UNITS: i64 = limits::UNITS;
 
-    pub const WHOLE: i64 = 1073741824;
+    pub const WHOLE: i64 = limits::WHOLE;
 
     pub const COUNT_LIMIT: u32 = 4294967295;
 
@@ -145,7 +142,7 @@ impl Record {
     {
         let n = self.n;
         let m = self.m;
-        let number = work::turn_refusal(n, m, p, q);
+        let number = sweep::turn_refusal(n, m, p, q);
         if number != 0 {
             return Step {
                 answer: Answer::Refused(number),
@@ -154,7 +151,7 @@ impl Record {
         }
         let mut matrix = rows::unpacked(&self.a);
         let mut axes = rows::unpacked(&self.v);
-        let made = work::work_pair(&mut matrix, &mut axes, n, m, p - 1, q - 1);
+        let made = sweep::work_pair(&mut matrix, &mut axes, n, m, p - 1, q - 1);
         Step {
             answer: Answer::Turned(m < made),
             next: self.with_rows(matrix, axes, made),
@@ -167,7 +164,7 @@ impl Record {
     {
         let n = self.n;
         let m = self.m;
-        let number = work::sweep_refusal(n, m);
+        let number = sweep::sweep_refusal(n, m);
         if number != 0 {
             return Step {
                 answer: Answer::Refused(number),
@@ -176,7 +173,7 @@ impl Record {
         }
         let mut matrix = rows::unpacked(&self.a);
         let mut axes = rows::unpacked(&self.v);
-        let made = work::work_pairs(&mut matrix, &mut axes, n, m);
+        let made = sweep::work_pairs(&mut matrix, &mut axes, n, m);
         Step {
             answer: Answer::Swept(made - m),
             next: self.with_rows(matrix, axes, made),

@@ -1,7 +1,6 @@
 // What the queries find: a loose pair, and the error of an axis.
 ghost use mathlib.Core.Path.{_≡_};
 ghost use mathlib.Core.Bool.{cond};
-ghost use mathlib.Core.List.{_∷_};
 ghost use Prim.Native.Nat.{_<_, _≤_};
 ghost use lib.Dec.{eqb};
 ghost use lib.IntN.{natAbs};
@@ -92,23 +91,4 @@ pub fn error_of(a: &[[i64; 8]; 8], n: usize, m: u64, i: usize) -> u64
         j += 1;
     }
     sum + (7 * m + 1) / 2
-}
-
-// Three numbers, and a row after them.
-pub fn numbers_of(number: i64, entry: i64, error: i64, row: [i64; 8]) -> [i64; 11]
-    ensures { λ r. ⌜ r ≡ number ∷ entry ∷ error ∷ row ⌝ }
-{
-    [
-        number,
-        entry,
-        error,
-        row[0],
-        row[1],
-        row[2],
-        row[3],
-        row[4],
-        row[5],
-        row[6],
-        row[7],
-    ]
 }

@@ -5,7 +5,7 @@ use lib.IntN.{ℤ}
 use Rattle.job.specs.Job.{Job}
 use Rattle.job_table.specs.Held.{tableFor}
 use Rattle.record.specs.AxisNumbers.{axesNumbers}
-use Rattle.record.specs.Run.{endOf}
+use Rattle.run.specs.Run.{endOf}
 use Rattle.report.specs.Report.{runFor}
 use Rattle.report.specs.declared.Solved.{Solved}
 

@@ -3,7 +3,7 @@ mod lines;
 
 use job::Job;
 use job::reply::Reply;
-use record::run::Ended;
+use run::Ended;
 ghost use Rattle.job.specs.Job.{accepted};
 ghost use Rattle.job.specs.Reply.{Answers, Replies, printedOf};
 ghost use Rattle.job_table.specs.Held.{Held, jobIn};

@@ -5,6 +5,7 @@ pub mod Rotation
 pub mod Turn
 pub mod Place
 pub mod Eight
+pub mod InUse
 pub mod Stored
 pub mod Shape
 pub mod Size

@@ -16,11 +16,10 @@ use Rattle.ledger.specs.Refusal.{refusalOf}
 use Rattle.record.specs.Accepted.{after-accepted, loose-pair-accepted, sweep-accepted, turns-suffice}
 use Rattle.record.specs.Loading.{load-refusal-alone}
 use Rattle.record.specs.Record.{acceptedOf, after, afterFrom, afterOf, fresh, loadedOf, sweptOf, workOf, workedOf}
-use Rattle.record.specs.Turning.{works-grow}
 use Rattle.record.specs.declared.Record.{Record}
+use Rattle.sweep.specs.Turning.{works-grow}
 use Rattle.run.specs.Course.{Course, settles, is-still, is-spent, sweeps-on, course}
-use Rattle.run.specs.Run.{runOf}
-use Rattle.record.specs.Run.{Ran}
+use Rattle.run.specs.Run.{runOf, Ran}
 
 -- what a run is for: a matrix that is not refused, a sweep limit of at most 16, a tolerance within its range
 pub record Allowed (n : ℕ) (numbers : List ℤ) (limit t : ℕ) : Type 0 where

@@ -11,10 +11,9 @@ use Rattle.record.specs.After.{after-kept, fresh-kept}
 use Rattle.record.specs.Kept.{Kept}
 use Rattle.record.specs.Record.{afterOf, answerOf, fresh}
 use Rattle.record.specs.declared.Record.{Record}
-use Rattle.record.specs.Run.{Ran, noPair, noTurn, runFrom, stop, tried}
-use Rattle.run.specs.Run.{runOf}
-use Rattle.record.specs.declared.run.Outcome.{Outcome}
-use Rattle.record.specs.declared.run.Outcome.the-variants.{Settled, Still, Spent}
+use Rattle.run.specs.Run.{Ran, noPair, noTurn, runFrom, stop, tried, runOf}
+use Rattle.run.specs.declared.Outcome.{Outcome}
+use Rattle.run.specs.declared.Outcome.the-variants.{Settled, Still, Spent}
 
 -- with tolerance t: sweeps left to the limit, sweeps run, whether the last one made no turn, the record, and how the run ends
 pub data Course (t : ℕ) : ℕ → ℕ → Bool → Record → Ran → Type 0 where

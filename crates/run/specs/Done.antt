@@ -4,9 +4,8 @@ use mathlib.Core.List.{List}
 use Prim.Native.Nat.{ℕ}
 use lib.IntN.{ℤ}
 use Rattle.record.specs.AxisNumbers.{axesNumbers}
-use Rattle.record.specs.Run.{endOf}
-use Rattle.record.specs.declared.run.Ended.{Ended}
-use Rattle.run.specs.Run.{runOf}
+use Rattle.run.specs.Run.{endOf, runOf}
+use Rattle.run.specs.declared.Ended.{Ended}
 
 pub record RunDone (n : ℕ) (numbers : List ℤ) (limit t : ℕ) (z : Ended) (axes : List (List ℤ)) : Type 0 where
   pub ends : z ≡ endOf (runOf n numbers limit t)

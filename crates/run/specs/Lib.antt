@@ -1,4 +1,6 @@
 pub mod Run
+pub mod Running
+pub mod Rows
 pub mod Done
 pub mod Course
 pub mod Calls

@@ -1,7 +1,22 @@
 // A run of document 01: a fresh record of its own, a load, and the sweeps. The record is kept as rows while it runs.
-use record::run::Ended;
+mod rows;
+
 ghost use Rattle.run.specs.Calls.{Allowed};
 ghost use Rattle.run.specs.Done.{RunDone};
+
+// How a run ends.
+pub enum Outcome {
+    Settled,
+    Still,
+    Spent,
+}
+
+// The outcome, how many sweeps were run, and m as they leave it.
+pub struct Ended {
+    pub outcome: Outcome,
+    pub sweeps: u64,
+    pub m: u64,
+}
 
 // The answer tells how the run ends; into `axes` go the numbers of axes 1 to n.
 pub fn run(
@@ -16,8 +31,8 @@ pub fn run(
 {
     let mut matrix = [[0i64; 8]; 8];
     let mut v = [[0i64; 8]; 8];
-    record::run::load_rows(&mut matrix, &mut v, n, numbers);
-    let ended = record::run::run_rows(&mut matrix, &mut v, n, limit, tolerance);
-    *axes = record::run::axes_numbers(&matrix, &v, n, ended.m);
+    rows::load_rows(&mut matrix, &mut v, n, numbers);
+    let ended = rows::run_rows(&mut matrix, &mut v, n, limit, tolerance);
+    *axes = rows::axes_numbers(&matrix, &v, n, ended.m);
     ended
 }

@@ -14,10 +14,10 @@ use Rattle.job.specs.Replying.{put-whole, too-short}
 use Rattle.job_table.specs.Held.{jobIn}
 use Rattle.job_table.specs.Laws.{channels-held, samples-few, samples-held}
 use Rattle.record.specs.AxisNumbers.{axesNumbers}
-use Rattle.record.specs.Run.{endOf}
-use Rattle.record.specs.declared.run.Ended.{Ended}
 use Rattle.text.specs.Put.{Sized}
 use Rattle.text.specs.Rows.{Wide}
+use Rattle.run.specs.Run.{endOf}
+use Rattle.run.specs.declared.Ended.{Ended}
 use Rattle.report.specs.Lines.{textOf, headOf}
 use Rattle.report.specs.Report.{reportOf, runFor}
 use Rattle.report.proofs.Bounds.{sweeps-most, turns-most}

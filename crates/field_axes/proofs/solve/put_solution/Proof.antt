@@ -8,11 +8,10 @@ use mir.Facts.{toZ-ofZ, toZ-pos}
 use borrow.Author.Needs.{needs}
 use Rattle.integer.specs.Word.{held}
 use Rattle.record.specs.AxisNumbers.{length-axes-row}
-use Rattle.record.specs.Run.{endOf}
 use Rattle.run.specs.Calls.{run-calls}
 use Rattle.run.specs.Course.{run-ends, run-kept}
-use Rattle.run.specs.Run.{runOf}
 use Rattle.text.specs.Put.{put-then, same-size}
+use Rattle.run.specs.Run.{endOf, runOf}
 use Rattle.field_axes.specs.Solution.{solution, solutionOf}
 use Rattle.field_axes.specs.Solvable.{channels}
 use Rattle.field_axes.proofs.Following.{used-axes}

@@ -3,10 +3,10 @@ use mathlib.Core.Path.{refl, sym, _∙_}
 use borrow.Author.Needs.{needs}
 use Rattle.ledger.specs.Accepted.{Loads, load-accepted}
 use Rattle.ledger.specs.Call.{load}
-use Rattle.record.specs.Flat.{blank}
+use Rattle.load.specs.Blank.{blank}
 use Rattle.record.specs.Loading.{load-refusal-alone, loads-within}
 use Rattle.record.specs.Record.{acceptedOf, loadedOf, valueOf}
-use Rattle.record.proofs.Loaded.{flat-square}
+use Rattle.record.proofs.FlatFilled.{flat-square}
 use Rattle.record.proofs.Outcome.{accepted, refused}
 use Rattle.record.proofs.Record.load.Statement.{statement}
 use Rattle.record.proofs.Record.load.Tie as tie

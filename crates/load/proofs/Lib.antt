@@ -1,0 +1,3 @@
+mod Axes
+mod Checks
+pub mod Filled

@@ -1,0 +1,2 @@
+pub mod Sweep
+mod Worked

@@ -1,0 +1,4 @@
+pub mod Work
+pub mod Kept
+pub mod Turning
+pub mod Worked
