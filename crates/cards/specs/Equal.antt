@@ -17,9 +17,7 @@ use Rattle.ledger.specs.Refusal.{matrixOf, refusalOf}
 use Rattle.limits.specs.Limits.{toleranceLimit, units}
 use Rattle.record.specs.Fill.{kept-flatOf}
 use Rattle.record.specs.Flat.{kept}
-use Rattle.record.specs.Loose.{PairOrNone, loose-holds}
-use Rattle.record.specs.Record.{acceptedOf, afterOf, answerOf, fresh, loadedOf, looseOf, valueOf}
-use Rattle.record.specs.declared.Answer.the-variants.{NoPair}
+use Rattle.record.specs.Record.{acceptedOf, afterOf, answerOf, fresh, loadedOf, valueOf}
 use Rattle.ledger.specs.Pairs.{cyclic}
 use Rattle.rounding.specs.Nearest.{rnd-zero}
 use Rattle.rounding.specs.Rounding.{rnd}
@@ -31,6 +29,8 @@ use Rattle.rotation.specs.InUse.{inUse-inside}
 use Rattle.run.specs.Run.{noPair, stop, runOf}
 use Rattle.run.specs.Running.{run-settled}
 use Rattle.run.specs.declared.Outcome.the-variants.{Settled}
+use Rattle.query.specs.Loose.{PairOrNone, loose-holds, looseOf}
+use Rattle.query.specs.declared.Answer.the-variants.{NoPair}
 
 abbrev pub zeros : ℕ → List ℤ
 zeros n = replicate (n * n) (pos 0)

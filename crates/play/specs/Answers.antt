@@ -7,12 +7,12 @@ use lib.IntN.{ℤ}
 use lib.ListN.{length, take, drop, replicate}
 use Rattle.ledger.specs.Call.{Call}
 use Rattle.record.specs.Record.{afterOf, answerOf}
-use Rattle.record.specs.declared.Answer.{Answer}
-use Rattle.record.specs.declared.Answer.the-variants.{Loaded, Turned, Swept, Pair, NoPair, Axis, Refused}
 use Rattle.record.specs.declared.Record.{Record}
 use Rattle.text.specs.Decimal.{digits, number}
 use Rattle.text.specs.Line.{line}
 use Rattle.text.specs.Put.{Put}
+use Rattle.query.specs.declared.Answer.{Answer}
+use Rattle.query.specs.declared.Answer.the-variants.{Loaded, Turned, Swept, Pair, NoPair, Axis, Refused}
 use Rattle.play.specs.Played.{rowOf}
 use Rattle.play.specs.declared.answer.Printed.{Printed}
 

@@ -9,9 +9,9 @@ use lib.ListN.{replicate}
 use Rattle.ledger.specs.Call.{Call, load, turn, sweep, loosePair, axis}
 use Rattle.record.specs.Kept.{Kept}
 use Rattle.record.specs.Record.{afterOf, answerOf, axisOf}
-use Rattle.record.specs.declared.Answer.the-variants.{Loaded}
 use Rattle.record.specs.declared.Record.{Record}
 use Rattle.record.specs.declared.Step.{Step}
+use Rattle.query.specs.declared.Answer.the-variants.{Loaded}
 use Rattle.play.specs.declared.played.Played.{Played}
 
 -- row i of v, of an axis call

@@ -4,5 +4,4 @@ mod LentCall
 mod LentContract
 pub mod Outcome
 mod Parameters
-pub mod Search
 mod Steps

@@ -11,13 +11,13 @@ use Rattle.ledger.specs.Refusal.{refusalOf}
 use Rattle.rotation.specs.Size.{Small}
 use Rattle.sweep.specs.Turning.{matrix-small}
 use Rattle.sweep.specs.Worked.{Ready, workAt}
+use Rattle.query.specs.declared.Answer.{Answer}
+use Rattle.query.specs.declared.Answer.the-variants.{Refused}
 use Rattle.record.specs.After.{after-kept}
 use Rattle.record.specs.Done.{Done}
 use Rattle.record.specs.Flat.{rowsOf}
 use Rattle.record.specs.Kept.{Kept}
 use Rattle.record.specs.Record.{acceptedOf, afterOf, answerOf, refusedOf, valueOf, workOf}
-use Rattle.record.specs.declared.Answer.{Answer}
-use Rattle.record.specs.declared.Answer.the-variants.{Refused}
 use Rattle.record.specs.declared.Record.{Record}
 use Rattle.record.specs.Fill.{shaped-rows}
 

@@ -19,12 +19,12 @@ use Rattle.ledger.specs.Refusal.{refusalOf}
 use Rattle.rotation.specs.Eight.{front, getD-eight, length-eight}
 use Rattle.rotation.specs.Size.{widest}
 use Rattle.sweep.specs.Turning.{matrix-small}
+use Rattle.query.specs.declared.Answer.{Answer}
+use Rattle.query.specs.declared.Answer.the-variants.{Loaded, Turned, Swept, Pair, NoPair, Axis, Refused}
 use Rattle.record.specs.Fill.{at-rowsOf}
 use Rattle.record.specs.Flat.{entriesOf, kept}
 use Rattle.record.specs.Kept.{Kept}
 use Rattle.record.specs.Record.{answerOf, axisOf, valueOf, workOf}
-use Rattle.record.specs.declared.Answer.{Answer}
-use Rattle.record.specs.declared.Answer.the-variants.{Loaded, Turned, Swept, Pair, NoPair, Axis, Refused}
 use Rattle.record.specs.declared.Record.{Record}
 
 -- a_ii and r_i; of any other answer 0 and 0

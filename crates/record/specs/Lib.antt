@@ -5,8 +5,6 @@ pub mod Kept
 pub mod Done
 pub mod Loading
 pub mod Accepted
-pub mod Among
-pub mod Loose
 pub mod AxisNumbers
 pub mod After
 pub mod Agree

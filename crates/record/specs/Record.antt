@@ -1,23 +1,24 @@
 -- Document 01, 'The record and its calls': what each call answers, and the record that it leaves.
-use Prim.Native.Nat.{ℕ, suc, _+_, _-_}
+use Prim.Native.Nat.{ℕ, _+_, _-_}
 use mathlib.Core.Bool.{cond}
 use mathlib.Core.List.{List, [], _∷_}
 use lib.Dec.{eqb, ltb}
-use lib.IntN.{ℤ, pos, natAbs, _*ℤ_}
+use lib.IntN.{ℤ, pos, _*ℤ_}
 use lib.ListN.{replicate}
-use Rattle.integer.specs.Matrix.{Matrix, diagonal}
+use Rattle.integer.specs.Matrix.{diagonal}
 use Rattle.ledger.specs.Axis.{errorOf}
 use Rattle.ledger.specs.Call.{Call, load, turn, sweep, loosePair, axis}
 use Rattle.limits.specs.Limits.{units, whole}
-use Rattle.ledger.specs.Pairs.{Pair, cyclic}
+use Rattle.ledger.specs.Pairs.{cyclic}
 use Rattle.ledger.specs.Refusal.{matrixOf, refusalOf}
 use Rattle.rotation.specs.InUse.{inUse}
 use Rattle.rotation.specs.Turn.{at}
 use Rattle.sweep.specs.Work.{Work, chosen, isTurn, workPair, workPairs}
+use Rattle.query.specs.Loose.{looseOf}
+use Rattle.query.specs.declared.Answer.{Answer}
+use Rattle.query.specs.declared.Answer.the-variants.{Loaded, Turned, Swept, Axis, Refused}
 use Rattle.record.specs.Flat.{kept, entriesOf, rowsOf, flatOf}
 use Rattle.record.specs.declared.Record.{Record}
-use Rattle.record.specs.declared.Answer.{Answer}
-use Rattle.record.specs.declared.Answer.the-variants.{Loaded, Turned, Swept, Pair as PairIs, NoPair, Axis, Refused}
 
 -- A fresh record holds no matrix and a count of 0 refused calls
 unfoldable pub fresh : Record
@@ -56,12 +57,6 @@ turnedOf r p q = workedOf r (workPair (r .n) (workOf r) (record { p = p - 1; q =
 -- Sweep: the pairs in their order, each chosen on the matrix as it then stands
 unfoldable pub sweptOf : Record → Record
 sweptOf r = workedOf r (workPairs (r .n) (workOf r) (cyclic (r .n)))
-
--- Loose pair t: some pair p < q with |a_pq| > t units, and none only if none exists; here the first of the given pairs
-unfoldable pub looseOf : Matrix → ℕ → List Pair → Answer
-looseOf a t [] = NoPair
-looseOf a t (pair ∷ pairs) =
-    cond (ltb t (natAbs (a (pair .p) (pair .q)))) (PairIs (suc (pair .p)) (suc (pair .q))) (looseOf a t pairs)
 
 -- the record after a call
 unfoldable pub acceptedOf : Record → Call → Record

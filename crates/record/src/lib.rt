@@ -7,10 +7,10 @@ ghost use Rattle.record.specs.Record.{counted, refusedOf, workedOf};
 ghost use mathlib.Core.Path.{_≡_};
 
 pub mod lent;
-pub mod query;
 mod rows;
 
 pub use load::load_refusal;
+pub use query::Answer;
 
 // Channels n, 0 where there is no matrix; turns made m; refused calls; the kept matrix and axes, row after row, 8 to a row.
 pub struct Record {
@@ -19,17 +19,6 @@ pub struct Record {
     refused: u32,
     a: [i64; 64],
     v: [i64; 64],
-}
-
-// What a call answers.
-pub enum Answer {
-    Loaded,
-    Turned(bool),
-    Swept(u64),
-    Pair { p: usize, q: usize },
-    NoPair,
-    Axis { entry: i64, error: u64 },
-    Refused(u32),
 }
 
 // A call's answer, and the record that it leaves.

@@ -23,13 +23,14 @@ use Rattle.record.specs.Accepted.{loose-pair-accepted, sweep-accepted, turns-su
 use Rattle.record.specs.After.{after-kept}
 use Rattle.record.specs.Fill.{kept-flatOf}
 use Rattle.record.specs.Flat.{entriesOf, flatOf, rowsOf}
-use Rattle.record.specs.Record.{acceptedOf, afterOf, answerOf, looseOf, sweptOf, valueOf, workOf, workedOf}
+use Rattle.record.specs.Record.{acceptedOf, afterOf, answerOf, sweptOf, valueOf, workOf, workedOf}
 use Rattle.record.specs.declared.Record.{Record}
-use Rattle.record.proofs.Search.{same-loose}
 use Rattle.sweep.specs.Turning.{matrix-small, works-grow, works-least}
 use Rattle.sweep.specs.Work.{Work, workPair, workPairs}
 use Rattle.sweep.specs.Worked.{Ready, workAt}
 use Rattle.sweep.proofs.Sweep.{pair-shaped}
+use Rattle.query.specs.Loose.{looseOf}
+use Rattle.query.proofs.Search.{same-loose}
 use Rattle.run.specs.Rows.{Holds, heldOf}
 use Rattle.run.specs.Run.{Ran, noPair, noTurn, runFrom, stop}
 use Rattle.run.specs.Running.{run-settled, run-still, run-spent, run-sweeps}

@@ -6,9 +6,9 @@ use lib.Dec.{eqb}
 use lib.IntN.{ℤ}
 use Rattle.ledger.specs.Call.{load, sweep, loosePair}
 use Rattle.record.specs.Record.{afterOf, answerOf, fresh}
-use Rattle.record.specs.declared.Answer.{Answer}
-use Rattle.record.specs.declared.Answer.the-variants.{Loaded, Turned, Swept, Pair, NoPair, Axis, Refused}
 use Rattle.record.specs.declared.Record.{Record}
+use Rattle.query.specs.declared.Answer.{Answer}
+use Rattle.query.specs.declared.Answer.the-variants.{Loaded, Turned, Swept, Pair, NoPair, Axis, Refused}
 use Rattle.run.specs.declared.Ended.{Ended}
 use Rattle.run.specs.declared.Outcome.{Outcome}
 use Rattle.run.specs.declared.Outcome.the-variants.{Settled, Still, Spent}

@@ -9,15 +9,15 @@ ghost use Rattle.ledger.specs.Pairs.{cyclic};
 ghost use Rattle.ledger.specs.Refusal.{refusalOf};
 ghost use Rattle.limits.specs.Limits.{toleranceLimit};
 ghost use Rattle.record.specs.AxisNumbers.{axesNumbers};
-ghost use Rattle.record.specs.Record.{afterOf, fresh, looseOf};
+ghost use Rattle.record.specs.Record.{afterOf, fresh};
 ghost use Rattle.rotation.specs.Turn.{at};
 ghost use Rattle.load.specs.Blank.{blank};
+ghost use Rattle.query.specs.Loose.{looseOf};
 ghost use Rattle.run.specs.Rows.{Holds, heldOf};
 ghost use Rattle.run.specs.Run.{noPair, runFrom, stop};
 use crate::Ended;
 use crate::Outcome;
-use record::Answer;
-use record::query;
+use query::Answer;
 
 // The matrix and axes of a fresh record after a load, put into rows of 0.
 pub fn load_rows(matrix: &mut [[i64; 8]; 8], axes: &mut [[i64; 8]; 8], n: usize, numbers: &[i64])

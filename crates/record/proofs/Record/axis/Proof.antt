@@ -15,10 +15,10 @@ use Rattle.ledger.specs.Axis.{errorOf, same-error}
 use Rattle.ledger.specs.Call.{axis}
 use Rattle.ledger.specs.Refusal.{refusalOf}
 use Rattle.rotation.specs.Turn.{at}
+use Rattle.query.specs.declared.Answer.the-variants.{Axis}
 use Rattle.record.specs.Fill.{at-rowsOf}
 use Rattle.record.specs.Flat.{kept}
 use Rattle.record.specs.Record.{acceptedOf, axisOf, valueOf}
-use Rattle.record.specs.declared.Answer.the-variants.{Axis}
 use Rattle.record.proofs.Outcome.{accepted, kept-small, refused}
 use Rattle.record.proofs.Record.axis.Statement.{statement}
 use Rattle.record.proofs.Record.axis.Tie as tie

@@ -6,10 +6,10 @@ use Rattle.ledger.specs.Call.{loosePair}
 use Rattle.ledger.specs.Cyclic.{cyclic-pairs}
 use Rattle.ledger.specs.Pairs.{cyclic}
 use Rattle.ledger.specs.Refusal.{refusalOf}
+use Rattle.query.proofs.Search.{same-loose}
 use Rattle.record.specs.Fill.{at-rowsOf}
 use Rattle.record.specs.Record.{acceptedOf, valueOf}
 use Rattle.record.proofs.Outcome.{accepted, refused}
-use Rattle.record.proofs.Search.{same-loose}
 use Rattle.record.proofs.Record.loose_pair.Statement.{statement}
 use Rattle.record.proofs.Record.loose_pair.Tie as tie
 

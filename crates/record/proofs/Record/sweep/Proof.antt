@@ -7,8 +7,8 @@ use Rattle.ledger.specs.Pairs.{cyclic}
 use Rattle.sweep.specs.Turning.{works-least}
 use Rattle.sweep.specs.Work.{Work, workPairs}
 use Rattle.sweep.specs.Worked.{Ready, workAt}
+use Rattle.query.specs.declared.Answer.the-variants.{Swept}
 use Rattle.record.specs.Record.{acceptedOf, sweptOf, valueOf, workOf, workedOf}
-use Rattle.record.specs.declared.Answer.the-variants.{Swept}
 use Rattle.record.specs.declared.Record.{Record}
 use Rattle.record.proofs.Outcome.{accepted, at-work, kept-ready, refused}
 use Rattle.record.proofs.Record.sweep.Statement.{statement}

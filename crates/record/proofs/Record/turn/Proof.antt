@@ -10,8 +10,8 @@ use Rattle.ledger.specs.Pairs.{Pair}
 use Rattle.sweep.specs.Turning.{work-turned}
 use Rattle.sweep.specs.Work.{Work, workPair}
 use Rattle.sweep.specs.Worked.{Ready, workAt}
+use Rattle.query.specs.declared.Answer.the-variants.{Turned}
 use Rattle.record.specs.Record.{acceptedOf, turnedOf, valueOf, workOf, workedOf}
-use Rattle.record.specs.declared.Answer.the-variants.{Turned}
 use Rattle.record.specs.declared.Record.{Record}
 use Rattle.record.proofs.Outcome.{accepted, at-work, kept-ready, refused}
 use Rattle.record.proofs.Record.turn.Statement.{statement}

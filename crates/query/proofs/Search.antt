@@ -8,8 +8,8 @@ use borrow.Author.Tests.{lt-ltb, le-ltb}
 use Rattle.integer.specs.Matrix.{Matrix}
 use Rattle.ledger.specs.Cyclic.{Each}
 use Rattle.ledger.specs.Pairs.{Pair}
-use Rattle.record.specs.Record.{looseOf}
-use Rattle.record.specs.declared.Answer.the-variants.{Pair as PairIs}
+use Rattle.query.specs.Loose.{looseOf}
+use Rattle.query.specs.declared.Answer.the-variants.{Pair as PairIs}
 
 module _ (a : Matrix) (t : ℕ) (pair : Pair) (pairs : List Pair) where
   pub passed : natAbs (a (pair .p) (pair .q)) ≤ t → looseOf a t (pair ∷ pairs) ≡ looseOf a t pairs

@@ -2,8 +2,8 @@
 use native.Mathlib.Omega.{arith}
 use borrow.Author.Tests.{lt-ltb, le-ltb, le-leb, lt-leb}
 use Rattle.ledger.specs.Refusal.{refusalOf}
-use Rattle.record.proofs.query.axis_refusal.Statement.{statement}
-use Rattle.record.proofs.query.axis_refusal.Tie as tie
+use Rattle.query.proofs.axis_refusal.Statement.{statement}
+use Rattle.query.proofs.axis_refusal.Tie as tie
 
 returns : tie.Need-returns
 unfolding refusalOf

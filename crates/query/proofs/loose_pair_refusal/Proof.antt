@@ -3,8 +3,8 @@ use native.Mathlib.Omega.{arith}
 use borrow.Author.Tests.{lt-ltb, le-ltb, le-leb, lt-leb}
 use Rattle.limits.specs.Limits.{toleranceLimit}
 use Rattle.ledger.specs.Refusal.{refusalOf}
-use Rattle.record.proofs.query.loose_pair_refusal.Statement.{statement}
-use Rattle.record.proofs.query.loose_pair_refusal.Tie as tie
+use Rattle.query.proofs.loose_pair_refusal.Statement.{statement}
+use Rattle.query.proofs.loose_pair_refusal.Tie as tie
 
 returns : tie.Need-returns
 unfolding refusalOf

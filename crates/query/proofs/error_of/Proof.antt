@@ -11,8 +11,8 @@ use Rattle.integer.specs.Tests.{cond-≤}
 use Rattle.ledger.specs.Axis.{errorOf}
 use Rattle.rotation.specs.Size.{widest}
 use Rattle.rotation.specs.Turn.{at}
-use Rattle.record.proofs.query.error_of.Statement.{statement}
-use Rattle.record.proofs.query.error_of.Tie as tie
+use Rattle.query.proofs.error_of.Statement.{statement}
+use Rattle.query.proofs.error_of.Tie as tie
 
 abbrev Inv-loop : tie.InvT-loop
 Inv-loop a n m i sum₀ j₀ sum j =

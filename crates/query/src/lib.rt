@@ -1,4 +1,4 @@
-// What the queries find: a loose pair, and the error of an axis.
+// What a call answers, and what the queries find in lent rows: a loose pair, and the error of an axis.
 ghost use mathlib.Core.Path.{_≡_};
 ghost use mathlib.Core.Bool.{cond};
 ghost use Prim.Native.Nat.{_<_, _≤_};
@@ -10,9 +10,18 @@ ghost use Rattle.ledger.specs.Pairs.{cyclic};
 ghost use Rattle.ledger.specs.Refusal.{refusalOf};
 ghost use Rattle.rotation.specs.Size.{Small};
 ghost use Rattle.rotation.specs.Turn.{at};
-ghost use Rattle.record.specs.Record.{looseOf};
-use crate::Answer;
-use crate::Record;
+ghost use Rattle.query.specs.Loose.{looseOf};
+
+// What a call answers.
+pub enum Answer {
+    Loaded,
+    Turned(bool),
+    Swept(u64),
+    Pair { p: usize, q: usize },
+    NoPair,
+    Axis { entry: i64, error: u64 },
+    Refused(u32),
+}
 
 pub fn loose_pair_refusal(n: usize, t: u64) -> u32
     ensures { λ r. ⌜ r ≡ refusalOf n 0 (loosePair t) ⌝ }
@@ -20,7 +29,7 @@ pub fn loose_pair_refusal(n: usize, t: u64) -> u32
     if n == 0 {
         return 10;
     }
-    if Record::TOLERANCE_LIMIT < t {
+    if limits::TOLERANCE_LIMIT < t {
         return 2;
     }
     0

@@ -7,8 +7,8 @@ use mir.Val.{SFits}
 use mir.Facts.{toZ-ofZ}
 use borrow.Author.Needs.{needs}
 use Rattle.rotation.specs.Turn.{at}
-use Rattle.record.proofs.query.entry_size.Statement.{statement}
-use Rattle.record.proofs.query.entry_size.Tie as tie
+use Rattle.query.proofs.entry_size.Statement.{statement}
+use Rattle.query.proofs.entry_size.Tie as tie
 
 returns : tie.Need-returns
 unfolding at

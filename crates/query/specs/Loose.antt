@@ -1,4 +1,4 @@
--- Document 01, 'Loose pair t': what holds of the answer.
+-- Document 01, 'Loose pair t': the answer, and what holds of it.
 use mathlib.Core.Path.{_≡_, refl}
 use mathlib.Core.Bool.{Bool, true, false, cond}
 use mathlib.Core.List.{List, [], _∷_}
@@ -12,10 +12,15 @@ use borrow.Author.Tests.{ltb-true, ltb-false}
 use Rattle.integer.specs.Matrix.{Matrix}
 use Rattle.ledger.specs.Cyclic.{Each, cyclic-pairs}
 use Rattle.ledger.specs.Pairs.{Pair, cyclic}
-use Rattle.record.specs.Among.{Among, here, there, cyclic-among}
-use Rattle.record.specs.Record.{looseOf}
-use Rattle.record.specs.declared.Answer.{Answer}
-use Rattle.record.specs.declared.Answer.the-variants.{Pair as PairIs, NoPair}
+use Rattle.query.specs.Among.{Among, here, there, cyclic-among}
+use Rattle.query.specs.declared.Answer.{Answer}
+use Rattle.query.specs.declared.Answer.the-variants.{Pair as PairIs, NoPair}
+
+-- Loose pair t: some pair p < q with |a_pq| > t units, and none only if none exists; here the first of the given pairs
+unfoldable pub looseOf : Matrix → ℕ → List Pair → Answer
+looseOf a t [] = NoPair
+looseOf a t (pair ∷ pairs) =
+    cond (ltb t (natAbs (a (pair .p) (pair .q)))) (PairIs (suc (pair .p)) (suc (pair .q))) (looseOf a t pairs)
 
 abbrev pub PairOrNone : Answer → Type 0
 PairOrNone answer = ((p : ℕ) × (q : ℕ) × (answer ≡ PairIs p q)) ⊎ (answer ≡ NoPair)

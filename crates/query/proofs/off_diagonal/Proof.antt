@@ -1,8 +1,8 @@
 -- `record::query::off_diagonal` meets its contract.
 use borrow.Author.Needs.{needs}
 use borrow.Author.Tests.{eq-eqb, ne-eqb}
-use Rattle.record.proofs.query.off_diagonal.Statement.{statement}
-use Rattle.record.proofs.query.off_diagonal.Tie as tie
+use Rattle.query.proofs.off_diagonal.Statement.{statement}
+use Rattle.query.proofs.off_diagonal.Tie as tie
 
 returns : tie.Need-returns
 returns c =

@@ -8,10 +8,10 @@ use borrow.Author.Needs.{needs}
 use Rattle.ledger.specs.Pairs.{cyclic}
 use Rattle.rotation.specs.Turn.{at}
 use Rattle.ledger.specs.Order.{all-left, none-left, pair-next, pairsLeft, row-begins, row-ends, rowsLeft}
-use Rattle.record.specs.Record.{looseOf}
-use Rattle.record.proofs.Search.{found, passed}
-use Rattle.record.proofs.query.loose_pair_of.Statement.{statement}
-use Rattle.record.proofs.query.loose_pair_of.Tie as tie
+use Rattle.query.specs.Loose.{looseOf}
+use Rattle.query.proofs.Search.{found, passed}
+use Rattle.query.proofs.loose_pair_of.Statement.{statement}
+use Rattle.query.proofs.loose_pair_of.Tie as tie
 
 abbrev Inv-loop2 : tie.InvT-loop2
 Inv-loop2 a n t p q₀ q = (p < q) × (q ≤ n) × (looseOf (at a) t (pairsLeft n p (p + 1)) ≡ looseOf (at a) t (pairsLeft n p q))
