@@ -7,6 +7,7 @@ use lib.ListN.{replicate}
 use Rattle.limits.specs.Limits.{toleranceLimit}
 use Rattle.job.specs.Reply.{printedOf}
 use Rattle.report.specs.Report.{reportOf}
+use Rattle.choice.specs.Cards as choosing
 use Rattle.rotation.specs.Cards as turning
 use Rattle.rounding.specs.Cards.{Card2, card2}
 use Rattle.rounding.specs.Rounding.{rnd}
@@ -21,7 +22,7 @@ use Rattle.cards.specs.Equal.{zeros, equal-samples, zero-entries, zeros-
 
 -- 5. a_pp = 0, a_qq = 1,073,741,824, a_pq = 1024: no turn (`still` with t = 0).
 pub record Card5 : Type 0 where
-  pub no-turn : turning.Card5
+  pub no-turn : choosing.Card5
   pub still : running.Card5
 
 -- 8. The three samples above: S is 50, 25, 25, 50; e = 0.
@@ -47,12 +48,12 @@ pub record Card11 : Type 0 where
   pub entry : entries two ≡ replicate 4 (pos 639_980)
 
 pub record BenchCards : Type 0 where
-  pub card1 : turning.Card1
+  pub card1 : choosing.Card1
   pub card2 : Card2
-  pub card3 : turning.Card3
-  pub card4 : turning.Card4
+  pub card3 : choosing.Card3
+  pub card4 : choosing.Card4
   pub card5 : Card5
-  pub card6 : turning.Card6
+  pub card6 : choosing.Card6
   pub card7 : turning.Card7
   pub card8 : Card8
   pub card9 : (n k : ℕ) (s : Sample) (limit t : ℕ) → 2 ≤ n → n ≤ 8 → t ≤ toleranceLimit → Card9 n k s limit t
@@ -72,12 +73,12 @@ equal n k s limit t low high few =
 pub cards : BenchCards
 cards =
     record {
-      card1 = turning.card1;
+      card1 = choosing.card1;
       card2 = card2;
-      card3 = turning.card3;
-      card4 = turning.card4;
-      card5 = record { no-turn = turning.card5; still = running.cards .card5 };
-      card6 = turning.card6;
+      card3 = choosing.card3;
+      card4 = choosing.card4;
+      card5 = record { no-turn = choosing.card5; still = running.cards .card5 };
+      card6 = choosing.card6;
       card7 = turning.card7;
       card8 = record { table = card-8 .0; e = card-8 .1 };
       card9 = equal;

@@ -7,14 +7,14 @@ use native.Mathlib.Omega.{arith}
 use borrow.Author.Tests.{eqb-true}
 use lib.Dec.{eqb}
 use lib.ListN.{length}
-use Rattle.rotation.specs.Choice.{choose}
-use Rattle.rotation.specs.declared.choice.Choice.{Choice}
-use Rattle.rotation.specs.declared.choice.Choice.the-variants.{NoTurn, Turn}
+use Rattle.limits.specs.Limits.{turnLimit}
+use Rattle.choice.specs.Choice.{choose}
+use Rattle.choice.specs.declared.Choice.{Choice}
+use Rattle.choice.specs.declared.Choice.the-variants.{NoTurn, Turn}
 use Rattle.ledger.specs.Accepted.{load-accepted, turn-accepted, sweep-accepted}
 use Rattle.ledger.specs.Call.{Call, load, turn, sweep, loosePair, axis}
 use Rattle.ledger.specs.Cyclic.{Each, cyclic-pairs, cyclic-length}
 use Rattle.ledger.specs.Ledger.{State, Ledger, empty, loaded, take, turnPair, turnPairs, accepted, sizeOf, turnsOf, ledgerStep, ledgerFrom, ledger}
-use Rattle.limits.specs.Limits.{turnLimit}
 use Rattle.ledger.specs.Loaded.{sound-load}
 use Rattle.ledger.specs.Pairs.{Pair, cyclic}
 use Rattle.ledger.specs.Refusal.{refusalOf}

@@ -5,14 +5,14 @@ use mathlib.Core.List.{List, [], _∷_}
 use lib.Dec.{eqb}
 use lib.IntN.{ℤ, pos, _*ℤ_}
 use Rattle.integer.specs.Matrix.{Matrix, diagonal, product}
-use Rattle.rotation.specs.Choice.{choose}
 use Rattle.rotation.specs.Exact.{exact}
 use Rattle.rotation.specs.Rotation.{rotationOf}
 use Rattle.rotation.specs.Turn.{turned, turnedAxes}
-use Rattle.rotation.specs.declared.choice.Choice.{Choice}
-use Rattle.rotation.specs.declared.choice.Choice.the-variants.{NoTurn, Turn}
-use Rattle.ledger.specs.Call.{Call, load, turn, sweep, loosePair, axis}
 use Rattle.limits.specs.Limits.{units, whole}
+use Rattle.choice.specs.Choice.{choose}
+use Rattle.choice.specs.declared.Choice.{Choice}
+use Rattle.choice.specs.declared.Choice.the-variants.{NoTurn, Turn}
+use Rattle.ledger.specs.Call.{Call, load, turn, sweep, loosePair, axis}
 use Rattle.ledger.specs.Pairs.{Pair, cyclic}
 use Rattle.ledger.specs.Refusal.{matrixOf, refusalOf}
 

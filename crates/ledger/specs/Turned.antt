@@ -7,17 +7,17 @@ use lib.IntN.{pos}
 use Rattle.integer.specs.Square.{sq}
 use Rattle.integer.specs.Sum.{sumℕ}
 use Rattle.integer.specs.Matrix.{diagonal}
-use Rattle.rotation.specs.Choice.{choose}
 use Rattle.rotation.specs.Exact.{Whole, rotationOf-whole, exact-keeps-orthogonal, exact-dot-squares}
 use Rattle.rotation.specs.Norm.{turned-squares, axes-column}
 use Rattle.rotation.specs.Rotation.{rotationOf}
 use Rattle.rotation.specs.Symmetry.{turned-symmetric}
-use Rattle.rotation.specs.declared.choice.Choice.{Choice}
-use Rattle.rotation.specs.declared.choice.Choice.the-variants.{NoTurn, Turn}
 use Rattle.rotation.specs.declared.pair.Rotation.{Rotation}
+use Rattle.limits.specs.Limits.{turnLimit}
+use Rattle.choice.specs.Choice.{choose}
+use Rattle.choice.specs.declared.Choice.{Choice}
+use Rattle.choice.specs.declared.Choice.the-variants.{NoTurn, Turn}
 use Rattle.ledger.specs.Cyclic.{Ordered}
 use Rattle.ledger.specs.Ledger.{State, take, turnPair}
-use Rattle.limits.specs.Limits.{turnLimit}
 use Rattle.ledger.specs.Near.{matrix-near-turn, axes-near-turn}
 use Rattle.ledger.specs.Pairs.{Pair}
 use Rattle.ledger.specs.Sound.{Sound, matrixBound, axesBound}

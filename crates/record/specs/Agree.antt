@@ -18,12 +18,12 @@ use Rattle.ledger.specs.Refusal.{refusalOf}
 use Rattle.rotation.specs.Congruence.{choose-same, turned-same, turnedAxes-same}
 use Rattle.rotation.specs.Rotation.{rotationOf}
 use Rattle.rotation.specs.Turn.{at, turnMatrix, turnAxes}
-use Rattle.rotation.specs.declared.choice.Choice.{Choice}
-use Rattle.rotation.specs.declared.choice.Choice.the-variants.{NoTurn, Turn}
 use Rattle.sweep.specs.Kept.{KeptWork}
 use Rattle.rotation.specs.InUse.{at-array, inUse-inside}
 use Rattle.sweep.specs.Turning.{work-keeps}
 use Rattle.sweep.specs.Work.{Work, chosen, workBy, workPair, workPairs}
+use Rattle.choice.specs.declared.Choice.{Choice}
+use Rattle.choice.specs.declared.Choice.the-variants.{NoTurn, Turn}
 use Rattle.record.specs.Fill.{at-rowsOf, kept-flatOf}
 use Rattle.record.specs.Flat.{kept}
 use Rattle.record.specs.Kept.{Kept}

@@ -17,10 +17,10 @@ use Rattle.ledger.specs.Axis.{errorOf}
 use Rattle.ledger.specs.Call.{axis}
 use Rattle.ledger.specs.Refusal.{refusalOf}
 use Rattle.rotation.specs.Eight.{front, getD-eight, length-eight}
-use Rattle.rotation.specs.Size.{widest}
 use Rattle.sweep.specs.Turning.{matrix-small}
 use Rattle.query.specs.declared.Answer.{Answer}
 use Rattle.query.specs.declared.Answer.the-variants.{Loaded, Turned, Swept, Pair, NoPair, Axis, Refused}
+use Rattle.choice.specs.Widest.{widest}
 use Rattle.record.specs.Fill.{at-rowsOf}
 use Rattle.record.specs.Flat.{entriesOf, kept}
 use Rattle.record.specs.Kept.{Kept}

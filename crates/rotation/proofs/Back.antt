@@ -4,8 +4,9 @@ use Prim.Native.Nat.{ℕ}
 use lib.IntN.{ℤ, negℤ, _*ℤ_, +ℤ-comm}
 use Rattle.integer.specs.Laws.{natAbs-negℤ}
 use Rattle.rounding.specs.Rounding.{rnd}
+use Rattle.choice.specs.Widest.{widest}
 use Rattle.rotation.specs.Rotation.{first, second, inverse}
-use Rattle.rotation.specs.Size.{Turns, passed, widest}
+use Rattle.rotation.specs.Size.{Turns, passed}
 use Rattle.rotation.specs.declared.pair.Rotation.{Rotation}
 
 pub inverse-first : (r : Rotation) (x y : ℤ) → first (inverse r) y x ≡ second r x y

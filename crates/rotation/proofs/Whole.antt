@@ -10,17 +10,18 @@ use lib.IntN.{ℤ, natAbs}
 use lib.ListN.{getD, set}
 use borrow.Author.Tests.{lt-ltb, le-ltb}
 use Rattle.integer.specs.Tests.{cond-same, next-test}
+use Rattle.choice.specs.Widest.{widest}
 use Rattle.rotation.specs.Eight.{at-eight, square-cong, square-of}
 use Rattle.rotation.specs.InPlace.{Passed, blockOf, mirrorOf, withBlock}
 use Rattle.rotation.specs.Place.{Place, at-p, at-q, neither, place, atPair-p, atPair-q, atPair-neither}
 use Rattle.rotation.specs.Rotation.{first, second, inverse}
 use Rattle.rotation.specs.Shape.{Shaped}
-use Rattle.rotation.specs.Size.{Small, Symmetric, Turns, passed, widest}
+use Rattle.rotation.specs.Size.{Small, Symmetric, Turns, passed}
 use Rattle.rotation.specs.Turn.{array, at, atPair, hpp, hpq, hqp, hqq, newp, newpp, newpq, newq, newqq, square, turnAxes, turnMatrix, turned, turnedAxes}
 use Rattle.rotation.specs.declared.pair.Rotation.{Rotation}
+use Rattle.rotation.specs.Stored.{store, stored, stored-column, stored-here, stored-row}
 use Rattle.rotation.proofs.Back.{back-of, inverse-first}
 use Rattle.rotation.proofs.Pass.{first-size}
-use Rattle.rotation.specs.Stored.{store, stored, stored-column, stored-here, stored-row}
 
 -- the four stores of the block
 module _ (p q : ℕ) (a : List (List ℤ)) (h : p < q) (b : q < 8) (pp pq qq : ℤ) where

@@ -3,7 +3,7 @@ use mathlib.Core.Path.{_≡_}
 use Prim.Native.Nat.{ℕ, _<_}
 use native.Mathlib.Omega.{arith}
 use Rattle.integer.specs.Matrix.{Matrix, Same}
-use Rattle.rotation.specs.Choice.{choose}
+use Rattle.choice.specs.Choice.{choose}
 use Rattle.rotation.specs.Turn.{turned, turnedAxes, newp, newq, newpp, newpq, newqq, hpp, hpq, hqp, hqq}
 use Rattle.rotation.specs.declared.pair.Rotation.{Rotation}
 

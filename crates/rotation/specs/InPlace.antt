@@ -4,8 +4,9 @@ use mathlib.Core.Bool.{cond}
 use mathlib.Core.List.{List}
 use lib.Dec.{ltb}
 use lib.IntN.{ℤ, natAbs}
+use Rattle.choice.specs.Widest.{widest}
 use Rattle.rotation.specs.Rotation.{first, second}
-use Rattle.rotation.specs.Size.{passed, widest}
+use Rattle.rotation.specs.Size.{passed}
 use Rattle.rotation.specs.Turn.{at, atPair}
 use Rattle.rotation.specs.declared.pair.Rotation.{Rotation}
 

@@ -1,6 +1,3 @@
-pub mod Threshold
-pub mod Choice
-pub mod Chosen
 pub mod Rotation
 pub mod Turn
 pub mod Place

@@ -1,4 +1,4 @@
--- The sizes for which the choice and the turn are proved not to wrap.
+-- The sizes for which the turn is proved not to wrap.
 use mathlib.Core.Path.{_≡_}
 use Prim.Native.Nat.{ℕ, _+_, _*_, _/_, _<_, _≤_, _^_}
 use mathlib.Core.Bool.{Bool, true, false, _&&_}
@@ -10,15 +10,11 @@ use mir.Syntax.{w64}
 use mir.Val.{toZ, ofZ}
 use mir.Facts.{and-yes}
 use Rattle.integer.specs.Word.{read-back}
+use Rattle.choice.specs.Widest.{widest}
+use Rattle.choice.specs.Threshold.{from-1-to-14}
 use Rattle.rotation.specs.Rotation.{rotationOf, signed}
-use Rattle.rotation.specs.Threshold.{from-1-to-14}
 use Rattle.rotation.specs.Turn.{at}
 use Rattle.rotation.specs.declared.pair.Rotation.{Rotation}
-
--- The largest entry: 8 × 2^31 for a matrix of 8 by 8 entries of up to 2^31 units, and 4 for each of 448 turns. Document 01's entries are at most
--- 2^30 units; the room above is for a limit twice as large.
-abbrev pub widest : ℕ
-widest = 2 ^ 34 + 1792
 
 pub record Small (a : List (List ℤ)) : Type 0 where
   pub small : (i j : ℕ) → natAbs (at a i j) ≤ widest

@@ -1,4 +1,3 @@
-// The turn of a pair of channels: thresholds, the choice of a turn, and the turned matrix and axes.
-pub mod choice;
+// The turn of a pair of channels: the rotation, and the turned matrix and axes.
 pub mod pair;
 pub mod turn;

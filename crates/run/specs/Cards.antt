@@ -13,15 +13,15 @@ use Rattle.ledger.specs.Refusal.{equal, matrixOf, refusalOf, symmetric, within}
 use Rattle.integer.specs.Tabulate.{tabulate}
 use Rattle.record.specs.Flat.{entriesOf, flatOf, kept, rowsOf}
 use Rattle.record.specs.Record.{acceptedOf, afterOf, answerOf, axisOf, fresh, loadedOf, sweptOf, valueOf, workOf, workedOf}
-use Rattle.rotation.specs.Choice.{choose, fits, minusSign, negative, smallest}
 use Rattle.rotation.specs.Rotation.{first, rotationOf, second, signed}
-use Rattle.rotation.specs.Threshold.{roundedUp, threshold, u, w}
 use Rattle.rotation.specs.Turn.{array, at, atPair, eight, hpp, hpq, hqp, hqq, newp, newpp, newpq, newq, newqq, turnAxes, turnMatrix, turned, turnedAxes}
 use Rattle.rounding.specs.Rounding.{rnd}
 use Rattle.rotation.specs.InUse.{inUse}
 use Rattle.sweep.specs.Work.{chosen, workBy, workPair, workPairs}
 use Rattle.query.specs.Loose.{looseOf}
 use Rattle.query.specs.declared.Answer.the-variants.{Axis}
+use Rattle.choice.specs.Choice.{choose, fits, minusSign, negative, smallest}
+use Rattle.choice.specs.Threshold.{roundedUp, threshold, u, w}
 use Rattle.run.specs.Run.{Ran, noPair, noTurn, runFrom, stop, tried, runOf}
 use Rattle.run.specs.Running.{run-settled}
 use Rattle.run.specs.declared.Outcome.the-variants.{Settled, Spent, Still}

@@ -10,8 +10,8 @@ use Rattle.ledger.specs.Pairs.{Pair, cyclic, row, rowsFrom}
 use Rattle.rotation.specs.Eight.{shaped-square}
 use Rattle.rotation.specs.Shape.{Shaped}
 use Rattle.rotation.specs.Turn.{array, turnAxes, turnMatrix}
-use Rattle.rotation.specs.declared.choice.Choice.{Choice}
-use Rattle.rotation.specs.declared.choice.Choice.the-variants.{NoTurn, Turn}
+use Rattle.choice.specs.declared.Choice.{Choice}
+use Rattle.choice.specs.declared.Choice.the-variants.{NoTurn, Turn}
 use Rattle.sweep.specs.Kept.{KeptWork}
 use Rattle.sweep.specs.Turning.{work-grows, work-keeps}
 use Rattle.sweep.specs.Work.{Work, chosen, workBy, workPair, workPairs}

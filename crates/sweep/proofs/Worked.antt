@@ -4,8 +4,8 @@ use mathlib.Core.Bool.{Bool}
 use Prim.Native.Nat.{ℕ, _≤_}
 use native.Mathlib.Omega.{arith}
 use Rattle.ledger.specs.Pairs.{Pair}
-use Rattle.rotation.specs.Chosen.{chosen-from}
-use Rattle.rotation.specs.declared.choice.Choice.the-variants.{NoTurn, Turn}
+use Rattle.choice.specs.Chosen.{chosen-from}
+use Rattle.choice.specs.declared.Choice.the-variants.{NoTurn, Turn}
 use Rattle.sweep.specs.Work.{Work, chosen, workBy, workPair}
 
 module _ (n : ℕ) (w : Work) (pair : Pair) where

@@ -18,13 +18,14 @@ use Rattle.ledger.specs.Sound.{matrixBound, axesBound}
 use Rattle.rotation.specs.Exact.{rotationOf-whole}
 use Rattle.rotation.specs.Norm.{turned-squares, axes-column}
 use Rattle.rotation.specs.Rotation.{rotationOf}
-use Rattle.rotation.specs.Size.{Small, Symmetric, widest}
+use Rattle.rotation.specs.Size.{Small, Symmetric}
 use Rattle.rotation.specs.Symmetry.{turned-symmetric}
 use Rattle.rotation.specs.Turn.{at, turned, turnedAxes, turnMatrix, turnAxes}
 use Rattle.rotation.specs.declared.pair.Rotation.{Rotation}
-use Rattle.rotation.specs.declared.choice.Choice.{Choice}
-use Rattle.rotation.specs.declared.choice.Choice.the-variants.{NoTurn, Turn}
 use Rattle.rotation.specs.InUse.{Use, at-array, inUse, inUse-inside, inUse-outside, inUse-symmetric, inside, outside, use-of}
+use Rattle.choice.specs.Widest.{widest}
+use Rattle.choice.specs.declared.Choice.{Choice}
+use Rattle.choice.specs.declared.Choice.the-variants.{NoTurn, Turn}
 use Rattle.sweep.specs.Kept.{KeptWork}
 use Rattle.sweep.specs.Work.{Work, chosen, isTurn, workBy, workPair, workPairs}
 

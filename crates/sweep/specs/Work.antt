@@ -4,11 +4,11 @@ use mathlib.Core.Bool.{Bool, true, false}
 use mathlib.Core.List.{List, [], _∷_}
 use lib.IntN.{ℤ}
 use Rattle.ledger.specs.Pairs.{Pair}
-use Rattle.rotation.specs.Choice.{choose}
 use Rattle.rotation.specs.Rotation.{rotationOf}
 use Rattle.rotation.specs.Turn.{at, turnMatrix, turnAxes}
-use Rattle.rotation.specs.declared.choice.Choice.{Choice}
-use Rattle.rotation.specs.declared.choice.Choice.the-variants.{NoTurn, Turn}
+use Rattle.choice.specs.Choice.{choose}
+use Rattle.choice.specs.declared.Choice.{Choice}
+use Rattle.choice.specs.declared.Choice.the-variants.{NoTurn, Turn}
 
 pub record Work : Type 0 where
   pub a : List (List ℤ)

@@ -4,13 +4,12 @@ ghost use Prim.Native.Nat.{_<_, _≤_, _+_};
 ghost use Rattle.ledger.specs.Call.{turn, sweep};
 ghost use Rattle.ledger.specs.Pairs.{cyclic};
 ghost use Rattle.ledger.specs.Refusal.{refusalOf};
-ghost use Rattle.rotation.specs.Choice.{choose};
 ghost use Rattle.rotation.specs.Size.{Small};
 ghost use Rattle.rotation.specs.Turn.{at};
+ghost use Rattle.choice.specs.Choice.{choose};
 ghost use Rattle.sweep.specs.Worked.{Ready, workAt};
 ghost use Rattle.sweep.specs.Work.{workPair, workPairs};
-use rotation::choice;
-use rotation::choice::Choice;
+use choice::Choice;
 use rotation::pair::Rotation;
 use rotation::turn;
 

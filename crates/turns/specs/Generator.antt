@@ -6,8 +6,8 @@ use lib.Dec.{eqb}
 use lib.ListN.{getD}
 use lib.IntN.{ℤ}
 use Rattle.rotation.specs.Rotation.{signed}
-use Rattle.rotation.specs.Size.{widest}
 use Rattle.rotation.specs.Turn.{eight}
+use Rattle.choice.specs.Widest.{widest}
 
 -- x² mod P, with P = 2^31 − 1
 abbrev pub square : ℕ → ℕ

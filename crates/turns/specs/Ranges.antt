@@ -10,10 +10,11 @@ use lib.IntN.{ℤ, pos, natAbs}
 use Rattle.integer.specs.Tests.{cond-≤}
 use Rattle.integer.specs.Laws.{natAbs-negℤ}
 use Rattle.rotation.specs.Rotation.{signed}
-use Rattle.rotation.specs.Threshold.{threshold, roundedUp, u, w, from-1-to-14}
 use Rattle.rotation.specs.Turn.{at, square}
 use Rattle.rotation.specs.Eight.{at-eight, at-outside}
-use Rattle.rotation.specs.Size.{Small, Symmetric, widest}
+use Rattle.rotation.specs.Size.{Small, Symmetric}
+use Rattle.choice.specs.Threshold.{threshold, roundedUp, u, w, from-1-to-14}
+use Rattle.choice.specs.Widest.{widest}
 use Rattle.turns.specs.Generator.{sizeFrom, valueOf, offset, rowOf, matrixOf, axesOf}
 
 pub sizeFrom-most : (wide mode most : ℕ) → 3 ≤ most → sizeFrom wide mode most ≤ most

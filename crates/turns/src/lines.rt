@@ -2,8 +2,7 @@
 ghost use Prim.Native.Nat.{_<_, _≤_, _^_};
 use crate::generator;
 use crate::text;
-use rotation::choice;
-use rotation::choice::Choice;
+use choice::Choice;
 use rotation::pair::Rotation;
 use rotation::turn;
 

@@ -9,8 +9,8 @@ use lib.IntN.{natAbs}
 use Rattle.integer.specs.Sum.{sumℕ}
 use Rattle.integer.specs.Tests.{cond-≤}
 use Rattle.ledger.specs.Axis.{errorOf}
-use Rattle.rotation.specs.Size.{widest}
 use Rattle.rotation.specs.Turn.{at}
+use Rattle.choice.specs.Widest.{widest}
 use Rattle.query.proofs.error_of.Statement.{statement}
 use Rattle.query.proofs.error_of.Tie as tie
 

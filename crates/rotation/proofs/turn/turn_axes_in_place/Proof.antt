@@ -8,8 +8,8 @@ use mir.Syntax.{w64}
 use mir.Val.{SFits, toZ, ofZ}
 use borrow.Author.Needs.{needs}
 use Rattle.integer.specs.Word.{read-back, word}
+use Rattle.choice.specs.Widest.{widest}
 use Rattle.rotation.specs.Rotation.{first}
-use Rattle.rotation.specs.Size.{widest}
 use Rattle.rotation.specs.Turn.{at}
 use Rattle.rotation.proofs.Back.{back-of}
 use Rattle.rotation.proofs.Pass.{room}

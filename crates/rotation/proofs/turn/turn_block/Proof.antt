@@ -7,9 +7,10 @@ use mir.Val.{SFits}
 use mir.Facts.{toZ-ofZ}
 use borrow.Author.Needs.{needs}
 use Rattle.integer.specs.Word.{word}
+use Rattle.choice.specs.Widest.{widest}
 use Rattle.rotation.specs.InPlace.{blockOf}
 use Rattle.rotation.specs.Rotation.{first, inverse, second}
-use Rattle.rotation.specs.Size.{passed, widest}
+use Rattle.rotation.specs.Size.{passed}
 use Rattle.rotation.specs.Turn.{at}
 use Rattle.rotation.specs.declared.pair.Rotation.{Rotation}
 use Rattle.rotation.proofs.Back.{Back, back-of, inverse-first}

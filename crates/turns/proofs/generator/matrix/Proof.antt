@@ -2,7 +2,8 @@
 use mathlib.Core.Path.{sym, subst}
 use Prim.Native.Nat.{_+_}
 use borrow.Author.Needs.{needs}
-use Rattle.rotation.specs.Size.{Small, Symmetric, widest}
+use Rattle.rotation.specs.Size.{Small, Symmetric}
+use Rattle.choice.specs.Widest.{widest}
 use Rattle.turns.specs.Generator.{matrixOf, rowOf, offset}
 use Rattle.turns.specs.Ranges.{matrixOf-small, matrixOf-symmetric}
 use Rattle.turns.proofs.Gathered.{gathered}

@@ -6,9 +6,9 @@ use mir.Syntax.{w64}
 use mir.Val.{ofZ}
 use mir.Facts.{toZ-ofZ}
 use Rattle.integer.specs.Word.{zero-bits}
-use Rattle.rotation.proofs.Chosen.{difference, difference-back, difference-held, difference-size, none, some}
-use Rattle.rotation.proofs.choice.choose_turn.Statement.{statement}
-use Rattle.rotation.proofs.choice.choose_turn.Tie as tie
+use Rattle.choice.proofs.Chosen.{difference, difference-back, difference-held, difference-size, none, some}
+use Rattle.choice.proofs.choose_turn.Statement.{statement}
+use Rattle.choice.proofs.choose_turn.Tie as tie
 
 returns : tie.Need-returns
 returns c =

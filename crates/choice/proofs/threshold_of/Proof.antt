@@ -5,9 +5,9 @@ use Prim.Native.Nat.{ℕ, _-_, _≤_}
 use lib.Dec.{eqb, eqb→eq}
 use lib.ListN.{getD}
 use borrow.Author.Needs.{needs}
-use Rattle.rotation.specs.Threshold.{threshold, roundedUp, u, w, from-1-to-14}
-use Rattle.rotation.proofs.choice.threshold_of.Statement.{statement}
-use Rattle.rotation.proofs.choice.threshold_of.Tie as tie
+use Rattle.choice.specs.Threshold.{threshold, roundedUp, u, w, from-1-to-14}
+use Rattle.choice.proofs.threshold_of.Statement.{statement}
+use Rattle.choice.proofs.threshold_of.Tie as tie
 
 abbrev thresholds : List ℕ
 thresholds =

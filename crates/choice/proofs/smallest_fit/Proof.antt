@@ -3,10 +3,10 @@ use mathlib.Core.Path.{_≡_, refl, sym, _∙_}
 use Prim.Native.Nat.{_-_, _≤_}
 use native.Mathlib.Omega.{arith}
 use borrow.Author.Needs.{needs}
-use Rattle.rotation.specs.Choice.{smallest}
-use Rattle.rotation.proofs.Search.{found, passed, exhausted, product-fits}
-use Rattle.rotation.proofs.choice.smallest_fit.Statement.{statement}
-use Rattle.rotation.proofs.choice.smallest_fit.Tie as tie
+use Rattle.choice.specs.Choice.{smallest}
+use Rattle.choice.proofs.Search.{found, passed, exhausted, product-fits}
+use Rattle.choice.proofs.smallest_fit.Statement.{statement}
+use Rattle.choice.proofs.smallest_fit.Tie as tie
 
 abbrev Inv-loop : tie.InvT-loop
 Inv-loop y g minus scaled l₀ l =

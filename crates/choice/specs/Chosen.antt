@@ -5,8 +5,8 @@ use Prim.Native.Nat.{ℕ, zero, suc, _+_, _*_, _≤_, _<_}
 use native.Mathlib.Omega.{arith}
 use lib.Dec.{eqb}
 use lib.IntN.{ℤ, natAbs, _-ℤ_}
-use Rattle.rotation.specs.Choice.{choose, fits, minusSign, smallest}
-use Rattle.rotation.specs.declared.choice.Choice.the-variants.{NoTurn, Turn}
+use Rattle.choice.specs.Choice.{choose, fits, minusSign, smallest}
+use Rattle.choice.specs.declared.Choice.the-variants.{NoTurn, Turn}
 
 pub record From (first count l : ℕ) : Type 0 where
   pub least : first ≤ l

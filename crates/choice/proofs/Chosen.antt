@@ -1,6 +1,6 @@
 -- The choice as `choose_turn` computes it: the difference of the diagonal entries, its sign, and the two cases.
 use mathlib.Core.Path.{_≡_, refl}
-use mathlib.Core.Bool.{Bool, Bool·beq}
+use mathlib.Core.Bool.{Bool·beq}
 use Prim.Native.Nat.{ℕ, _*_, _≤_}
 use native.Mathlib.Omega.{arith}
 use lib.IntN.{ℤ, pos, negsuc, natAbs, negℤ, _-ℤ_}
@@ -11,9 +11,9 @@ use mir.Val.{SFits, toZ, ofZ}
 use mir.Facts.{toZ-ofZ}
 use Rattle.integer.specs.Laws.{natAbs-+ℤ, natAbs-negℤ, natAbs-zero}
 use Rattle.integer.specs.Word.{held}
-use Rattle.rotation.specs.Choice.{choose, smallest, negative, minusSign}
-use Rattle.rotation.specs.Size.{widest}
-use Rattle.rotation.specs.declared.choice.Choice.the-variants.{NoTurn}
+use Rattle.choice.specs.Choice.{choose, smallest, negative, minusSign}
+use Rattle.choice.specs.Widest.{widest}
+use Rattle.choice.specs.declared.Choice.the-variants.{NoTurn}
 
 pub sign-test : (z : ℤ) → ltZ z (pos 0) ≡ negative z
 unfolding negative

@@ -3,9 +3,9 @@ use Prim.Native.Nat.{ℕ, zero, suc, _*_, _^_}
 use mathlib.Core.Bool.{Bool, true, false, cond, Bool·beq}
 use lib.Dec.{leb, eqb}
 use lib.IntN.{ℤ, pos, negsuc, natAbs, _-ℤ_}
-use Rattle.rotation.specs.Threshold.{threshold}
-use Rattle.rotation.specs.declared.choice.Choice.{Choice}
-use Rattle.rotation.specs.declared.choice.Choice.the-variants.{NoTurn, Turn}
+use Rattle.choice.specs.Threshold.{threshold}
+use Rattle.choice.specs.declared.Choice.{Choice}
+use Rattle.choice.specs.declared.Choice.the-variants.{NoTurn, Turn}
 
 -- y × 2^24 ≥ T_l × g
 unfoldable pub fits : ℕ → ℕ → ℕ → Bool

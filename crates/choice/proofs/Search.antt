@@ -7,10 +7,10 @@ use native.Mathlib.Numerals.{add-one}
 use native.Mathlib.Omega.{arith}
 use lib.Dec.{lit<}
 use borrow.Author.Tests.{le-leb, lt-leb}
-use Rattle.rotation.specs.Size.{widest}
-use Rattle.rotation.specs.Threshold.{threshold, threshold-most, roundedUp, u, w}
-use Rattle.rotation.specs.Choice.{fits, smallest}
-use Rattle.rotation.specs.declared.choice.Choice.the-variants.{NoTurn, Turn}
+use Rattle.choice.specs.Widest.{widest}
+use Rattle.choice.specs.Threshold.{threshold, threshold-most, roundedUp, u, w}
+use Rattle.choice.specs.Choice.{fits, smallest}
+use Rattle.choice.specs.declared.Choice.the-variants.{NoTurn, Turn}
 
 module _ (y g : ℕ) (minus : Bool) (l : ℕ) where
   opened : l ≤ 14 → smallest y g minus l (15 - l) ≡ cond (fits y g l) (Turn l minus) (smallest y g minus (l + 1) (15 - (l + 1)))

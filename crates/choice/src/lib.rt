@@ -2,9 +2,9 @@
 ghost use mathlib.Core.Path.{_≡_};
 ghost use Prim.Native.Nat.{_*_, _≤_};
 ghost use lib.IntN.{natAbs};
-ghost use Rattle.rotation.specs.Threshold.{threshold};
-ghost use Rattle.rotation.specs.Choice.{choose, smallest};
-ghost use Rattle.rotation.specs.Size.{widest};
+ghost use Rattle.choice.specs.Threshold.{threshold};
+ghost use Rattle.choice.specs.Choice.{choose, smallest};
+ghost use Rattle.choice.specs.Widest.{widest};
 
 // What the choice rule gives a pair: no turn, or the l and whether the sign f is −1.
 pub enum Choice {

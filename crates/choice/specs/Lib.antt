@@ -1,0 +1,5 @@
+pub mod Threshold
+pub mod Choice
+pub mod Chosen
+pub mod Widest
+pub mod Cards
