@@ -9,8 +9,6 @@ use Rattle.job.specs.Job.{Job, accepted, withSample, nextLine, nothing, ended, 
 use Rattle.text.specs.Numeral.{leadingZero, valueFrom}
 use Rattle.text.specs.Parts.{onto, split, before}
 use Rattle.text.specs.Range.{within, allWithin}
-use Rattle.job.specs.Range.{parametersInRange, sampleInRange}
-use Rattle.job.specs.Text.{numberOf, numbersOf, isTag, recordOf, lineOf}
 use Rattle.job_table.specs.Held.{sumsFor, tableFor}
 use Rattle.record.specs.AxisNumbers.{axisValues}
 use Rattle.report.specs.Report.{outcomeWord, runFor, lineR, lineA, reportOf}
@@ -22,6 +20,8 @@ use Rattle.scatter.specs.Table.{S, scatter, largest, smallest, shift, entries, 
 use Rattle.text.specs.Decimal.{digits, digitsBy, number}
 use Rattle.text.specs.Line.{line, further, numberLine, wordLine}
 use Rattle.text.specs.Lines.{lines}
+use Rattle.job_line.specs.Range.{parametersInRange, sampleInRange}
+use Rattle.job_line.specs.Text.{numberOf, numbersOf, isTag, recordOf, lineOf}
 
 -- `P 2 1 0`
 abbrev p-line : List ℕ

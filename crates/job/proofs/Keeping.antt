@@ -9,11 +9,12 @@ use borrow.Author.Tests.{lt-ltb, le-ltb}
 use native.Mathlib.Omega.{arith}
 use lib.ListN.{length, getD, set}
 use lib.Seq.{slice, slice-cons, slice-empty, sets}
-use Rattle.job.specs.Scan.{lineAt, sampleWithin, refusedReading, finishedAt, kept, sampleOf, samplesAt}
+use Rattle.job_line.specs.Scan.{lineAt, sampleWithin}
+use Rattle.job_line.specs.declared.sample.Line.{Line}
+use Rattle.job_line.specs.declared.sample.Extent.the-variants.{To, Malformed}
+use Rattle.job.specs.Scan.{refusedReading, finishedAt, kept, sampleOf, samplesAt}
 use Rattle.job.specs.declared.Job.{Job}
 use Rattle.job.specs.declared.Reading.{Reading}
-use Rattle.job.specs.declared.sample.Line.{Line}
-use Rattle.job.specs.declared.sample.Extent.the-variants.{To, Malformed}
 
 -- r is the list with all the counts of a sample kept, where those before number i are in l.
 module _ (r l xs : List ℕ) (to i n : ℕ) (q : r ≡ sets l to (slice i (n + 1) xs)) where

@@ -1,5 +1,3 @@
-pub mod Range
-pub mod Text
 pub mod Job
 pub mod Values
 pub mod Reading

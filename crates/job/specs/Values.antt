@@ -3,9 +3,9 @@ use Prim.Native.Nat.{_*_}
 use mathlib.Core.Path.{_≡_}
 use mathlib.Core.Bool.{Bool, true, _&&_}
 use lib.ListN.{length}
-use Rattle.job.specs.Job.{Job}
 use Rattle.text.specs.Range.{within, allWithin}
-use Rattle.job.specs.Range.{parametersInRange}
+use Rattle.job_line.specs.Range.{parametersInRange}
+use Rattle.job.specs.Job.{Job}
 
 unfoldable pub inRange : Job → Bool
 inRange j =

@@ -1,14 +1,9 @@
 // The reader of job text: document 01, "Job text and report", and its refusals 1 to 4.
-mod field;
-mod first;
-mod last;
-mod ranges;
 pub mod reply;
-mod sample;
 mod samples;
 
-use first::Parameters;
-use first::first_line;
+use job_line::first::Parameters;
+use job_line::first::first_line;
 use samples::samples;
 ghost use mathlib.Core.Path.{_≡_};
 ghost use Rattle.job.specs.Job.{jobOf};

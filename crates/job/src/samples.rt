@@ -2,12 +2,12 @@
 use crate::Job;
 use crate::Outcome;
 use crate::Reading;
-use crate::last::Ending;
-use crate::last::last_line;
-use crate::ranges::sample_within;
 use crate::refused;
-use crate::sample::Extent;
-use crate::sample::sample_line;
+use job_line::last::Ending;
+use job_line::last::last_line;
+use job_line::ranges::sample_within;
+use job_line::sample::Extent;
+use job_line::sample::sample_line;
 ghost use mathlib.Core.Path.{_≡_};
 ghost use Prim.Native.Nat.{_+_, _-_, _≤_};
 ghost use lib.Seq.{slice, sets};

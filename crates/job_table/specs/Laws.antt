@@ -9,7 +9,6 @@ use lib.ListN.{length, getD, length-append}
 use lib.Seq.{length-take-le}
 use Rattle.job.specs.Job.{Job, Answer, refused, accepted, jobOf}
 use Rattle.text.specs.Range.{within, allWithin, both, is-within}
-use Rattle.job.specs.Range.{parametersInRange}
 use Rattle.job.specs.Reading.{padded, inArrays, readingOf}
 use Rattle.job.specs.Values.{Proper, inRange}
 use Rattle.job.specs.declared.Job as arrays
@@ -19,6 +18,7 @@ use Rattle.job.proofs.Padding.{padded-take, padded-at}
 use Rattle.scatter.specs.Bounds.{take-bound, readings-bounded, shift-bound}
 use Rattle.scatter.specs.Ranges.{Readings}
 use Rattle.scatter.specs.Table.{tableOf}
+use Rattle.job_line.specs.Range.{parametersInRange}
 use Rattle.job_table.specs.Held.{Held, jobIn, sumsFor, tableFor}
 
 pub all-at : (low high : ℕ) (xs : List ℕ) → allWithin low high xs ≡ true → (i : ℕ) → getD xs i 0 ≤ high
