@@ -29,8 +29,8 @@ use Rattle.record.specs.Run.{noPair, stop}
 use Rattle.record.specs.Running.{run-settled}
 use Rattle.run.specs.Run.{runOf}
 use Rattle.record.specs.declared.run.Outcome.the-variants.{Settled}
-use Rattle.scatter.specs.Samples.{Sample, z, sum, sumsOf}
-use Rattle.scatter.specs.Sums.{scatter-of-samples}
+use Rattle.sums.specs.Samples.{Sample, z, sum, sumsOf}
+use Rattle.scatter.specs.OfSamples.{scatter-of-samples}
 use Rattle.scatter.specs.Table.{scatter, shift, entries}
 
 abbrev pub zeros : ℕ → List ℤ

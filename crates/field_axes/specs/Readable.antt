@@ -13,10 +13,10 @@ use Rattle.job_table.specs.Laws.{all-at}
 use Rattle.ledger.specs.Accepted.{passed}
 use Rattle.limits.specs.Channels.{places}
 use Rattle.scatter.specs.Entries.{length-padded}
-use Rattle.scatter.specs.Ranges.{Readings}
-use Rattle.scatter.specs.Samples.{samples, sumsOf}
+use Rattle.sums.specs.Ranges.{Readings}
+use Rattle.sums.specs.Samples.{samples, sumsOf}
 use Rattle.scatter.specs.Table.{tableOf}
-use Rattle.scatter.specs.declared.sums.Sums.{Sums}
+use Rattle.sums.specs.declared.Sums.{Sums}
 use Rattle.text.specs.Range.{allWithin}
 use Rattle.field_axes.specs.Table.{tableNumbers, tableNumbersOf, tableRefusal, valuesWithin}
 

@@ -6,7 +6,7 @@ use lib.Dec.{eqb, leb}
 use lib.IntN.{ℤ, pos}
 use lib.ListN.{length, take}
 use Rattle.ledger.specs.Refusal.{unless}
-use Rattle.scatter.specs.Samples.{samples, sumsOf}
+use Rattle.sums.specs.Samples.{samples, sumsOf}
 use Rattle.scatter.specs.Table.{tableOf}
 use Rattle.scatter.specs.declared.table.Table.{Table}
 use Rattle.text.specs.Range.{allWithin}

@@ -16,8 +16,9 @@ use Rattle.job.specs.declared.Job as arrays
 use Rattle.job.specs.declared.Outcome.the-variants.{Accepted}
 use Rattle.job.proofs.Accepted.{accepted-proper}
 use Rattle.job.proofs.Padding.{padded-take, padded-at}
-use Rattle.scatter.specs.Bounds.{take-bound, readings-bounded, shift-bound}
-use Rattle.scatter.specs.Ranges.{Readings}
+use Rattle.sums.specs.Bounds.{take-bound, readings-bounded}
+use Rattle.scatter.specs.Bounds.{shift-bound}
+use Rattle.sums.specs.Ranges.{Readings}
 use Rattle.scatter.specs.Table.{tableOf}
 use Rattle.job_table.specs.Held.{Held, jobIn, sumsFor, tableFor}
 

@@ -7,11 +7,11 @@ use native.Mathlib.Numerals.{add-one}
 use native.Mathlib.Omega.{arith}
 use lib.ListN.{length, getD, take, drop}
 use Rattle.integer.specs.Tabulate.{tabulate, length-tabulate, tabulate-suc}
-use Rattle.scatter.specs.Samples.{Sample, sample, sampleAt, samples, sumsAt, sumsOf, raised, z, products}
-use Rattle.scatter.specs.declared.sums.Sums.{Sums}
-use Rattle.scatter.specs.Sums.{sumsAt-more}
-use Rattle.scatter.specs.Ranges.{Readings, InRange, Room}
-use Rattle.scatter.specs.Bounds.{sample-in-range, all-in-range, sumsAt-bound}
+use Rattle.sums.specs.Samples.{Sample, sample, sampleAt, samples, sumsAt, sumsOf, raised, z, products}
+use Rattle.sums.specs.declared.Sums.{Sums}
+use Rattle.sums.specs.Sums.{sumsAt-more}
+use Rattle.sums.specs.Ranges.{Readings, InRange, Room}
+use Rattle.sums.specs.Bounds.{sample-in-range, all-in-range, sumsAt-bound}
 
 module _ (n : ℕ) (dilutions counts : List ℕ) (r : Readings n dilutions counts) (s start : ℕ) (more : s < length dilutions) (e : start ≡ n * s) where
   pub next-start : start + n ≡ n * (s + 1)

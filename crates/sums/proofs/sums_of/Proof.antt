@@ -1,4 +1,4 @@
--- `scatter::sums::sums_of` meets its contract: after s samples the sums are those of the first s.
+-- `sums::sums_of` meets its contract: after s samples the sums are those of the first s.
 use mathlib.Core.Path.{_≡_, refl, sym}
 use Prim.Native.Nat.{_≤_, _-_, _+_, _*_}
 use native.Mathlib.Nat.{mul-zero}
@@ -6,12 +6,12 @@ use native.Mathlib.Omega.{arith}
 use borrow.Author.Needs.{needs}
 use lib.ListN.{length}
 use Rattle.integer.specs.Tabulate.{tabulate}
-use Rattle.scatter.specs.Samples.{sampleAt, sumsAt, sum, z, products}
-use Rattle.scatter.specs.Ranges.{zLimit}
-use Rattle.scatter.specs.Bounds.{z-bound, products-bound}
-use Rattle.scatter.proofs.First.{next-start, part-fits, in-range, sums-next, sums-room, all-samples}
-use Rattle.scatter.proofs.sums.sums_of.Statement.{statement}
-use Rattle.scatter.proofs.sums.sums_of.Tie as tie
+use Rattle.sums.specs.Samples.{sampleAt, sumsAt, sum, z, products}
+use Rattle.sums.specs.Ranges.{zLimit}
+use Rattle.sums.specs.Bounds.{z-bound, products-bound}
+use Rattle.sums.proofs.First.{next-start, part-fits, in-range, sums-next, sums-room, all-samples}
+use Rattle.sums.proofs.sums_of.Statement.{statement}
+use Rattle.sums.proofs.sums_of.Tie as tie
 
 abbrev Inv-loop : tie.InvT-loop
 Inv-loop n dilutions counts channel₀ cross₀ s₀ start₀ channel cross s start =

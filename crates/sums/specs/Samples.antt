@@ -5,7 +5,7 @@ use Prim.Native.Nat.{ℕ, _+_, _*_, _/_, _%_}
 use lib.Dec.{leb}
 use lib.ListN.{length, getD, take, drop}
 use Rattle.integer.specs.Tabulate.{tabulate}
-use Rattle.scatter.specs.declared.sums.Sums.{Sums}
+use Rattle.sums.specs.declared.Sums.{Sums}
 
 -- 'A sample has a dilution and n counts'
 pub record Sample : Type 0 where

@@ -1,10 +1,10 @@
--- `scatter::sums::product` meets its contract: two numbers of 32 bits have a product of 64.
+-- `sums::product` meets its contract: two numbers of 32 bits have a product of 64.
 use Prim.Native.Nat.{_≤_}
 use native.Mathlib.Nat.{mul-le-mul}
 use native.Mathlib.Omega.{arith}
 use borrow.Author.Needs.{needs}
-use Rattle.scatter.proofs.sums.product.Statement.{statement}
-use Rattle.scatter.proofs.sums.product.Tie as tie
+use Rattle.sums.proofs.product.Statement.{statement}
+use Rattle.sums.proofs.product.Tie as tie
 
 mul-result : tie.Need-mul-result
 mul-result c =

@@ -1,4 +1,4 @@
--- `scatter::sums::add_products` meets its contract: the places 8 × i + j with i ≤ j come in rising order, and nothing is added to those between.
+-- `sums::add_products` meets its contract: the places 8 × i + j with i ≤ j come in rising order, and nothing is added to those between.
 use mathlib.Core.Path.{_≡_, refl, _∙_}
 use mathlib.Core.List.{List}
 use Prim.Native.Nat.{ℕ, _≤_, _-_, _+_, _*_}
@@ -6,11 +6,11 @@ use native.Mathlib.Nat.{mul-le-mul, le-refl}
 use native.Mathlib.Omega.{arith}
 use borrow.Author.Needs.{needs}
 use lib.ListN.{length, getD}
-use Rattle.scatter.specs.Samples.{sample, raised, products}
-use Rattle.scatter.proofs.Filled.{Filled, filled-none}
-use Rattle.scatter.proofs.Raised.{raised-more, raised-skip, raised-all, product-at, no-product}
-use Rattle.scatter.proofs.sums.add_products.Statement.{statement}
-use Rattle.scatter.proofs.sums.add_products.Tie as tie
+use Rattle.sums.specs.Samples.{sample, raised, products}
+use Rattle.sums.specs.Filled.{Filled, filled-none}
+use Rattle.sums.proofs.Raised.{raised-more, raised-skip, raised-all, product-at, no-product}
+use Rattle.sums.proofs.add_products.Statement.{statement}
+use Rattle.sums.proofs.add_products.Tie as tie
 
 -- The places below `at` have their products, and the others are as they were in `start`.
 abbrev Sofar : ℕ → List ℕ → List ℕ → List ℕ → ℕ → Type 0

@@ -1,17 +1,15 @@
--- The laws of sums: one sample more, and S of the sums in document 01's words, of the samples.
+-- The laws of sums: one sample more, and what stands at a channel and at a pair of channels.
 use mathlib.Core.Path.{_≡_, refl, sym, _∙_}
 use mathlib.Core.List.{List, [], _∷_, _++_}
-use Prim.Native.Nat.{ℕ, zero, suc, _+_, _*_, _/_, _%_, _<_, _≤_, min, max}
-use native.Mathlib.Nat.{add-assoc, add-zero, zero-add, mul-comm, div-lt-iff-lt-mul, mod-lt, max-eq-left, max-eq-right, min-eq-left, min-eq-right}
+use Prim.Native.Nat.{ℕ, _+_, _*_, _<_, _≤_, min, max}
+use native.Mathlib.Nat.{add-assoc, add-zero, zero-add, mul-comm, max-eq-left, max-eq-right, min-eq-left, min-eq-right}
 use native.Mathlib.Decide.{decLe}
 use native.Mathlib.Omega.{arith}
 use borrow.Author.Tests.{le-leb}
 use lib.Arith.{digits-div, digits-mod}
-use lib.IntN.{pos, _-ℤ_}
 use lib.ListN.{length, getD}
-use Rattle.integer.specs.Tabulate.{tabulate, getD-tabulate, tabulate-ext}
-use Rattle.scatter.specs.Samples.{Sample, z, sum, products, sumsAt, sumsOf, raised}
-use Rattle.scatter.specs.Table.{S, scatter}
+use Rattle.integer.specs.Tabulate.{getD-tabulate, tabulate-ext}
+use Rattle.sums.specs.Samples.{Sample, z, sum, products, sumsAt, sumsOf, raised}
 
 pub sum-append : (f : Sample → ℕ) (ss rs : List Sample) → sum f (ss ++ rs) ≡ sum f ss + sum f rs
 unfolding sum
@@ -41,7 +39,7 @@ module _ (ss : List Sample) where
   cross-at i j h g =
       getD-tabulate 64 (λ p. sum (λ s. products s p) ss) (8 * i + j) 0 (omega arith) ∙ sum-ext _ _ ss (λ s. products-at s i j h g)
 
-  cross-of : (i j : ℕ) → i < 8 → j < 8 → getD (sumsOf ss .cross) (8 * min i j + max i j) 0 ≡ sum (λ s. z s i * z s j) ss
+  pub cross-of : (i j : ℕ) → i < 8 → j < 8 → getD (sumsOf ss .cross) (8 * min i j + max i j) 0 ≡ sum (λ s. z s i * z s j) ss
   cross-of i j a b = go (decLe i j)
     where
       go : Dec (i ≤ j) → getD (sumsOf ss .cross) (8 * min i j + max i j) 0 ≡ sum (λ s. z s i * z s j) ss
@@ -50,23 +48,10 @@ module _ (ss : List Sample) where
           let h : j ≤ i = omega arith in
           rw (min-eq-right h, max-eq-left h) (cross-at j i h a ∙ sum-ext _ _ ss (λ s. mul-comm (z s j) (z s i)))
 
-  channel-of : (i : ℕ) → i < 8 → getD (sumsOf ss .channel) i 0 ≡ sum (λ s. z s i) ss
+  pub channel-of : (i : ℕ) → i < 8 → getD (sumsOf ss .channel) i 0 ≡ sum (λ s. z s i) ss
   unfolding sumsOf sumsAt
   channel-of i h = getD-tabulate 8 (λ p. sum (λ s. z s p) ss) i 0 h
 
-  number-of : sumsOf ss .k ≡ length ss
+  pub number-of : sumsOf ss .k ≡ length ss
   unfolding sumsOf
   number-of = refl
-
-  -- 'S_ij = k × (sum of z_i×z_j) − (sum of z_i)×(sum of z_j)'
-  pub S-of-samples : (i j : ℕ) → i < 8 → j < 8 → S (sumsOf ss) i j ≡ pos (length ss * sum (λ s. z s i * z s j) ss) -ℤ pos (sum (λ s. z s i) ss * sum (λ s. z s j) ss)
-  unfolding S
-  S-of-samples i j a b = rw (number-of, cross-of i j a b, channel-of i a, channel-of j b)
-
-  -- and so row after row
-  pub scatter-of-samples : (n : ℕ) → n ≤ 8 → scatter n (sumsOf ss) ≡ tabulate (n * n) (λ p. pos (length ss * sum (λ s. z s (p / n) * z s (p % n)) ss) -ℤ pos (sum (λ s. z s (p / n)) ss * sum (λ s. z s (p % n)) ss))
-  unfolding scatter
-  scatter-of-samples zero h = tabulate-ext 0 _ _ (λ p b. absurd (omega arith))
-  scatter-of-samples (suc m) h =
-      tabulate-ext (suc m * suc m) _ _
-      (λ p b. S-of-samples (p / suc m) (p % suc m) (omega (arith, div-lt-iff-lt-mul {k = suc m} {x = p} {y = suc m} (omega arith) .1 b)) (omega (arith, mod-lt p {m = suc m} (omega arith))))

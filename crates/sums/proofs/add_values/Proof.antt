@@ -1,15 +1,15 @@
--- `scatter::sums::add_values` meets its contract: channel after channel the value is added, and a channel that the sample lacks keeps its sum.
+-- `sums::add_values` meets its contract: channel after channel the value is added, and a channel that the sample lacks keeps its sum.
 use mathlib.Core.Path.{refl}
 use Prim.Native.Nat.{_≤_, _-_, _+_}
 use native.Mathlib.Nat.{mul-le-mul, le-refl}
 use native.Mathlib.Omega.{arith}
 use borrow.Author.Needs.{needs}
 use lib.ListN.{length}
-use Rattle.scatter.specs.Samples.{sample, raised, z}
-use Rattle.scatter.proofs.Filled.{Filled, filled-none}
-use Rattle.scatter.proofs.Raised.{raised-more, raised-skip, raised-all, no-value}
-use Rattle.scatter.proofs.sums.add_values.Statement.{statement}
-use Rattle.scatter.proofs.sums.add_values.Tie as tie
+use Rattle.sums.specs.Samples.{sample, raised, z}
+use Rattle.sums.specs.Filled.{Filled, filled-none}
+use Rattle.sums.proofs.Raised.{raised-more, raised-skip, raised-all, no-value}
+use Rattle.sums.proofs.add_values.Statement.{statement}
+use Rattle.sums.proofs.add_values.Tie as tie
 
 abbrev Inv-loop : tie.InvT-loop
 Inv-loop dilution counts channel₀ i₀ channel i =
