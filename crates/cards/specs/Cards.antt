@@ -14,7 +14,7 @@ use Rattle.rounding.specs.Rounding.{rnd}
 use Rattle.run.specs.Cards as running
 use Rattle.run.specs.Run.{runOf}
 use Rattle.scatter.specs.Cards.{three, two, card-8, card-10, card-11}
-use Rattle.scatter.specs.Samples.{Sample, sumsOf}
+use Rattle.sums.specs.Samples.{Sample, sumsOf}
 use Rattle.scatter.specs.Table.{largest, scatter, shift, entries}
 use Rattle.run.specs.declared.Outcome.the-variants.{Settled}
 use Rattle.cards.specs.Printed.{jobText, reportText, prints-the-report}

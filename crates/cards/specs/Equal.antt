@@ -22,8 +22,8 @@ use Rattle.ledger.specs.Pairs.{cyclic}
 use Rattle.rounding.specs.Nearest.{rnd-zero}
 use Rattle.rounding.specs.Rounding.{rnd}
 use Rattle.record.specs.Accepted.{after-accepted, load-accepted, loose-pair-accepted}
-use Rattle.scatter.specs.Samples.{Sample, z, sum, sumsOf}
-use Rattle.scatter.specs.Sums.{scatter-of-samples}
+use Rattle.sums.specs.Samples.{Sample, z, sum, sumsOf}
+use Rattle.scatter.specs.OfSamples.{scatter-of-samples}
 use Rattle.scatter.specs.Table.{scatter, shift, entries}
 use Rattle.rotation.specs.InUse.{inUse-inside}
 use Rattle.run.specs.Run.{noPair, stop, runOf}

@@ -15,7 +15,7 @@ use Rattle.report.specs.Report.{outcomeWord, runFor, lineR, lineA, reportOf}
 use Rattle.job.specs.Reply.{printedBy, printedOf}
 use Rattle.rounding.specs.Rounding.{rnd}
 use Rattle.run.specs.Cards as running
-use Rattle.scatter.specs.Samples.{samples, sampleAt, sumsOf, sumsAt, sum, products, z}
+use Rattle.sums.specs.Samples.{samples, sampleAt, sumsOf, sumsAt, sum, products, z}
 use Rattle.scatter.specs.Table.{S, scatter, largest, smallest, shift, entries, padded, tableOf}
 use Rattle.text.specs.Decimal.{digits, digitsBy, number}
 use Rattle.text.specs.Line.{line, further, numberLine, wordLine}

@@ -1,7 +1,3 @@
-mod RunRefusals
-mod Following
 mod Answered
-mod Within
-mod TableRefusals
 mod Reporting
 mod Playing

@@ -1,8 +1,4 @@
 pub mod Answer
-pub mod Solution
-pub mod Solvable
-pub mod Table
-pub mod Readable
 pub mod Report
 pub mod Calls
 pub mod Done

@@ -1,11 +1,16 @@
 // The functions of the static library, for Rust and C. bindings/ declares them; nothing checks those declarations against these.
-mod numbers;
-mod solve;
-mod table;
-
 use job::reply::Reply;
 use play::Output;
+ghost use mathlib.Core.Path.{_≡_};
+ghost use lib.IntN.{pos, negℤ};
 ghost use Rattle.field_axes.specs.Done.{PlaysText, ReportsText, Solves, Tabulates};
+
+// The answer of a refusal.
+fn refused(number: u32) -> i64
+    ensures { λ r. ⌜ r ≡ negℤ (pos number) ⌝ }
+{
+    0 - number as i64
+}
 
 // A run on n×n numbers, row after row, and its axes. Into `out`: the outcome (0 settled, 1 still, 2 spent), the sweeps run, m, then for
 // each axis a_ii, r_i and the n numbers of its row. The answer is how many numbers these are, or the refusal's number negated.
@@ -19,11 +24,11 @@ pub extern "C" fn field_axes_solve(
 ) -> i64
     ensures { λ r. ⌜ Solves n (now (numbers .entry)) limit tolerance (now (out .entry)) (now (out .exit)) r ⌝ }
 {
-    let number = solve::solve_refusal(n, numbers, limit, tolerance, out.len());
+    let number = solution::solve_refusal(n, numbers, limit, tolerance, out.len());
     if number != 0 {
-        return numbers::refused(number);
+        return refused(number);
     }
-    solve::put_solution(n, numbers, limit, tolerance, out) as i64
+    solution::put_solution(n, numbers, limit, tolerance, out) as i64
 }
 
 // The table of samples, a dilution each and n counts each, sample after sample. Into `out`: the shift e, the n×n exact S_ij, and the n×n
@@ -37,11 +42,11 @@ pub extern "C" fn field_axes_table(
 ) -> i64
     ensures { λ r. ⌜ Tabulates n (now (dilutions .entry)) (now (counts .entry)) (now (out .entry)) (now (out .exit)) r ⌝ }
 {
-    let number = table::table_refusal(n, dilutions, counts, out.len());
+    let number = table_numbers::table_refusal(n, dilutions, counts, out.len());
     if number != 0 {
-        return numbers::refused(number);
+        return refused(number);
     }
-    table::put_table(n, dilutions, counts, out) as i64
+    table_numbers::put_table(n, dilutions, counts, out) as i64
 }
 
 // A job text to its report, document 01's `axes` as a function. Into `out`: the report. The answer is its length, or the refusal's number
@@ -58,7 +63,7 @@ pub extern "C" fn field_axes_report(text: &[u8], out: &mut [u8], line: &mut usiz
         }
         Reply::Refused(number, at) => {
             *line = at;
-            numbers::refused(number as u32)
+            refused(number as u32)
         }
     }
 }

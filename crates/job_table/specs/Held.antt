@@ -5,10 +5,10 @@ use lib.ListN.{length, take}
 use Rattle.job.specs.Job.{Job}
 use Rattle.job.specs.Values.{Proper}
 use Rattle.job.specs.declared.Job as arrays
-use Rattle.scatter.specs.Ranges.{Readings}
-use Rattle.scatter.specs.Samples.{samples, sumsOf}
+use Rattle.sums.specs.Ranges.{Readings}
+use Rattle.sums.specs.Samples.{samples, sumsOf}
 use Rattle.scatter.specs.Table.{tableOf}
-use Rattle.scatter.specs.declared.sums.Sums.{Sums}
+use Rattle.sums.specs.declared.Sums.{Sums}
 use Rattle.scatter.specs.declared.table.Table.{Table}
 
 -- The first k dilutions and the first k × n counts

@@ -1,29 +1,26 @@
 -- Laws of jobs: the ranges of a proper one, its readings, and that the job of an accepted text is held by its arrays.
 use Prim.Native.Nat.{ℕ, _*_, _≤_, _<_}
-use mathlib.Core.Path.{_≡_, refl, sym, ap, subst, _∙_}
+use mathlib.Core.Path.{_≡_, refl, sym, ap, _∙_}
 use mathlib.Core.Bool.{true}
 use mathlib.Core.List.{List}
 use native.Mathlib.Nat.{mul-comm, mul-le-mul}
 use native.Mathlib.Omega.{arith}
-use lib.ListN.{length, getD, length-append}
+use lib.ListN.{length, length-append}
 use lib.Seq.{length-take-le}
 use Rattle.job.specs.Job.{Job, Answer, refused, accepted, jobOf}
-use Rattle.text.specs.Range.{within, allWithin, both, is-within}
+use Rattle.text.specs.Range.{within, all-at, allWithin, both, is-within}
 use Rattle.job.specs.Reading.{padded, inArrays, readingOf}
 use Rattle.job.specs.Values.{Proper, inRange}
 use Rattle.job.specs.declared.Job as arrays
 use Rattle.job.specs.declared.Outcome.the-variants.{Accepted}
 use Rattle.job.proofs.Accepted.{accepted-proper}
-use Rattle.job.proofs.Padding.{padded-take, padded-at}
-use Rattle.scatter.specs.Bounds.{take-bound, readings-bounded, shift-bound}
-use Rattle.scatter.specs.Ranges.{Readings}
+use Rattle.job.proofs.Padding.{padded-take}
+use Rattle.sums.specs.Bounds.{readings-bounded}
+use Rattle.scatter.specs.Bounds.{shift-bound}
+use Rattle.sums.specs.Ranges.{Readings}
 use Rattle.scatter.specs.Table.{tableOf}
 use Rattle.job_line.specs.Range.{parametersInRange}
 use Rattle.job_table.specs.Held.{Held, jobIn, sumsFor, tableFor}
-
-pub all-at : (low high : ℕ) (xs : List ℕ) → allWithin low high xs ≡ true → (i : ℕ) → getD xs i 0 ≤ high
-all-at low high xs p i =
-    subst (λ l. getD l i 0 ≤ high) (padded-take 0 xs) (take-bound high (length xs) (padded 0 xs) (padded-at 0 low high xs p) i)
 
 module _ (j : Job) (p : Proper j) where
   ranges : (parametersInRange (j .n) (j .limit) (j .tolerance) ≡ true) × (allWithin 1 100 (j .dilutions) ≡ true) × (allWithin 0 65535 (j .counts) ≡ true)

@@ -9,7 +9,6 @@ ghost use mathlib.Core.Path.{_≡_};
 pub mod lent;
 mod rows;
 
-pub use load::load_refusal;
 pub use query::Answer;
 
 // Channels n, 0 where there is no matrix; turns made m; refused calls; the kept matrix and axes, row after row, 8 to a row.

@@ -8,7 +8,7 @@ use Rattle.limits.specs.Limits.{toleranceLimit}
 use Rattle.ledger.specs.Refusal.{matrixOf, refusalOf}
 use Rattle.scatter.specs.Entries.{entries-symmetric, entries-within, length-scatter, table-entries}
 use Rattle.scatter.specs.Table.{entries, scatter, tableOf}
-use Rattle.scatter.specs.declared.sums.Sums.{Sums}
+use Rattle.sums.specs.declared.Sums.{Sums}
 use Rattle.record.specs.Accepted.{load-accepted}
 use Rattle.run.specs.Calls.{Allowed}
 

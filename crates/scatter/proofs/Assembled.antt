@@ -8,11 +8,12 @@ use lib.ListN.{length, getD}
 use Rattle.integer.specs.Tabulate.{tabulate, tabulate-ext, getD-repeated}
 use Rattle.limits.specs.Channels.{places}
 use Rattle.rounding.specs.Rounding.{rnd}
-use Rattle.scatter.specs.declared.sums.Sums.{Sums}
+use Rattle.sums.specs.declared.Sums.{Sums}
 use Rattle.scatter.specs.declared.table.Table.{Table}
 use Rattle.scatter.specs.Table.{scatter, largest, shift, entries, padded, tableOf}
 use Rattle.scatter.specs.Entries.{entry-at, padded-at, length-scatter, largest-padded}
-use Rattle.scatter.specs.Ranges.{Bounded, Small, ZeroFrom}
+use Rattle.sums.specs.Ranges.{Bounded}
+use Rattle.scatter.specs.Ranges.{Small, ZeroFrom}
 use Rattle.scatter.specs.Bounds.{padded-small}
 use Rattle.scatter.specs.Shift.{Smallest, shift-is, shift-small, largest-least}
 use Rattle.scatter.proofs.Places.{no-entry}

@@ -1,5 +1,2 @@
-pub mod Filled
-pub mod Raised
-pub mod First
 pub mod Places
 pub mod Assembled

@@ -6,7 +6,7 @@ use lib.IntN.{ℤ, pos}
 use lib.ListN.{replicate}
 use Rattle.integer.specs.Tabulate.{tabulate}
 use Rattle.rounding.specs.Rounding.{rnd}
-use Rattle.scatter.specs.Samples.{samples, sampleAt, sumsOf, sumsAt, sum, products, z}
+use Rattle.sums.specs.Samples.{samples, sampleAt, sumsOf, sumsAt, sum, products, z}
 use Rattle.scatter.specs.Table.{S, scatter, largest, smallest, shift, entries}
 
 -- 'The three samples above: S is 50, 25, 25, 50; e = 0.'

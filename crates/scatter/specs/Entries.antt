@@ -13,7 +13,7 @@ use lib.Seq.{ext-getD, length-take-le, getD-take}
 use Rattle.integer.specs.Tabulate.{length-tabulate, getD-tabulate, tabulate-all}
 use Rattle.rounding.specs.Rounding.{rnd}
 use Rattle.rounding.specs.Nearest.{rnd-bound, rnd-zero}
-use Rattle.scatter.specs.declared.sums.Sums.{Sums}
+use Rattle.sums.specs.declared.Sums.{Sums}
 use Rattle.limits.specs.Channels.{place-below, places}
 use Rattle.limits.specs.Limits.{entryLimit}
 use Rattle.scatter.specs.Table.{S, scatter, largest, shift, entries, padded, tableOf}

@@ -1,7 +1,6 @@
-pub mod Samples
 pub mod Table
 pub mod Ranges
-pub mod Sums
+pub mod OfSamples
 pub mod Shift
 pub mod Bounds
 pub mod Entries

@@ -8,7 +8,7 @@ use lib.ListN.{getD}
 use Rattle.integer.specs.Tabulate.{tabulate}
 use Rattle.limits.specs.Limits.{entryLimit}
 use Rattle.rounding.specs.Rounding.{rnd}
-use Rattle.scatter.specs.declared.sums.Sums.{Sums}
+use Rattle.sums.specs.declared.Sums.{Sums}
 use Rattle.scatter.specs.declared.table.Table.{Table}
 
 -- 'S_ij = k × (sum of z_i×z_j) − (sum of z_i)×(sum of z_j)'

@@ -1,3 +1,2 @@
-// From readings to a table: samples, their sums, the scatter S, the shift e and the loaded entries.
-pub mod sums;
+// The table of sums: the scatter S, the shift e and the loaded entries.
 pub mod table;

@@ -1,14 +1,15 @@
 // The table of sums: S, the shift e, and the entries that are loaded.
-use crate::sums::Sums;
+use sums::Sums;
 ghost use mathlib.Core.Path.{_≡_};
 ghost use Prim.Native.Nat.{_+_, _*_, _^_, _<_, _≤_, min, max};
 ghost use lib.IntN.{pos, _-ℤ_};
 ghost use lib.ListN.{getD};
 ghost use Rattle.integer.specs.Tabulate.{tabulate};
 ghost use Rattle.rounding.specs.Rounding.{rnd};
-ghost use Rattle.scatter.specs.Samples.{samples, sumsOf};
+ghost use Rattle.sums.specs.Samples.{samples, sumsOf};
 ghost use Rattle.scatter.specs.Table.{scatter, largest, padded, tableOf};
-ghost use Rattle.scatter.specs.Ranges.{Readings, Bounded, Small, ZeroFrom};
+ghost use Rattle.sums.specs.Ranges.{Readings, Bounded};
+ghost use Rattle.scatter.specs.Ranges.{Small, ZeroFrom};
 ghost use Rattle.scatter.specs.Shift.{Smallest};
 
 // n × n numbers, row after row, and zeros after them: the entries, and the exact S_ij that they are rounded from.
@@ -120,5 +121,5 @@ pub fn table_of_readings(n: usize, dilutions: &[u32], counts: &[u32]) -> Table
     requires { ⌜ Readings n (now dilutions) (now counts) ⌝ }
     ensures { λ r. ⌜ r ≡ tableOf n (sumsOf (samples n (now (dilutions .entry)) (now (counts .entry)))) ⌝ }
 {
-    table_of(n, crate::sums::sums_of(n, dilutions, counts))
+    table_of(n, sums::sums_of(n, dilutions, counts))
 }

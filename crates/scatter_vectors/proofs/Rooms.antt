@@ -7,8 +7,8 @@ use native.Mathlib.Omega.{arith}
 use lib.ListN.{getD, set, take, replicate, length-replicate, length-set}
 use lib.Seq.{length-take-le, getD-set-same, getD-set-other}
 use Rattle.integer.specs.Tabulate.{getD-repeated}
-use Rattle.scatter.specs.Ranges.{Room, Readings}
-use Rattle.scatter.specs.Bounds.{take-bound}
+use Rattle.sums.specs.Ranges.{Room, Readings}
+use Rattle.sums.specs.Bounds.{take-bound}
 
 module _ {m b : ℕ} where
   pub room-zeros : Room m b (replicate m 0)

@@ -1,7 +1,7 @@
 -- `scatter_vectors::readings_of` meets its contract: each write is within the range.
 use Prim.Native.Nat.{_-_, _≤_}
 use borrow.Author.Needs.{needs}
-use Rattle.scatter.specs.Ranges.{Room}
+use Rattle.sums.specs.Ranges.{Room}
 use Rattle.scatter_vectors.specs.Limit.{limitOf}
 use Rattle.scatter_vectors.proofs.Rooms.{room-zeros, room-set}
 use Rattle.scatter_vectors.proofs.readings_of.Statement.{statement}

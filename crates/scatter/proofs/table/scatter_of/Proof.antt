@@ -9,7 +9,7 @@ use lib.IntN.{pos}
 use Rattle.limits.specs.Channels.{place-below}
 use Rattle.scatter.specs.Table.{scatter, padded}
 use Rattle.scatter.specs.Bounds.{number-times-cross, channel-times-channel}
-use Rattle.scatter.proofs.Filled.{Filled, filled-none, filled-more}
+use Rattle.sums.specs.Filled.{Filled, filled-none, filled-more}
 use Rattle.scatter.proofs.Places.{zeros, S-stored, all-rows}
 use Rattle.scatter.proofs.table.scatter_of.Statement.{statement}
 use Rattle.scatter.proofs.table.scatter_of.Tie as tie

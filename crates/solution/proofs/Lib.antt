@@ -1,0 +1,2 @@
+mod RunRefusals
+mod Following

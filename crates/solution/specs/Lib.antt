@@ -1,0 +1,2 @@
+pub mod Solution
+pub mod Solvable

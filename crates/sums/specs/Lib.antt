@@ -1,0 +1,5 @@
+pub mod Samples
+pub mod Ranges
+pub mod Sums
+pub mod Bounds
+pub mod Filled
