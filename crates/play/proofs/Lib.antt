@@ -1,8 +1,4 @@
-mod Splitting
-mod Digits
-mod Lines
 mod Playing
-mod Printing
 mod Stepping
 mod Whole
 mod Passing

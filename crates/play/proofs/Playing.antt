@@ -15,14 +15,15 @@ use Rattle.record.specs.Done.{Done, AxisDone}
 use Rattle.record.specs.declared.AxisStep.{AxisStep}
 use Rattle.record.specs.declared.Record.{Record}
 use Rattle.record.specs.declared.Step.{Step}
-use Rattle.play.specs.Calls.{callBy, loadOf, oneOf, sweepOf, turnOf}
-use Rattle.play.specs.Played.{Plays, doneOf, playedBy, rowOf, wholeOf}
-use Rattle.play.specs.Read.{found, unsignedIs}
-use Rattle.play.specs.declared.field.Unsigned.{Unsigned}
-use Rattle.play.specs.declared.field.Unsigned.the-variants.{Is, No}
-use Rattle.play.specs.declared.line.Line.{Line}
-use Rattle.play.specs.declared.played.Played.{Played}
-use Rattle.play.proofs.Digits.{read-some, read-none}
+use Rattle.answer_text.specs.Answers.{rowOf}
+use Rattle.answer_text.specs.declared.Played.{Played}
+use Rattle.call_text.specs.Calls.{callBy, loadOf, oneOf, sweepOf, turnOf}
+use Rattle.call_text.specs.Read.{found, unsignedIs}
+use Rattle.call_text.specs.declared.field.Unsigned.{Unsigned}
+use Rattle.call_text.specs.declared.field.Unsigned.the-variants.{Is, No}
+use Rattle.call_text.specs.declared.line.Line.{Line}
+use Rattle.call_text.proofs.Digits.{read-some, read-none}
+use Rattle.play.specs.Played.{Plays, doneOf, playedBy, wholeOf}
 
 pub plays-as : {r : Record} {z : Played} (o p : Option Call) → o ≡ p → Plays r p z → Plays r o z
 plays-as o p e h = rw e h

@@ -10,15 +10,15 @@ use lib.ListN.{length, take, drop, drop-of-length-le}
 use Rattle.text.specs.Parts.{split}
 use Rattle.ledger.specs.Call.{Call}
 use Rattle.record.specs.declared.Record.{Record}
-use Rattle.play.specs.Answers.{answerLine, linePrinted, shown}
-use Rattle.play.specs.Calls.{callOf}
-use Rattle.play.specs.Parts.{front}
+use Rattle.answer_text.specs.Answers.{answerLine, linePrinted, shown}
+use Rattle.answer_text.specs.declared.Played.{Played}
+use Rattle.answer_text.specs.declared.Printed.{Printed}
+use Rattle.call_text.specs.Calls.{callOf}
+use Rattle.call_text.specs.Parts.{front}
+use Rattle.call_text.proofs.Splitting.{partsAfter, parts-end, parts-more, split-front, take-front}
 use Rattle.play.specs.Played.{playedBy}
 use Rattle.play.specs.Steps.{onward, stepped, stopped}
 use Rattle.play.specs.Text.{unknownLine}
-use Rattle.play.specs.declared.answer.Printed.{Printed}
-use Rattle.play.specs.declared.played.Played.{Played}
-use Rattle.play.proofs.Splitting.{partsAfter, parts-end, parts-more, split-front, take-front}
 
 module _ (r : Record) (k at size : ℕ) (p : Played) where
   onward-unknown : (o : Option Call) → p ≡ playedBy r o → not (p .known) ≡ true → onward r k at size o ≡ stopped r at (unknownLine k)

@@ -13,13 +13,13 @@ use Rattle.text.specs.Parts.{split}
 use Rattle.ledger.specs.Call.{Call}
 use Rattle.record.specs.Kept.{Kept}
 use Rattle.record.specs.declared.Record.{Record}
-use Rattle.play.specs.Answers.{linePrinted}
-use Rattle.play.specs.Calls.{callOf}
-use Rattle.play.specs.Parts.{front}
+use Rattle.answer_text.specs.Answers.{linePrinted}
+use Rattle.call_text.specs.Calls.{callOf}
+use Rattle.call_text.specs.Parts.{front}
+use Rattle.call_text.proofs.Splitting.{partsAfter, parts-end, parts-more, split-front}
 use Rattle.play.specs.Steps.{Reached, onward, printedBy, stepped, stopped}
 use Rattle.play.specs.Text.{answered, playedFrom, unknownLine}
 use Rattle.play.specs.declared.Stepped.{Stepped}
-use Rattle.play.proofs.Splitting.{partsAfter, parts-end, parts-more, split-front}
 
 module _ (text : List ℕ) (at : ℕ) (line part : List ℕ) (parts : List (List ℕ)) (q : split 10 (drop at text) ≡ line ∷ part ∷ parts) where
   both : front 10 (drop at text) ∷ partsAfter 10 text (at + length (front 10 (drop at text))) ≡ line ∷ part ∷ parts

@@ -2,25 +2,17 @@
 use Prim.Native.Nat.{ℕ}
 use mathlib.Core.Path.{_≡_}
 use mathlib.Core.Bool.{true, false}
-use mathlib.Core.List.{List}
 use mathlib.Core.Option.{Option, none, some}
 use lib.IntN.{ℤ, pos, negsuc}
 use lib.ListN.{replicate}
-use Rattle.ledger.specs.Call.{Call, load, turn, sweep, loosePair, axis}
+use Rattle.ledger.specs.Call.{Call}
 use Rattle.record.specs.Kept.{Kept}
-use Rattle.record.specs.Record.{afterOf, answerOf, axisOf}
+use Rattle.record.specs.Record.{afterOf, answerOf}
 use Rattle.record.specs.declared.Record.{Record}
 use Rattle.record.specs.declared.Step.{Step}
+use Rattle.answer_text.specs.Answers.{rowOf}
+use Rattle.answer_text.specs.declared.Played.{Played}
 use Rattle.query.specs.declared.Answer.the-variants.{Loaded}
-use Rattle.play.specs.declared.played.Played.{Played}
-
--- row i of v, of an axis call
-unfoldable pub rowOf : Record → Call → List ℤ
-rowOf r (load n numbers) = replicate 8 (pos 0)
-rowOf r (turn p q) = replicate 8 (pos 0)
-rowOf r sweep = replicate 8 (pos 0)
-rowOf r (loosePair t) = replicate 8 (pos 0)
-rowOf r (axis i) = axisOf r i
 
 -- a line that is no call has no answer, and leaves the record as it was
 unfoldable pub playedBy : Record → Option Call → Played

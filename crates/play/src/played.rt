@@ -1,6 +1,7 @@
 // A line's call, played on a record.
-use crate::field::Unsigned;
-use crate::line::Line;
+use answer_text::Played;
+use call_text::field::Unsigned;
+use call_text::line::Line;
 use record::Answer;
 use record::Record;
 use record::Step;
@@ -9,19 +10,11 @@ ghost use mathlib.Core.Path.{_≡_};
 ghost use Prim.Native.Nat.{_≤_, _<_};
 ghost use lib.IntN.{pos};
 ghost use lib.ListN.{getD, length, take};
+ghost use Rattle.call_text.specs.Calls.{loadOf, oneOf, sweepOf, turnOf};
+ghost use Rattle.call_text.specs.Read.{found, unsignedIs};
 ghost use Rattle.ledger.specs.Call.{axis, loosePair};
-ghost use Rattle.play.specs.Calls.{loadOf, oneOf, sweepOf, turnOf};
-ghost use Rattle.play.specs.Played.{Plays, doneOf, wholeOf};
-ghost use Rattle.play.specs.Read.{found, unsignedIs};
 ghost use Rattle.record.specs.Kept.{Kept};
-
-// What a line does: whether it is a call, its answer with the row of an axis call, and the record after it.
-pub struct Played {
-    pub known: bool,
-    pub answer: Answer,
-    pub row: [i64; 8],
-    pub next: Record,
-}
+ghost use Rattle.play.specs.Played.{Plays, doneOf, wholeOf};
 
 // A line that is no call leaves the record as it was.
 fn unknown(r: Record) -> Played

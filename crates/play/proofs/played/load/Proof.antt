@@ -1,7 +1,7 @@
 -- `played::load` meets its contract: no number, a number n with a minus, or n and the numbers.
 use mathlib.Core.Path.{refl}
 use borrow.Author.Needs.{needs}
-use Rattle.play.specs.Played.{rowOf}
+use Rattle.answer_text.specs.Answers.{rowOf}
 use Rattle.play.proofs.Playing.{plays-as, plays-done, load-other, load-no, load-is}
 use Rattle.play.proofs.played.load.Statement.{statement}
 use Rattle.play.proofs.played.load.Tie as tie

@@ -1,7 +1,7 @@
 -- `played::loose_pair` meets its contract: no number, a number with a minus, or t.
 use mathlib.Core.Path.{refl}
 use borrow.Author.Needs.{needs}
-use Rattle.play.specs.Played.{rowOf}
+use Rattle.answer_text.specs.Answers.{rowOf}
 use Rattle.play.proofs.Playing.{plays-as, plays-done, one-other, one-no, one-is}
 use Rattle.play.proofs.played.loose_pair.Statement.{statement}
 use Rattle.play.proofs.played.loose_pair.Tie as tie

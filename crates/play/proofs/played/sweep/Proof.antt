@@ -1,7 +1,7 @@
 -- `played::sweep` meets its contract: some number, or none.
 use mathlib.Core.Path.{refl}
 use borrow.Author.Needs.{needs}
-use Rattle.play.specs.Played.{rowOf}
+use Rattle.answer_text.specs.Answers.{rowOf}
 use Rattle.play.proofs.Playing.{plays-as, plays-done, sweep-other, sweep-alone}
 use Rattle.play.proofs.played.sweep.Statement.{statement}
 use Rattle.play.proofs.played.sweep.Tie as tie

@@ -1,7 +1,7 @@
 -- `played::turn` meets its contract: other than two numbers, one with a minus, or p and q.
 use mathlib.Core.Path.{refl}
 use borrow.Author.Needs.{needs}
-use Rattle.play.specs.Played.{rowOf}
+use Rattle.answer_text.specs.Answers.{rowOf}
 use Rattle.play.proofs.Playing.{plays-as, plays-done, turn-other, turn-no, turn-no-second, turn-is}
 use Rattle.play.proofs.played.turn.Statement.{statement}
 use Rattle.play.proofs.played.turn.Tie as tie

@@ -1,0 +1,4 @@
+pub mod Numbers
+pub mod Calls
+pub mod Read
+pub mod Parts

@@ -1,0 +1,4 @@
+// The reader of a line of calls: its tag and its numbers.
+pub mod field;
+pub mod find;
+pub mod line;
