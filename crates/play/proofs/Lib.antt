@@ -1,4 +1,3 @@
-mod Playing
 mod Stepping
 mod Whole
 mod Passing

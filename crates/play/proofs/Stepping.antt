@@ -16,7 +16,7 @@ use Rattle.answer_text.specs.declared.Printed.{Printed}
 use Rattle.call_text.specs.Calls.{callOf}
 use Rattle.call_text.specs.Parts.{front}
 use Rattle.call_text.proofs.Splitting.{partsAfter, parts-end, parts-more, split-front, take-front}
-use Rattle.play.specs.Played.{playedBy}
+use Rattle.played.specs.Played.{playedBy}
 use Rattle.play.specs.Steps.{onward, stepped, stopped}
 use Rattle.play.specs.Text.{unknownLine}
 

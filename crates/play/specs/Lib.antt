@@ -1,4 +1,3 @@
-pub mod Played
 pub mod Text
 pub mod Buffer
 pub mod Steps

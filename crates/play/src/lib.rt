@@ -1,6 +1,5 @@
 // Calls read from text, played on a record, and answered by text.
 mod passes;
-mod played;
 
 use answer_text::Printed;
 use answer_text::answer_line;

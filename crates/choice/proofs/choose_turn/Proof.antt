@@ -1,4 +1,4 @@
--- `rotation::choice::choose_turn` meets its contract.
+-- `choice::choose_turn` meets its contract.
 use mathlib.Core.Path.{ap}
 use native.Mathlib.Omega.{arith}
 use borrow.Author.Needs.{needs}

@@ -1,4 +1,4 @@
--- `rotation::choice::smallest_fit` meets its contract. The loop's invariant: the search from l on gives what the search from 1 gives.
+-- `choice::smallest_fit` meets its contract. The loop's invariant: the search from l on gives what the search from 1 gives.
 use mathlib.Core.Path.{_≡_, refl, sym, _∙_}
 use Prim.Native.Nat.{_-_, _≤_}
 use native.Mathlib.Omega.{arith}

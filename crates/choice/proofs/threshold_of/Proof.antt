@@ -1,4 +1,4 @@
--- `rotation::choice::threshold_of` meets its contract: every entry of the table is T_l, by one test over the table.
+-- `choice::threshold_of` meets its contract: every entry of the table is T_l, by one test over the table.
 use mathlib.Core.Path.{_≡_}
 use mathlib.Core.List.{List, [], _∷_}
 use Prim.Native.Nat.{ℕ, _-_, _≤_}

@@ -1,4 +1,4 @@
--- `record::load::all_within` meets its contract. The loop's invariant: the numbers from place k on give what all give.
+-- `load::all_within` meets its contract. The loop's invariant: the numbers from place k on give what all give.
 use mathlib.Core.Path.{_≡_, refl, sym, _∙_}
 use Prim.Native.Nat.{_-_, _≤_}
 use native.Mathlib.Omega.{arith}

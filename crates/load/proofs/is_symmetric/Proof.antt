@@ -1,4 +1,4 @@
--- `record::load::is_symmetric` meets its contract. The loop's invariant: every row passed is mirrored.
+-- `load::is_symmetric` meets its contract. The loop's invariant: every row passed is mirrored.
 use mathlib.Core.Path.{_≡_, refl, sym, _∙_}
 use mathlib.Core.Bool.{Bool, true}
 use Prim.Native.Nat.{ℕ, _-_, _≤_}

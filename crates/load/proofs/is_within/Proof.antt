@@ -1,4 +1,4 @@
--- `record::load::is_within` meets its contract, by the two tests.
+-- `load::is_within` meets its contract, by the two tests.
 use mir.Facts.{toZ-ofZ}
 use borrow.Author.Needs.{needs}
 use Rattle.load.proofs.Checks.{beyond-below, not-below}

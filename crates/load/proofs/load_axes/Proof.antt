@@ -1,4 +1,4 @@
--- `record::load::load_axes` meets its contract. The loop's invariant: the axes of i channels.
+-- `load::load_axes` meets its contract. The loop's invariant: the axes of i channels.
 use mathlib.Core.Path.{_≡_}
 use Prim.Native.Nat.{_-_, _≤_}
 use native.Mathlib.Omega.{arith}

@@ -1,4 +1,4 @@
--- `record::load::load_matrix` meets its contract: the rows are filled row by row.
+-- `load::load_matrix` meets its contract: the rows are filled row by row.
 use mathlib.Core.Path.{_≡_, _∙_}
 use mathlib.Core.List.{List}
 use Prim.Native.Nat.{ℕ, _-_, _≤_}

@@ -1,4 +1,4 @@
--- `record::load::load_refusal` meets its contract, a test at a time.
+-- `load::load_refusal` meets its contract, a test at a time.
 use mathlib.Core.Path.{sym, _∙_}
 use Prim.Native.Nat.{_*_}
 use native.Mathlib.Omega.{arith}

@@ -1,4 +1,4 @@
--- `record::load::loaded_entry` meets its contract.
+-- `load::loaded_entry` meets its contract.
 use mathlib.Core.Path.{_≡_}
 use Prim.Native.Nat.{_+_, _*_, _<_, _≤_}
 use native.Mathlib.Omega.{arith}

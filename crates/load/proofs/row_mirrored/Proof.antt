@@ -1,4 +1,4 @@
--- `record::load::row_mirrored` meets its contract. The loop's invariant: every entry passed is its mirror's equal.
+-- `load::row_mirrored` meets its contract. The loop's invariant: every entry passed is its mirror's equal.
 use mathlib.Core.Path.{_≡_, refl, sym, ap}
 use mathlib.Core.Bool.{true}
 use Prim.Native.Nat.{_+_, _-_, _*_, _<_, _≤_}

@@ -1,4 +1,4 @@
--- `record::query::axis_refusal` meets its contract.
+-- `query::axis_refusal` meets its contract.
 use native.Mathlib.Omega.{arith}
 use borrow.Author.Tests.{lt-ltb, le-ltb, le-leb, lt-leb}
 use Rattle.ledger.specs.Refusal.{refusalOf}

@@ -1,4 +1,4 @@
--- `record::query::entry_size` meets its contract: an entry is read back from its bits.
+-- `query::entry_size` meets its contract: an entry is read back from its bits.
 use mathlib.Core.List.{[]}
 use lib.IntN.{pos}
 use lib.ListN.{getD}

@@ -1,4 +1,4 @@
--- `record::query::error_of` meets its contract: before column j the sum is that of the columns below j.
+-- `query::error_of` meets its contract: before column j the sum is that of the columns below j.
 use mathlib.Core.Path.{_≡_, refl, ap₂}
 use mathlib.Core.Bool.{cond}
 use Prim.Native.Nat.{_+_, _-_, _*_, _≤_}

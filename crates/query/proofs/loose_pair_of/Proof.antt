@@ -1,4 +1,4 @@
--- `record::query::loose_pair_of` meets its contract: the pairs that are left have the answer.
+-- `query::loose_pair_of` meets its contract: the pairs that are left have the answer.
 use mathlib.Core.Path.{_≡_, refl, sym, ap, _∙_}
 use mathlib.Core.List.{_∷_}
 use Prim.Native.Nat.{_+_, _-_, _≤_, _<_}

@@ -1,4 +1,4 @@
--- `record::query::loose_pair_refusal` meets its contract.
+-- `query::loose_pair_refusal` meets its contract.
 use native.Mathlib.Omega.{arith}
 use borrow.Author.Tests.{lt-ltb, le-ltb, le-leb, lt-leb}
 use Rattle.limits.specs.Limits.{toleranceLimit}

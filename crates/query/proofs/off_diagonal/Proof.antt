@@ -1,4 +1,4 @@
--- `record::query::off_diagonal` meets its contract.
+-- `query::off_diagonal` meets its contract.
 use borrow.Author.Needs.{needs}
 use borrow.Author.Tests.{eq-eqb, ne-eqb}
 use Rattle.query.proofs.off_diagonal.Statement.{statement}

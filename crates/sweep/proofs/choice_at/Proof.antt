@@ -1,4 +1,4 @@
--- `record::work::choice_at` meets its contract.
+-- `sweep::choice_at` meets its contract.
 use borrow.Author.Needs.{needs}
 use Rattle.rotation.specs.Size.{entry-back}
 use Rattle.rotation.specs.Turn.{at}

@@ -1,4 +1,4 @@
--- `record::work::sweep_refusal` meets its contract.
+-- `sweep::sweep_refusal` meets its contract.
 use native.Mathlib.Omega.{arith}
 use borrow.Author.Needs.{needs}
 use borrow.Author.Tests.{le-leb, le-ltb, lt-leb, lt-ltb}

@@ -1,4 +1,4 @@
--- `record::work::turn_refusal` meets its contract, test by test.
+-- `sweep::turn_refusal` meets its contract, test by test.
 use native.Mathlib.Omega.{arith}
 use borrow.Author.Tests.{le-leb, le-ltb, lt-leb, lt-ltb}
 use Rattle.ledger.specs.Refusal.{refusalOf}

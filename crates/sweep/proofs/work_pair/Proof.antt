@@ -1,4 +1,4 @@
--- `record::work::work_pair` meets its contract.
+-- `sweep::work_pair` meets its contract.
 use mathlib.Core.Path.{sym, _∙_}
 use native.Mathlib.Numerals.{add-one}
 use native.Mathlib.Omega.{arith}

@@ -1,4 +1,4 @@
--- `record::work::work_pairs` meets its contract: at p and q the pairs from there on are left.
+-- `sweep::work_pairs` meets its contract: at p and q the pairs from there on are left.
 use mathlib.Core.Path.{ap}
 use Prim.Native.Nat.{_+_, _-_, _≤_, _<_}
 use native.Mathlib.Omega.{arith}

@@ -1,4 +1,4 @@
--- `record::run::axes_numbers` meets its contract: at i the numbers of the axes before it stand.
+-- `run::rows::axes_numbers` meets its contract: at i the numbers of the axes before it stand.
 use mathlib.Core.Path.{_≡_, refl, sym, ap, _∙_}
 use mathlib.Core.List.{[], _∷_}
 use Prim.Native.Nat.{suc, _+_, _-_, _^_, _<_, _≤_}

@@ -1,4 +1,4 @@
--- `record::run::is_settled` meets its contract.
+-- `run::rows::is_settled` meets its contract.
 use mathlib.Core.Path.{sym, ap, _∙_}
 use borrow.Author.Needs.{needs}
 use Rattle.run.specs.Run.{noPair}

@@ -1,4 +1,4 @@
--- `record::run::load_rows` meets its contract.
+-- `run::rows::load_rows` meets its contract.
 use Rattle.ledger.specs.Accepted.{Loads, load-accepted}
 use Rattle.record.specs.Loading.{loads-within}
 use Rattle.run.proofs.Loaded.{load-holds}

@@ -1,4 +1,4 @@
--- `record::query::numbers_of` meets its contract: numbers read back from their bits, and a row of eight is its entries.
+-- `run::rows::numbers_of` meets its contract: numbers read back from their bits, and a row of eight is its entries.
 use mathlib.Core.Path.{sym, ap, _∙_}
 use mathlib.Core.List.{List, [], _∷_}
 use lib.IntN.{ℤ, pos}

@@ -1,4 +1,4 @@
--- `record::run::run_rows` meets its contract: from each round on, the run is the whole run.
+-- `run::rows::run_rows` meets its contract: from each round on, the run is the whole run.
 use Prim.Native.Nat.{_-_}
 use mathlib.Core.Bool.{false}
 use borrow.Author.Needs.{needs}

@@ -2,9 +2,9 @@
 use mathlib.Core.Path.{refl}
 use borrow.Author.Needs.{needs}
 use Rattle.answer_text.specs.Answers.{rowOf}
-use Rattle.play.proofs.Playing.{plays-as, plays-done, one-other, one-no, one-is}
-use Rattle.play.proofs.played.loose_pair.Statement.{statement}
-use Rattle.play.proofs.played.loose_pair.Tie as tie
+use Rattle.played.proofs.Playing.{plays-as, plays-done, one-other, one-no, one-is}
+use Rattle.played.proofs.loose_pair.Statement.{statement}
+use Rattle.played.proofs.loose_pair.Tie as tie
 
 returns : tie.Need-returns
 returns c =

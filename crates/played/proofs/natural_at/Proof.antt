@@ -6,9 +6,9 @@ use mir.Val.{SFits}
 use mir.Facts.{toZ-ofZ}
 use borrow.Author.Needs.{needs}
 use Rattle.integer.specs.Word.{unsigned}
-use Rattle.play.proofs.Playing.{negative-no, whole-is}
-use Rattle.play.proofs.played.natural_at.Statement.{statement}
-use Rattle.play.proofs.played.natural_at.Tie as tie
+use Rattle.played.proofs.Playing.{negative-no, whole-is}
+use Rattle.played.proofs.natural_at.Statement.{statement}
+use Rattle.played.proofs.natural_at.Tie as tie
 
 returns : tie.Need-returns
 returns c =

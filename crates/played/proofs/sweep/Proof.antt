@@ -2,9 +2,9 @@
 use mathlib.Core.Path.{refl}
 use borrow.Author.Needs.{needs}
 use Rattle.answer_text.specs.Answers.{rowOf}
-use Rattle.play.proofs.Playing.{plays-as, plays-done, sweep-other, sweep-alone}
-use Rattle.play.proofs.played.sweep.Statement.{statement}
-use Rattle.play.proofs.played.sweep.Tie as tie
+use Rattle.played.proofs.Playing.{plays-as, plays-done, sweep-other, sweep-alone}
+use Rattle.played.proofs.sweep.Statement.{statement}
+use Rattle.played.proofs.sweep.Tie as tie
 
 returns : tie.Need-returns
 returns c =

@@ -14,7 +14,7 @@ ghost use Rattle.call_text.specs.Calls.{loadOf, oneOf, sweepOf, turnOf};
 ghost use Rattle.call_text.specs.Read.{found, unsignedIs};
 ghost use Rattle.ledger.specs.Call.{axis, loosePair};
 ghost use Rattle.record.specs.Kept.{Kept};
-ghost use Rattle.play.specs.Played.{Plays, doneOf, wholeOf};
+ghost use Rattle.played.specs.Played.{Plays, doneOf, wholeOf};
 
 // A line that is no call leaves the record as it was.
 fn unknown(r: Record) -> Played

@@ -2,9 +2,9 @@
 use mathlib.Core.Path.{refl}
 use borrow.Author.Needs.{needs}
 use Rattle.answer_text.specs.Answers.{rowOf}
-use Rattle.play.proofs.Playing.{plays-as, plays-done, turn-other, turn-no, turn-no-second, turn-is}
-use Rattle.play.proofs.played.turn.Statement.{statement}
-use Rattle.play.proofs.played.turn.Tie as tie
+use Rattle.played.proofs.Playing.{plays-as, plays-done, turn-other, turn-no, turn-no-second, turn-is}
+use Rattle.played.proofs.turn.Statement.{statement}
+use Rattle.played.proofs.turn.Tie as tie
 
 returns : tie.Need-returns
 returns c =

@@ -1,8 +1,8 @@
 -- `played::done` meets its contract.
 use mathlib.Core.Path.{refl}
-use Rattle.play.specs.Played.{doneOf}
-use Rattle.play.proofs.played.done.Statement.{statement}
-use Rattle.play.proofs.played.done.Tie as tie
+use Rattle.played.specs.Played.{doneOf}
+use Rattle.played.proofs.done.Statement.{statement}
+use Rattle.played.proofs.done.Tie as tie
 
 returns : tie.Need-returns
 unfolding doneOf

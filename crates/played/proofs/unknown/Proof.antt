@@ -1,8 +1,8 @@
 -- `played::unknown` meets its contract.
 use mathlib.Core.Path.{refl}
-use Rattle.play.specs.Played.{playedBy}
-use Rattle.play.proofs.played.unknown.Statement.{statement}
-use Rattle.play.proofs.played.unknown.Tie as tie
+use Rattle.played.specs.Played.{playedBy}
+use Rattle.played.proofs.unknown.Statement.{statement}
+use Rattle.played.proofs.unknown.Tie as tie
 
 returns : tie.Need-returns
 unfolding playedBy

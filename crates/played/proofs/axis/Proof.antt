@@ -2,9 +2,9 @@
 use mathlib.Core.Path.{refl}
 use Rattle.ledger.specs.Call.{axis}
 use borrow.Author.Needs.{needs}
-use Rattle.play.proofs.Playing.{plays-as, plays-axis, one-other, one-no, one-is}
-use Rattle.play.proofs.played.axis.Statement.{statement}
-use Rattle.play.proofs.played.axis.Tie as tie
+use Rattle.played.proofs.Playing.{plays-as, plays-axis, one-other, one-no, one-is}
+use Rattle.played.proofs.axis.Statement.{statement}
+use Rattle.played.proofs.axis.Tie as tie
 
 returns : tie.Need-returns
 returns c =

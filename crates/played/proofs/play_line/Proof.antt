@@ -2,9 +2,9 @@
 use mathlib.Core.Path.{_≡_}
 use lib.ListN.{length}
 use borrow.Author.Needs.{needs}
-use Rattle.play.proofs.Playing.{plays-as, found-none, found-load, found-turn, found-sweep, found-pair, found-axis, found-other}
-use Rattle.play.proofs.played.play_line.Statement.{statement}
-use Rattle.play.proofs.played.play_line.Tie as tie
+use Rattle.played.proofs.Playing.{plays-as, found-none, found-load, found-turn, found-sweep, found-pair, found-axis, found-other}
+use Rattle.played.proofs.play_line.Statement.{statement}
+use Rattle.played.proofs.play_line.Tie as tie
 
 returns : tie.Need-returns
 returns c = plays-as _ _ (found-none _ (c .before .if1 .taken)) (c .unknown .ensures)

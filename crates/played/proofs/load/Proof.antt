@@ -2,9 +2,9 @@
 use mathlib.Core.Path.{refl}
 use borrow.Author.Needs.{needs}
 use Rattle.answer_text.specs.Answers.{rowOf}
-use Rattle.play.proofs.Playing.{plays-as, plays-done, load-other, load-no, load-is}
-use Rattle.play.proofs.played.load.Statement.{statement}
-use Rattle.play.proofs.played.load.Tie as tie
+use Rattle.played.proofs.Playing.{plays-as, plays-done, load-other, load-no, load-is}
+use Rattle.played.proofs.load.Statement.{statement}
+use Rattle.played.proofs.load.Tie as tie
 
 returns : tie.Need-returns
 returns c =
