@@ -14,8 +14,8 @@ use lib.ListN.{length, take, getD, replicate, length-append}
 use lib.Signed.{mag}
 use Rattle.text.specs.Decimal.{number}
 use Rattle.text.specs.Digits.{length-number}
-use Rattle.text.specs.Line.{line, further, numbers}
 use Rattle.text.specs.Put.{Put, put-then, front-length}
+use Rattle.text_lines.specs.Line.{line, further, numbers}
 use Rattle.answer_text.specs.Answers.{FieldPut, Prints, linePrinted}
 
 pub put-field : {t e x y : List ℕ} {at r s : ℕ} → Put (9 ∷ []) at e x r → Put t r x y s → length t ≤ 20 → FieldPut t at e y s

@@ -9,10 +9,10 @@ use Rattle.ledger.specs.Call.{Call, load, turn, sweep, loosePair, axis}
 use Rattle.record.specs.Record.{afterOf, answerOf, axisOf}
 use Rattle.record.specs.declared.Record.{Record}
 use Rattle.text.specs.Decimal.{digits, number}
-use Rattle.text.specs.Line.{line}
 use Rattle.text.specs.Put.{Put}
 use Rattle.query.specs.declared.Answer.{Answer}
 use Rattle.query.specs.declared.Answer.the-variants.{Loaded, Turned, Swept, Pair, NoPair, Axis, Refused}
+use Rattle.text_lines.specs.Line.{line}
 use Rattle.answer_text.specs.declared.Printed.{Printed}
 
 -- An answer, by the record after the call and by row i of v: `L`; `T` and 1 or 0; `W` and the number of turns; `Q` p q, or `Q` none;

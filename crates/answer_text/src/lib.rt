@@ -5,14 +5,14 @@ use text::put_byte;
 use text::put_bytes;
 use text::put_natural;
 use text::put_number;
-use text::put_numbers;
+use text_lines::put_numbers;
 ghost use mathlib.Core.List.{[], _∷_, map};
 ghost use Prim.Native.Nat.{_+_, _≤_};
 ghost use lib.ListN.{length, take};
-ghost use Rattle.answer_text.specs.Answers.{FieldPut, Prints, shown};
 ghost use Rattle.record.specs.Kept.{Kept};
 ghost use Rattle.text.specs.Decimal.{digits, number};
-ghost use Rattle.text.specs.Line.{line};
+ghost use Rattle.text_lines.specs.Line.{line};
+ghost use Rattle.answer_text.specs.Answers.{FieldPut, Prints, shown};
 
 const TAB: u8 = b'\t';
 

@@ -13,7 +13,7 @@ use lib.Pow.{pow-pos}
 use Rattle.integer.specs.Tabulate.{tabulate, getD-repeated}
 use Rattle.ledger.specs.Accepted.{Loads}
 use Rattle.ledger.specs.Call.{load, loosePair}
-use Rattle.ledger.specs.Refusal.{matrixOf, refusalOf}
+use Rattle.ledger.specs.Refusal.{refusalOf}
 use Rattle.limits.specs.Limits.{toleranceLimit, units}
 use Rattle.record.specs.Fill.{kept-flatOf}
 use Rattle.record.specs.Flat.{kept}
@@ -31,6 +31,7 @@ use Rattle.run.specs.Running.{run-settled}
 use Rattle.run.specs.declared.Outcome.the-variants.{Settled}
 use Rattle.query.specs.Loose.{PairOrNone, loose-holds, looseOf}
 use Rattle.query.specs.declared.Answer.the-variants.{NoPair}
+use Rattle.integer.specs.Matrix.{matrixOf}
 
 abbrev pub zeros : ℕ → List ℤ
 zeros n = replicate (n * n) (pos 0)

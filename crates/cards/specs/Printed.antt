@@ -18,10 +18,10 @@ use Rattle.run.specs.Cards as running
 use Rattle.sums.specs.Samples.{samples, sampleAt, sumsOf, sumsAt, sum, products, z}
 use Rattle.scatter.specs.Table.{S, scatter, largest, smallest, shift, entries, padded, tableOf}
 use Rattle.text.specs.Decimal.{digits, digitsBy, number}
-use Rattle.text.specs.Line.{line, further, numberLine, wordLine}
-use Rattle.text.specs.Lines.{lines}
 use Rattle.job_line.specs.Range.{parametersInRange, sampleInRange}
 use Rattle.job_line.specs.Text.{numberOf, numbersOf, isTag, recordOf, lineOf}
+use Rattle.text_lines.specs.Line.{line, further, numberLine, wordLine}
+use Rattle.text_lines.specs.Lines.{lines}
 
 -- `P 2 1 0`
 abbrev p-line : List ℕ

@@ -1,6 +1,7 @@
 -- Square matrices as functions of two indices: product, transpose, and the sum of the squares of the entries.
 use mathlib.Core.Path.{_≡_, refl, sym, _∙_, ap, ap₂}
 use mathlib.Core.Bool.{Bool, true, false, cond}
+use mathlib.Core.List.{List}
 use mathlib.Core.Logic.{_≢_}
 use Prim.Native.Nat.{ℕ, _+_, _*_, _≤_, _<_}
 use native.Mathlib.Nat.{le-trans}
@@ -8,6 +9,7 @@ use native.Mathlib.Decide.{ℕ-discrete}
 use native.Mathlib.Omega.{arith}
 use lib.Dec.{eqb}
 use lib.IntN.{ℤ, pos, negℤ, natAbs, _+ℤ_, _-ℤ_, _*ℤ_, *ℤ-comm, *ℤ-zero, zero-*ℤ, +ℤ-idl, +ℤ-idr}
+use lib.ListN.{getD}
 use Rattle.integer.specs.Laws.{*ℤ-assoc, negℤ-*ℤ}
 use Rattle.integer.specs.Square.{sq, sq-pos, sq-*ℤ, sq-≤, natAbs-≤}
 use Rattle.integer.specs.Sum.{sum, sumℕ, sum-cong, sum-*, sum-zero, sum-exchange, sum-delta, sum-but-two, sumℕ-cong, sumℕ-*, sumℕ-exchange, sumℕ-but-one, sumℕ-const, sumℕ-≤, term-≤-sumℕ, update-same, update-other}
@@ -17,6 +19,10 @@ use Rattle.integer.specs.Minkowski.{minkowski₂}
 -- a matrix: its entry in row i and column j
 abbrev pub Matrix : Type 0
 Matrix = ℕ → ℕ → ℤ
+
+-- n×n whole numbers, row after row, as a matrix; indices count from 0
+unfoldable pub matrixOf : ℕ → List ℤ → Matrix
+matrixOf n numbers i j = getD numbers (i * n + j) (pos 0)
 
 -- row i of X times column j of Y, n entries each
 unfoldable pub product : ℕ → Matrix → Matrix → Matrix

@@ -9,11 +9,11 @@ use lib.IntN.{ℤ, pos, negsuc, natAbs}
 use lib.ListN.{length, getD}
 use mir.Facts.{and-yes}
 use borrow.Author.Tests.{le-leb, lt-ltb}
-use Rattle.integer.specs.Matrix.{Matrix, Symmetric}
 use Rattle.integer.specs.Range.{all, below, from-each}
-use Rattle.ledger.specs.Call.{load, turn, sweep, axis}
 use Rattle.limits.specs.Limits.{entryLimit, turnLimit}
-use Rattle.ledger.specs.Refusal.{matrixOf, equal, symmetric, within, unless, refusalOf}
+use Rattle.integer.specs.Matrix.{Matrix, Symmetric, matrixOf}
+use Rattle.ledger.specs.Call.{load, turn, sweep, axis}
+use Rattle.ledger.specs.Refusal.{equal, symmetric, within, unless, refusalOf}
 
 -- 'Load: 5, 6, 8, 7': none of them
 pub record Loads (n : ℕ) (numbers : List ℤ) : Type 0 where

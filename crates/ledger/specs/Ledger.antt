@@ -4,7 +4,6 @@ use mathlib.Core.Bool.{cond}
 use mathlib.Core.List.{List, [], _∷_}
 use lib.Dec.{eqb}
 use lib.IntN.{ℤ, pos, _*ℤ_}
-use Rattle.integer.specs.Matrix.{Matrix, diagonal, product}
 use Rattle.rotation.specs.Exact.{exact}
 use Rattle.rotation.specs.Rotation.{rotationOf}
 use Rattle.rotation.specs.Turn.{turned, turnedAxes}
@@ -12,9 +11,10 @@ use Rattle.limits.specs.Limits.{units, whole}
 use Rattle.choice.specs.Choice.{choose}
 use Rattle.choice.specs.declared.Choice.{Choice}
 use Rattle.choice.specs.declared.Choice.the-variants.{NoTurn, Turn}
+use Rattle.integer.specs.Matrix.{Matrix, diagonal, product, matrixOf}
 use Rattle.ledger.specs.Call.{Call, load, turn, sweep, loosePair, axis}
 use Rattle.ledger.specs.Pairs.{Pair, cyclic}
-use Rattle.ledger.specs.Refusal.{matrixOf, refusalOf}
+use Rattle.ledger.specs.Refusal.{refusalOf}
 
 -- 'Once loaded it has n, A, a matrix B, axes V, m and Q'; V is `axes`, and Q is P / D in whole numbers
 pub record State : Type 0 where

@@ -9,12 +9,11 @@ use Rattle.integer.specs.Laws.{natAbs-*ℤ, one-*ℤ}
 use Rattle.integer.specs.Square.{sq, sq-pos}
 use Rattle.integer.specs.Sum.{sumℕ, sumℕ-cong}
 use Rattle.integer.specs.Dot.{dot-comm}
-use Rattle.integer.specs.Matrix.{Matrix, product, transpose, conjugate, diagonal, diagonal-*, diagonal-transpose, diagonal-product, product-diagonal, dot-diagonal, diagonal-squares, squares, squares-≤}
+use Rattle.limits.specs.Limits.{entryLimit, units, whole}
+use Rattle.integer.specs.Matrix.{Matrix, product, transpose, conjugate, diagonal, diagonal-*, diagonal-transpose, diagonal-product, product-diagonal, dot-diagonal, diagonal-squares, squares, squares-≤, matrixOf}
 use Rattle.ledger.specs.Accepted.{Loads}
 use Rattle.ledger.specs.Ledger.{loadedOf}
-use Rattle.limits.specs.Limits.{entryLimit, units, whole}
 use Rattle.ledger.specs.Near.{matrixDifference, axesDifference}
-use Rattle.ledger.specs.Refusal.{matrixOf}
 use Rattle.ledger.specs.Sound.{Sound, matrixBound}
 
 no-difference : (x y : ℤ) → x ≡ y → natAbs (x -ℤ y) ≤ 0

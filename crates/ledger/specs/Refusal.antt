@@ -4,15 +4,11 @@ use mathlib.Core.Bool.{Bool, true, false, cond, _&&_}
 use mathlib.Core.List.{List, [], _∷_}
 use lib.Dec.{eqb, leb, ltb}
 use lib.IntN.{ℤ, pos, negsuc, natAbs}
-use lib.ListN.{length, getD}
-use Rattle.integer.specs.Matrix.{Matrix}
+use lib.ListN.{length}
+use Rattle.integer.specs.Matrix.{Matrix, matrixOf}
 use Rattle.integer.specs.Range.{all}
 use Rattle.ledger.specs.Call.{Call, load, turn, sweep, loosePair, axis}
 use Rattle.limits.specs.Limits.{entryLimit, toleranceLimit, turnLimit}
-
--- n×n whole numbers, row after row, as a matrix; indices count from 0
-unfoldable pub matrixOf : ℕ → List ℤ → Matrix
-matrixOf n numbers i j = getD numbers (i * n + j) (pos 0)
 
 unfoldable pub equal : ℤ → ℤ → Bool
 equal (pos x) (pos y) = eqb x y

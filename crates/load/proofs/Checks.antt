@@ -12,12 +12,12 @@ use lib.ListN.{length, getD, drop}
 use lib.Seq.{drop-cons}
 use lib.Signed.{ltZ, leZ}
 use borrow.Author.Tests.{ltb-true, ltb-false, le-leb, lt-leb, eq-eqb}
-use Rattle.integer.specs.Matrix.{Matrix}
 use Rattle.integer.specs.Range.{all, below, from-each}
 use Rattle.ledger.specs.Accepted.{equal-of, equal-same}
 use Rattle.ledger.specs.Call.{load}
 use Rattle.limits.specs.Limits.{entryLimit}
-use Rattle.ledger.specs.Refusal.{equal, matrixOf, refusalOf, symmetric, unless, within}
+use Rattle.ledger.specs.Refusal.{equal, refusalOf, symmetric, unless, within}
+use Rattle.integer.specs.Matrix.{Matrix, matrixOf}
 
 -- tests that imply one another are equal
 same-test : (a b : Bool) → (T a → T b) → (T b → T a) → a ≡ b

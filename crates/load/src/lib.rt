@@ -2,13 +2,13 @@
 ghost use mathlib.Core.Path.{_≡_};
 ghost use mathlib.Core.Bool.{true};
 ghost use Prim.Native.Nat.{_*_, _<_, _≤_};
-ghost use Rattle.integer.specs.Matrix.{diagonal};
 ghost use Rattle.integer.specs.Range.{all};
 ghost use Rattle.ledger.specs.Call.{load};
 ghost use Rattle.limits.specs.Limits.{entryLimit, units, whole};
-ghost use Rattle.ledger.specs.Refusal.{equal, matrixOf, refusalOf, symmetric, within};
+ghost use Rattle.ledger.specs.Refusal.{equal, refusalOf, symmetric, within};
 ghost use Rattle.rotation.specs.Turn.{square};
 ghost use Rattle.rotation.specs.InUse.{inUse};
+ghost use Rattle.integer.specs.Matrix.{diagonal, matrixOf};
 ghost use Rattle.load.specs.Blank.{blank};
 ghost use lib.Dec.{leb};
 ghost use lib.IntN.{pos, natAbs, _*ℤ_};

@@ -11,7 +11,8 @@ use Rattle.ledger.specs.Accepted.{Loads, symmetric-of}
 use Rattle.ledger.specs.Call.{Call, load, loosePair, sweep}
 use Rattle.limits.specs.Channels.{pairs-twice}
 use Rattle.limits.specs.Limits.{toleranceLimit, turnLimit}
-use Rattle.ledger.specs.Refusal.{matrixOf, refusalOf, symmetric}
+use Rattle.ledger.specs.Refusal.{refusalOf, symmetric}
+use Rattle.integer.specs.Matrix.{matrixOf}
 use Rattle.record.specs.Loading.{loads-within}
 use Rattle.record.specs.Record.{acceptedOf, afterOf}
 use Rattle.record.specs.declared.Record.{Record}

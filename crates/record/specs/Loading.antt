@@ -8,17 +8,17 @@ use native.Mathlib.Omega.{arith}
 use lib.IntN.{ℤ, pos, natAbs, _*ℤ_}
 use lib.ListN.{getD}
 use borrow.Author.Tests.{le-leb, lt-ltb, le-ltb}
-use Rattle.integer.specs.Matrix.{Matrix, diagonal, diagonal-squares, squares, squares-cong}
 use Rattle.integer.specs.Square.{sq, sq-pos}
 use Rattle.integer.specs.Sum.{sumℕ, sumℕ-cong, sumℕ-const}
 use Rattle.ledger.specs.Accepted.{Loads, load-accepted}
 use Rattle.ledger.specs.Call.{load}
 use Rattle.ledger.specs.Loaded.{load-size}
 use Rattle.limits.specs.Limits.{entryLimit, units, whole}
-use Rattle.ledger.specs.Refusal.{matrixOf, refusalOf, within}
+use Rattle.ledger.specs.Refusal.{refusalOf, within}
 use Rattle.ledger.specs.Sound.{matrixBound, axesBound}
 use Rattle.rotation.specs.Turn.{at}
 use Rattle.rotation.specs.InUse.{inUse, Use, inside, outside, use-of, at-square, inUse-inside, inUse-outside, inUse-symmetric}
+use Rattle.integer.specs.Matrix.{Matrix, diagonal, diagonal-squares, squares, squares-cong, matrixOf}
 use Rattle.record.specs.Fill.{kept-flatOf}
 use Rattle.record.specs.Flat.{kept, entriesOf, rowsOf, flatOf}
 use Rattle.record.specs.Kept.{Kept}

@@ -5,18 +5,18 @@ use mathlib.Core.List.{List, [], _∷_}
 use lib.Dec.{eqb, ltb}
 use lib.IntN.{ℤ, pos, _*ℤ_}
 use lib.ListN.{replicate}
-use Rattle.integer.specs.Matrix.{diagonal}
 use Rattle.ledger.specs.Axis.{errorOf}
 use Rattle.ledger.specs.Call.{Call, load, turn, sweep, loosePair, axis}
 use Rattle.limits.specs.Limits.{units, whole}
 use Rattle.ledger.specs.Pairs.{cyclic}
-use Rattle.ledger.specs.Refusal.{matrixOf, refusalOf}
+use Rattle.ledger.specs.Refusal.{refusalOf}
 use Rattle.rotation.specs.InUse.{inUse}
 use Rattle.rotation.specs.Turn.{at}
 use Rattle.sweep.specs.Work.{Work, chosen, isTurn, workPair, workPairs}
 use Rattle.query.specs.Loose.{looseOf}
 use Rattle.query.specs.declared.Answer.{Answer}
 use Rattle.query.specs.declared.Answer.the-variants.{Loaded, Turned, Swept, Axis, Refused}
+use Rattle.integer.specs.Matrix.{diagonal, matrixOf}
 use Rattle.record.specs.Flat.{kept, entriesOf, rowsOf, flatOf}
 use Rattle.record.specs.declared.Record.{Record}
 

@@ -10,7 +10,7 @@ use Rattle.job_table.specs.Laws.{channels, limit-most, tolerance-most}
 use Rattle.limits.specs.Limits.{turnLimit}
 use Rattle.run.specs.Calls.{Allowed, AsCalls, run-calls}
 use Rattle.run.specs.Course.{run-ends, run-kept}
-use Rattle.run.specs.Table.{table-accepted}
+use Rattle.run.specs.Table.{table-allowed}
 use Rattle.report.specs.Certified.{loadedFor}
 use Rattle.report.specs.Report.{runFor}
 
@@ -26,11 +26,7 @@ module _ (j : Job) (p : Proper j) where
   pub allowed : Allowed (j .n) (loadedFor j) (j .limit) (j .tolerance)
   unfolding loadedFor tableFor
   allowed =
-      record {
-        matrix = table-accepted (j .n) (sumsFor j) (channels j p .0) (channels j p .1);
-        sweeps = limit-most j p;
-        tolerance = tolerance-most j p;
-      }
+      table-allowed (j .n) (sumsFor j) (channels j p .0) (channels j p .1) (j .limit) (j .tolerance) (limit-most j p) (tolerance-most j p)
 
   pub as-calls : AsCalls (j .n) (loadedFor j) (j .tolerance) (runFor j)
   unfolding loadedFor runFor

@@ -6,7 +6,6 @@ use mathlib.Core.List.{List}
 use lib.Dec.{eqb}
 use lib.IntN.{ℤ}
 use borrow.Author.Tests.{eq-eqb}
-use Rattle.integer.specs.Matrix.{Matrix}
 use Rattle.job.proofs.Accepted.{accepted-proper}
 use Rattle.job.specs.Job.{Job, accepted}
 use Rattle.job.specs.Values.{Proper}
@@ -15,12 +14,13 @@ use Rattle.ledger.specs.Invariant.{turnPairs-continues}
 use Rattle.ledger.specs.Ledger as book
 use Rattle.ledger.specs.Ledger.{Ledger, State, empty, loaded, ledger, ledgerFrom, ledgerStep, sizeOf, turnsOf}
 use Rattle.ledger.specs.Pairs.{cyclic}
-use Rattle.ledger.specs.Refusal.{matrixOf, refusalOf}
+use Rattle.ledger.specs.Refusal.{refusalOf}
 use Rattle.record.specs.AxisNumbers.{axisValues}
 use Rattle.record.specs.Demand3 as three
 use Rattle.record.specs.Demand3.{AxisNear, Certifies}
 use Rattle.record.specs.Demand3proof.{demand-3}
 use Rattle.run.specs.Calls.{callsOf, rounds}
+use Rattle.integer.specs.Matrix.{Matrix, matrixOf}
 use Rattle.report.specs.Certified.{AxisCertified, Certified, JobCertified, loadedFor}
 use Rattle.report.specs.Report.{lineA, runFor}
 use Rattle.report.proofs.Bounds.{allowed, as-calls}

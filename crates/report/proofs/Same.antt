@@ -10,9 +10,9 @@ use Rattle.ledger.specs.Call.{axis}
 use Rattle.record.specs.AxisNumbers.{axes-row, axesNumbers, axisNumbers, length-axes-row, two-before}
 use Rattle.record.specs.Record.{answerOf, axisOf}
 use Rattle.record.specs.declared.Record.{Record}
-use Rattle.text.specs.Line.{numberLine}
-use Rattle.text.specs.Lines.{lines-same}
-use Rattle.text.specs.Rows.{Wide, rowLine}
+use Rattle.text_lines.specs.Line.{numberLine}
+use Rattle.text_lines.specs.Lines.{lines-same}
+use Rattle.text_lines.specs.Rows.{Wide, rowLine}
 use Rattle.report.specs.Lines.{headOf, textOf}
 use Rattle.report.specs.Report.{lineA, lineR, reportOf, runFor}
 use Rattle.report.proofs.Bounds.{run-channels}

@@ -5,11 +5,11 @@ use mathlib.Core.List.{List}
 use native.Mathlib.Omega.{arith}
 use lib.IntN.{ℤ}
 use lib.ListN.{length, length-append}
-use Rattle.text.specs.Line.{wordLine}
-use Rattle.text.specs.Lines.{lines}
-use Rattle.text.specs.Rows.{rowLine}
 use Rattle.run.specs.declared.Outcome.{Outcome}
 use Rattle.run.specs.declared.Outcome.the-variants.{Settled, Still, Spent}
+use Rattle.text_lines.specs.Line.{wordLine}
+use Rattle.text_lines.specs.Lines.{lines}
+use Rattle.text_lines.specs.Rows.{rowLine}
 use Rattle.report.specs.Lines.{textOf}
 use Rattle.report.specs.Report.{outcomeWord}
 

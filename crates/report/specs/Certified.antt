@@ -5,17 +5,16 @@ use mathlib.Core.Path.{_≡_}
 use mathlib.Core.List.{List, _∷_}
 use lib.IntN.{ℤ, pos, _-ℤ_, _*ℤ_}
 use lib.ListN.{take}
-use Rattle.integer.specs.Matrix.{product}
 use Rattle.integer.specs.Square.{sq}
 use Rattle.integer.specs.Sum.{sumℕ}
 use Rattle.job.specs.Job.{Job, accepted, jobOf}
 use Rattle.job_table.specs.Held.{tableFor}
 use Rattle.ledger.specs.Ledger.{State, loaded, ledger}
-use Rattle.ledger.specs.Refusal.{matrixOf}
 use Rattle.limits.specs.Limits.{units}
 use Rattle.record.specs.Record.{axisOf}
 use Rattle.run.specs.Calls.{callsOf}
-use Rattle.text.specs.Line.{numberLine}
+use Rattle.integer.specs.Matrix.{product, matrixOf}
+use Rattle.text_lines.specs.Line.{numberLine}
 use Rattle.report.specs.Report.{lineA, runFor}
 
 -- the numbers of the job's table that its run loads

@@ -5,10 +5,10 @@ use lib.IntN.{ℤ, pos}
 use lib.ListN.{length}
 use Rattle.job.specs.Job.{Job}
 use Rattle.job_table.specs.Held.{tableFor}
-use Rattle.text.specs.Line.{wordLine}
-use Rattle.text.specs.Lines.{lines}
-use Rattle.text.specs.Rows.{rowLine}
 use Rattle.run.specs.declared.Outcome.{Outcome}
+use Rattle.text_lines.specs.Line.{wordLine}
+use Rattle.text_lines.specs.Lines.{lines}
+use Rattle.text_lines.specs.Rows.{rowLine}
 use Rattle.report.specs.Report.{outcomeWord, runFor}
 
 -- n, k, e, sweeps run and m

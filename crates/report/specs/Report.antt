@@ -9,11 +9,11 @@ use Rattle.ledger.specs.Call.{axis}
 use Rattle.record.specs.AxisNumbers.{axisValues}
 use Rattle.record.specs.Record.{answerOf, axisOf}
 use Rattle.record.specs.declared.Record.{Record}
-use Rattle.text.specs.Line.{numberLine, wordLine}
-use Rattle.text.specs.Lines.{lines}
 use Rattle.run.specs.Run.{runOf, Ran}
 use Rattle.run.specs.declared.Outcome.{Outcome}
 use Rattle.run.specs.declared.Outcome.the-variants.{Settled, Still, Spent}
+use Rattle.text_lines.specs.Line.{numberLine, wordLine}
+use Rattle.text_lines.specs.Lines.{lines}
 
 -- The bytes of settled, still and spent
 unfoldable pub outcomeWord : Outcome → List ℕ

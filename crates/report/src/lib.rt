@@ -73,6 +73,6 @@ pub fn answer(text: &[u8], out: &mut [u8; 2048]) -> usize
     let done = report(text, out);
     match done {
         Reply::Written(length) => length,
-        Reply::Refused(number, line) => text::put_refusal(out, number, line),
+        Reply::Refused(number, line) => text_lines::put_refusal(out, number, line),
     }
 }

@@ -3,9 +3,9 @@ use run::Outcome;
 ghost use mathlib.Core.Path.{_≡_};
 ghost use Prim.Native.Nat.{_≤_};
 ghost use lib.ListN.{length};
-ghost use Rattle.text.specs.Line.{wordLine};
 ghost use Rattle.text.specs.Put.{Put, Sized};
-ghost use Rattle.text.specs.Rows.{Wide};
+ghost use Rattle.text_lines.specs.Line.{wordLine};
+ghost use Rattle.text_lines.specs.Rows.{Wide};
 ghost use Rattle.report.specs.Lines.{textOf};
 ghost use Rattle.report.specs.Report.{outcomeWord};
 
@@ -23,8 +23,8 @@ pub fn text_length(head: &[i64], outcome: Outcome, axes: &[[i64; 11]; 8], n: usi
     requires { ⌜ (length (now head) ≡ 5) × (n ≤ 8) × Wide (now axes) ⌝ }
     ensures { λ r. ⌜ Sized (textOf (now (head .entry)) outcome (now (axes .entry)) n) 2048 r ⌝ }
 {
-    let first = text::numbers_length(head, head.len()) + word_length(outcome) + 3;
-    first + text::rows::rows_length(axes, n, n + 3)
+    let first = text_lines::numbers_length(head, head.len()) + word_length(outcome) + 3;
+    first + text_lines::rows::rows_length(axes, n, n + 3)
 }
 
 fn put_head(buf: &mut [u8], head: &[i64], outcome: Outcome) -> usize
@@ -32,9 +32,9 @@ fn put_head(buf: &mut [u8], head: &[i64], outcome: Outcome) -> usize
     ensures { λ r. ⌜ Put (wordLine 82 (now (head .entry)) (outcomeWord outcome)) 0 (now (buf .entry)) (now (buf .exit)) r ⌝ }
 {
     match outcome {
-        Outcome::Settled => text::put_word_line(buf, b'R', head, head.len(), b"settled"),
-        Outcome::Still => text::put_word_line(buf, b'R', head, head.len(), b"still"),
-        Outcome::Spent => text::put_word_line(buf, b'R', head, head.len(), b"spent"),
+        Outcome::Settled => text_lines::put_word_line(buf, b'R', head, head.len(), b"settled"),
+        Outcome::Still => text_lines::put_word_line(buf, b'R', head, head.len(), b"still"),
+        Outcome::Spent => text_lines::put_word_line(buf, b'R', head, head.len(), b"spent"),
     }
 }
 
@@ -50,5 +50,5 @@ pub fn put_text(
     ensures { λ r. ⌜ Put (textOf (now (head .entry)) outcome (now (axes .entry)) n) 0 (now (buf .entry)) (now (buf .exit)) r ⌝ }
 {
     let at = put_head(buf, head, outcome);
-    text::rows::put_rows(buf, at, b'A', axes, n, n + 3)
+    text_lines::rows::put_rows(buf, at, b'A', axes, n, n + 3)
 }

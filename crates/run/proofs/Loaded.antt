@@ -4,9 +4,8 @@ use mathlib.Core.List.{List}
 use Prim.Native.Nat.{ℕ}
 use lib.IntN.{ℤ, pos, _*ℤ_}
 use borrow.Author.Tests.{eq-eqb}
-use Rattle.integer.specs.Matrix.{diagonal}
 use Rattle.ledger.specs.Call.{load}
-use Rattle.ledger.specs.Refusal.{matrixOf, refusalOf}
+use Rattle.ledger.specs.Refusal.{refusalOf}
 use Rattle.limits.specs.Limits.{units, whole}
 use Rattle.rotation.specs.Eight.{shaped-square}
 use Rattle.rotation.specs.Turn.{square}
@@ -15,6 +14,7 @@ use Rattle.record.specs.Kept.{Kept}
 use Rattle.record.specs.Record.{acceptedOf, afterOf, fresh, loadedOf}
 use Rattle.record.proofs.FlatFilled.{flat-square}
 use Rattle.rotation.specs.InUse.{inUse}
+use Rattle.integer.specs.Matrix.{diagonal, matrixOf}
 use Rattle.run.specs.Rows.{Holds, heldOf}
 
 module _ (n : ℕ) (numbers : List ℤ) (e : refusalOf 0 0 (load n numbers) ≡ 0) (a v : List (List ℤ))

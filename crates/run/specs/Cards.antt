@@ -4,12 +4,11 @@ use mathlib.Core.Bool.{false}
 use mathlib.Core.List.{List, [], _∷_}
 use Prim.Native.Nat.{ℕ}
 use lib.IntN.{ℤ, pos, negsuc}
-use Rattle.integer.specs.Matrix.{diagonal}
 use Rattle.integer.specs.Sum.{sumℕ}
 use Rattle.ledger.specs.Axis.{errorOf}
 use Rattle.ledger.specs.Call.{axis, load}
 use Rattle.ledger.specs.Pairs.{cyclic, row, rowsFrom}
-use Rattle.ledger.specs.Refusal.{equal, matrixOf, refusalOf, symmetric, within}
+use Rattle.ledger.specs.Refusal.{equal, refusalOf, symmetric, within}
 use Rattle.integer.specs.Tabulate.{tabulate}
 use Rattle.record.specs.Flat.{entriesOf, flatOf, kept, rowsOf}
 use Rattle.record.specs.Record.{acceptedOf, afterOf, answerOf, axisOf, fresh, loadedOf, sweptOf, valueOf, workOf, workedOf}
@@ -22,6 +21,7 @@ use Rattle.query.specs.Loose.{looseOf}
 use Rattle.query.specs.declared.Answer.the-variants.{Axis}
 use Rattle.choice.specs.Choice.{choose, fits, minusSign, negative, smallest}
 use Rattle.choice.specs.Threshold.{roundedUp, threshold, u, w}
+use Rattle.integer.specs.Matrix.{diagonal, matrixOf}
 use Rattle.run.specs.Run.{Ran, noPair, noTurn, runFrom, stop, tried, runOf}
 use Rattle.run.specs.Running.{run-settled}
 use Rattle.run.specs.declared.Outcome.the-variants.{Settled, Spent, Still}

@@ -5,11 +5,12 @@ use lib.ListN.{take, length-map}
 use Rattle.ledger.specs.Accepted.{Loads}
 use Rattle.ledger.specs.Call.{load}
 use Rattle.limits.specs.Limits.{toleranceLimit}
-use Rattle.ledger.specs.Refusal.{matrixOf, refusalOf}
+use Rattle.ledger.specs.Refusal.{refusalOf}
 use Rattle.scatter.specs.Entries.{entries-symmetric, entries-within, length-scatter, table-entries}
 use Rattle.scatter.specs.Table.{entries, scatter, tableOf}
 use Rattle.sums.specs.declared.Sums.{Sums}
 use Rattle.record.specs.Accepted.{load-accepted}
+use Rattle.integer.specs.Matrix.{matrixOf}
 use Rattle.run.specs.Calls.{Allowed}
 
 module _ (n : ℕ) (t : Sums) (low : 2 ≤ n) (high : n ≤ 8) where

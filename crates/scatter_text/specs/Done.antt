@@ -2,9 +2,9 @@
 use Prim.Native.Nat.{ℕ, _+_}
 use mathlib.Core.List.{List, _++_}
 use lib.IntN.{ℤ}
-use Rattle.text.specs.Line.{numberLine}
-use Rattle.text.specs.Lines.{lines}
-use Rattle.text.specs.Rows.{rowLine}
+use Rattle.text_lines.specs.Line.{numberLine}
+use Rattle.text_lines.specs.Lines.{lines}
+use Rattle.text_lines.specs.Rows.{rowLine}
 
 -- The text of the numbers of its first line and of its rows
 unfoldable pub textOf : List ℤ → ℕ → List (List ℤ) → List ℕ

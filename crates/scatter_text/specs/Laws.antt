@@ -5,6 +5,7 @@ use mathlib.Core.List.{List, [], _∷_, _++_, map}
 use native.Mathlib.Omega.{arith}
 use lib.IntN.{ℤ, pos}
 use lib.ListN.{length}
+use Rattle.integer.specs.Matrix.{matrixOf}
 use Rattle.integer.specs.Tabulate.{tabulate-ext}
 use Rattle.job.specs.Job.{Job}
 use Rattle.job.specs.declared.Job as arrays
@@ -14,8 +15,8 @@ use Rattle.limits.specs.Channels.{place-below}
 use Rattle.scatter.specs.Entries.{padded-at, scatter-at}
 use Rattle.scatter.specs.Table.{scatter, tableOf}
 use Rattle.scatter.specs.declared.table.Table.{Table}
-use Rattle.text.specs.Line.{numberLine}
-use Rattle.text.specs.Lines.{lines-same}
+use Rattle.text_lines.specs.Line.{numberLine}
+use Rattle.text_lines.specs.Lines.{lines-same}
 use Rattle.scatter_text.specs.Done.{textOf}
 use Rattle.scatter_text.specs.Rows.{rowsOf, row-line}
 use Rattle.scatter_text.specs.Table.{lineT, tableText}
@@ -25,7 +26,7 @@ unfoldable pub headOf : Job → List ℤ
 headOf j = map pos (j .n ∷ length (j .dilutions) ∷ tableFor j .e ∷ [])
 
 pub text-of-table : (j : Job) → j .n ≤ 8 → textOf (headOf j) (j .n) (rowsOf (j .n) (tableFor j .scatter)) ≡ tableText j
-unfolding textOf headOf tableFor tableOf tableText lineT
+unfolding textOf headOf tableFor tableOf tableText lineT matrixOf
 text-of-table j h =
     ap (λ lines. lineT (j .n) (length (j .dilutions)) (tableFor j .e) ++ lines)
     (lines-same (j .n) _ _

@@ -1,22 +1,19 @@
 -- The numbers of a table's rows, in eleven places each, and the lines that are made from them.
-use Prim.Native.Nat.{ℕ, zero, suc, _+_, _*_, _≤_, _<_}
+use Prim.Native.Nat.{ℕ, zero, suc, _+_, _≤_, _<_}
 use mathlib.Core.Path.{_≡_, refl, ap}
 use mathlib.Core.List.{List, [], _∷_, _++_}
 use native.Mathlib.Numerals.{add-one}
 use native.Mathlib.Omega.{arith}
 use lib.IntN.{ℤ, pos}
-use lib.ListN.{take, getD, length-append}
+use lib.ListN.{take, length-append}
+use Rattle.integer.specs.Matrix.{matrixOf}
 use Rattle.integer.specs.Tabulate.{tabulate, getD-tabulate, length-tabulate}
-use Rattle.text.specs.Rows.{Wide, rowLine}
+use Rattle.text_lines.specs.Rows.{Wide, rowLine}
 use Rattle.scatter_text.specs.Table.{lineS}
-
--- Number i, j of n × n numbers row after row, from 0
-abbrev pub numberAt : ℕ → List ℤ → ℕ → ℕ → ℤ
-numberAt n us i j = getD us (i * n + j) (pos 0)
 
 -- The channel, eight numbers of which the first n are its row, and two that no line has
 unfoldable pub rowOf : ℕ → List ℤ → ℕ → List ℤ
-rowOf n us i = pos (i + 1) ∷ (tabulate 8 (numberAt n us i) ++ (pos 0 ∷ pos 0 ∷ []))
+rowOf n us i = pos (i + 1) ∷ (tabulate 8 (matrixOf n us i) ++ (pos 0 ∷ pos 0 ∷ []))
 
 unfoldable pub rowsOf : ℕ → List ℤ → List (List ℤ)
 rowsOf n us = tabulate 8 (rowOf n us)
@@ -32,6 +29,6 @@ module _ (n : ℕ) (us : List ℤ) where
   unfolding rowsOf rowOf
   rows-wide = record { wide = λ i h. rw (getD-tabulate 8 (rowOf n us) i [] h, length-append, length-tabulate) }
 
-  pub row-line : n ≤ 8 → (i : ℕ) → i < 8 → rowLine 83 (n + 1) (rowsOf n us) i ≡ lineS n (numberAt n us) i
+  pub row-line : n ≤ 8 → (i : ℕ) → i < 8 → rowLine 83 (n + 1) (rowsOf n us) i ≡ lineS n (matrixOf n us) i
   unfolding rowsOf rowOf
-  row-line h i l = rw (getD-tabulate 8 (rowOf n us) i [] l, add-one n, take-front n 8 (numberAt n us i) (pos 0 ∷ pos 0 ∷ []) h)
+  row-line h i l = rw (getD-tabulate 8 (rowOf n us) i [] l, add-one n, take-front n 8 (matrixOf n us i) (pos 0 ∷ pos 0 ∷ []) h)

@@ -7,8 +7,8 @@ use Rattle.integer.specs.Tabulate.{tabulate}
 use Rattle.job.specs.Job.{Job}
 use Rattle.job_table.specs.Held.{sumsFor}
 use Rattle.scatter.specs.Table.{S, scatter, shift}
-use Rattle.text.specs.Line.{numberLine}
-use Rattle.text.specs.Lines.{lines}
+use Rattle.text_lines.specs.Line.{numberLine}
+use Rattle.text_lines.specs.Lines.{lines}
 
 -- `T` n k e; 84 is `T`
 unfoldable pub lineT : ℕ → ℕ → ℕ → List ℕ

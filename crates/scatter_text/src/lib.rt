@@ -9,7 +9,7 @@ ghost use Rattle.job.specs.Job.{accepted};
 ghost use Rattle.job.specs.Reply.{Answers, Replies, printedOf};
 ghost use Rattle.job_table.specs.Held.{Held, jobIn};
 ghost use Rattle.text.specs.Put.{Put, Sized};
-ghost use Rattle.text.specs.Rows.{Wide};
+ghost use Rattle.text_lines.specs.Rows.{Wide};
 ghost use Rattle.scatter_text.specs.Done.{textOf};
 ghost use Rattle.scatter_text.specs.Table.{tableText};
 
@@ -17,15 +17,15 @@ fn text_length(head: &[i64; 3], n: usize, rows: &[[i64; 11]; 8]) -> usize
     requires { ⌜ (n ≤ 8) × Wide (now rows) ⌝ }
     ensures { λ r. ⌜ Sized (textOf (take 3 (now (head .entry))) n (now (rows .entry))) 2048 r ⌝ }
 {
-    text::numbers_length(head, 3) + 2 + text::rows::rows_length(rows, n, n + 1)
+    text_lines::numbers_length(head, 3) + 2 + text_lines::rows::rows_length(rows, n, n + 1)
 }
 
 fn put_text(buf: &mut [u8], head: &[i64; 3], n: usize, rows: &[[i64; 11]; 8]) -> usize
     requires { ⌜ (n ≤ 8) × Wide (now rows) × (length (textOf (take 3 (now head)) n (now rows)) ≤ length (now buf)) ⌝ }
     ensures { λ r. ⌜ Put (textOf (take 3 (now (head .entry))) n (now (rows .entry))) 0 (now (buf .entry)) (now (buf .exit)) r ⌝ }
 {
-    let at = text::put_line(buf, b'T', head, 3);
-    text::rows::put_rows(buf, at, b'S', rows, n, n + 1)
+    let at = text_lines::put_line(buf, b'T', head, 3);
+    text_lines::rows::put_rows(buf, at, b'S', rows, n, n + 1)
 }
 
 // The length is known before the first byte is written, so a buffer that is too short stays as it is.
@@ -64,6 +64,6 @@ pub fn answer(text: &[u8], out: &mut [u8; 2048]) -> usize
     let tabled = table_text(text, out);
     match tabled {
         Reply::Written(length) => length,
-        Reply::Refused(number, line) => text::put_refusal(out, number, line),
+        Reply::Refused(number, line) => text_lines::put_refusal(out, number, line),
     }
 }

@@ -12,7 +12,7 @@ use Rattle.record.specs.AxisNumbers.{axes-row, axesNumbers, axisNumbers, two-be
 use Rattle.record.specs.Record.{answerOf, axisOf}
 use Rattle.record.specs.declared.Record.{Record}
 use Rattle.text.specs.Put.{Put, same-size}
-use Rattle.text.specs.Rows.{Wide}
+use Rattle.text_lines.specs.Rows.{Wide}
 use Rattle.solution.specs.Solution.{axes, axisSolution, used}
 
 module _ (n : ℕ) (rows : List (List ℤ)) (few : n ≤ 8) (w : Wide rows) where

@@ -5,7 +5,7 @@ ghost use Prim.Native.Nat.{_+_, _*_, _≤_};
 ghost use lib.IntN.{pos};
 ghost use lib.ListN.{length};
 ghost use Rattle.text.specs.Put.{Put};
-ghost use Rattle.text.specs.Rows.{Wide};
+ghost use Rattle.text_lines.specs.Rows.{Wide};
 ghost use Rattle.solution.specs.Solution.{outcomeNumber, solutionOf, solveRefusal, used};
 ghost use Rattle.solution.specs.Solvable.{Solvable};
 

@@ -2,10 +2,6 @@ pub mod Range
 pub mod Parts
 pub mod Numeral
 pub mod Decimal
-pub mod Line
-pub mod Lines
-pub mod Rows
 pub mod Put
 pub mod Digits
-pub mod Numbers
 pub mod Examples

@@ -1,16 +1,9 @@
-// Writers of text into a lent buffer: bytes, decimal numbers, and lines of tab-parted fields.
-pub mod rows;
-
+// Writers of text into a lent buffer: bytes and decimal numbers.
 ghost use mathlib.Core.List.{_∷_, []};
-ghost use Prim.Native.Nat.{_+_, _*_, _≤_, _<_, _^_};
-ghost use lib.ListN.{length, take};
+ghost use Prim.Native.Nat.{_+_, _≤_};
+ghost use lib.ListN.{length};
 ghost use Rattle.text.specs.Decimal.{digits, number};
-ghost use Rattle.text.specs.Line.{numbers, numberLine, wordLine, lineX};
 ghost use Rattle.text.specs.Put.{Put, Sized};
-
-const TAB: u8 = b'\t';
-
-const LINE_FEED: u8 = b'\n';
 
 const MINUS: u8 = b'-';
 
@@ -80,68 +73,4 @@ pub fn put_number(buf: &mut [u8], at: usize, z: i64) -> usize
     } else {
         put_natural(buf, at, size)
     }
-}
-
-// The length of the first n values, each after a tab.
-pub fn numbers_length(values: &[i64], n: usize) -> usize
-    requires { ⌜ (n ≤ length (now values)) × (n < 2 ^ 32) ⌝ }
-    ensures { λ r. ⌜ Sized (numbers (take n (now (values .entry)))) (21 * n) r ⌝ }
-{
-    let mut total = 0;
-    let mut i = 0;
-    while i < n {
-        total = total + 1 + number_length(values[i]);
-        i += 1;
-    }
-    total
-}
-
-// The first n values, each after a tab.
-pub fn put_numbers(buf: &mut [u8], at: usize, values: &[i64], n: usize) -> usize
-    requires { ⌜ (n ≤ length (now values)) × (at + length (numbers (take n (now values))) ≤ length (now buf)) ⌝ }
-    ensures { λ r. ⌜ Put (numbers (take n (now (values .entry)))) at (now (buf .entry)) (now (buf .exit)) r ⌝ }
-{
-    let mut next = at;
-    let mut i = 0;
-    while i < n {
-        next = put_byte(buf, next, TAB);
-        next = put_number(buf, next, values[i]);
-        i += 1;
-    }
-    next
-}
-
-// A line of a tag and the first n values, at the front of the buffer.
-pub fn put_line(buf: &mut [u8], tag: u8, values: &[i64], n: usize) -> usize
-    requires { ⌜ (n ≤ length (now values)) × (length (numberLine tag (take n (now values))) ≤ length (now buf)) ⌝ }
-    ensures { λ r. ⌜ Put (numberLine tag (take n (now (values .entry)))) 0 (now (buf .entry)) (now (buf .exit)) r ⌝ }
-{
-    let mut at = put_byte(buf, 0, tag);
-    at = put_numbers(buf, at, values, n);
-    put_byte(buf, at, LINE_FEED)
-}
-
-// A line of a tag, the first n values and a word, at the front of the buffer.
-pub fn put_word_line(buf: &mut [u8], tag: u8, values: &[i64], n: usize, word: &[u8]) -> usize
-    requires { ⌜ (n ≤ length (now values)) × (length (wordLine tag (take n (now values)) (now word)) ≤ length (now buf)) ⌝ }
-    ensures { λ r. ⌜ Put (wordLine tag (take n (now (values .entry))) (now (word .entry))) 0 (now (buf .entry)) (now (buf .exit)) r ⌝ }
-{
-    let mut at = put_byte(buf, 0, tag);
-    at = put_numbers(buf, at, values, n);
-    at = put_byte(buf, at, TAB);
-    at = put_bytes(buf, at, word);
-    put_byte(buf, at, LINE_FEED)
-}
-
-// The line of a refusal, at the front of the buffer.
-pub fn put_refusal(buf: &mut [u8], number: u8, line: usize) -> usize
-    requires { ⌜ 44 ≤ length (now buf) ⌝ }
-    ensures { λ r. ⌜ Put (lineX number line) 0 (now (buf .entry)) (now (buf .exit)) r ⌝ }
-{
-    let mut at = put_byte(buf, 0, b'X');
-    at = put_byte(buf, at, TAB);
-    at = put_natural(buf, at, number as u64);
-    at = put_byte(buf, at, TAB);
-    at = put_natural(buf, at, line as u64);
-    put_byte(buf, at, LINE_FEED)
 }

@@ -76,7 +76,7 @@ fn printed(text: &[u8], size: usize, out: &mut [u8]) -> usize
     let done = report::report(text, &mut out[..size]);
     match done {
         Reply::Written(length) => length,
-        Reply::Refused(number, line) => text::put_refusal(out, number, line),
+        Reply::Refused(number, line) => text_lines::put_refusal(out, number, line),
     }
 }
 

@@ -5,7 +5,7 @@ use mathlib.Core.Path.{_≡_}
 use mir.Facts.{toZ-ofZ}
 use borrow.Author.Needs.{needs}
 use native.Mathlib.Omega.{arith}
-use Rattle.text.specs.Line.{numbers}
+use Rattle.text_lines.specs.Line.{numbers}
 use Rattle.answer_text.proofs.Printing.{axis-printed, element-size, numbers-bound}
 use Rattle.answer_text.proofs.axis_line.Statement.{statement}
 use Rattle.answer_text.proofs.axis_line.Tie as tie

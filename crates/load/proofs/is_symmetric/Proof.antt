@@ -5,7 +5,7 @@ use Prim.Native.Nat.{ℕ, _-_, _≤_}
 use native.Mathlib.Omega.{arith}
 use borrow.Author.Tests.{not-true, not-false}
 use Rattle.integer.specs.Range.{all}
-use Rattle.ledger.specs.Refusal.{matrixOf}
+use Rattle.integer.specs.Matrix.{matrixOf}
 use Rattle.load.proofs.Checks.{all-more, all-fails, mirrored, symmetric-left}
 use Rattle.load.proofs.is_symmetric.Statement.{statement}
 use Rattle.load.proofs.is_symmetric.Tie as tie

@@ -8,10 +8,9 @@ use mir.Syntax.{w64}
 use mir.Val.{SFits}
 use mir.Facts.{toZ-ofZ}
 use borrow.Author.Needs.{needs}
-use Rattle.integer.specs.Matrix.{Matrix}
-use Rattle.ledger.specs.Refusal.{matrixOf}
 use Rattle.limits.specs.Limits.{units}
 use Rattle.rotation.specs.Turn.{square}
+use Rattle.integer.specs.Matrix.{Matrix, matrixOf}
 use Rattle.load.proofs.Filled.{filledTo, rows-all, rows-none, rows-one, rows-row}
 use Rattle.load.proofs.load_matrix.Statement.{statement}
 use Rattle.load.proofs.load_matrix.Tie as tie

@@ -14,7 +14,7 @@ use Rattle.integer.specs.Word.{held}
 use Rattle.ledger.specs.Accepted.{within-small}
 use Rattle.limits.specs.Channels.{places}
 use Rattle.limits.specs.Limits.{units}
-use Rattle.ledger.specs.Refusal.{matrixOf}
+use Rattle.integer.specs.Matrix.{matrixOf}
 use Rattle.load.proofs.loaded_entry.Statement.{statement}
 use Rattle.load.proofs.loaded_entry.Tie as tie
 

@@ -11,8 +11,8 @@ use mir.Val.{SFits, ofZ}
 use borrow.Author.Needs.{needs}
 use Rattle.integer.specs.Range.{all}
 use Rattle.integer.specs.Word.{same-bits}
-use Rattle.ledger.specs.Refusal.{matrixOf}
 use Rattle.limits.specs.Channels.{places}
+use Rattle.integer.specs.Matrix.{matrixOf}
 use Rattle.load.proofs.Checks.{all-more, all-fails, equal-yes, equal-no, mirrored}
 use Rattle.load.proofs.row_mirrored.Statement.{statement}
 use Rattle.load.proofs.row_mirrored.Tie as tie

@@ -4,9 +4,9 @@ use mathlib.Core.Path.{_≡_}
 use native.Mathlib.Omega.{arith}
 use lib.ListN.{length}
 use borrow.Author.Needs.{needs}
-use Rattle.text.specs.Line.{lineX}
 use Rattle.job.specs.Reply.{printedOf}
 use Rattle.job.specs.Replying.{refused-printed, written-printed}
+use Rattle.text_lines.specs.Line.{lineX}
 use Rattle.report.specs.Report.{reportOf}
 use Rattle.report.proofs.answer.Statement.{statement}
 use Rattle.report.proofs.answer.Tie as tie

@@ -15,9 +15,9 @@ use Rattle.job_table.specs.Held.{jobIn}
 use Rattle.job_table.specs.Laws.{channels-held, samples-few, samples-held}
 use Rattle.record.specs.AxisNumbers.{axesNumbers}
 use Rattle.text.specs.Put.{Sized}
-use Rattle.text.specs.Rows.{Wide}
 use Rattle.run.specs.Run.{endOf}
 use Rattle.run.specs.declared.Ended.{Ended}
+use Rattle.text_lines.specs.Rows.{Wide}
 use Rattle.report.specs.Lines.{textOf, headOf}
 use Rattle.report.specs.Report.{reportOf, runFor}
 use Rattle.report.proofs.Bounds.{sweeps-most, turns-most}

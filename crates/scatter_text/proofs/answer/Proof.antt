@@ -6,8 +6,8 @@ use borrow.Author.Needs.{needs}
 use lib.ListN.{length}
 use Rattle.job.specs.Reply.{printedOf}
 use Rattle.job.specs.Replying.{refused-printed, written-printed}
+use Rattle.text_lines.specs.Line.{lineX}
 use Rattle.scatter_text.specs.Table.{tableText}
-use Rattle.text.specs.Line.{lineX}
 use Rattle.scatter_text.proofs.answer.Statement.{statement}
 use Rattle.scatter_text.proofs.answer.Tie as tie
 

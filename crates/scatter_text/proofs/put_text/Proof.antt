@@ -3,10 +3,10 @@ use Prim.Native.Nat.{_+_, _≤_}
 use native.Mathlib.Omega.{arith}
 use borrow.Author.Needs.{needs}
 use lib.ListN.{length, take, length-append}
-use Rattle.text.specs.Line.{numberLine}
-use Rattle.text.specs.Lines.{lines}
 use Rattle.text.specs.Put.{put-then}
-use Rattle.text.specs.Rows.{rowLine}
+use Rattle.text_lines.specs.Line.{numberLine}
+use Rattle.text_lines.specs.Lines.{lines}
+use Rattle.text_lines.specs.Rows.{rowLine}
 use Rattle.scatter_text.specs.Done.{textOf}
 use Rattle.scatter_text.proofs.put_text.Statement.{statement}
 use Rattle.scatter_text.proofs.put_text.Tie as tie

@@ -14,7 +14,7 @@ use Rattle.job_table.specs.Held.{jobIn}
 use Rattle.job_table.specs.Laws.{channels-held, samples-few, shift-few}
 use Rattle.scatter.specs.declared.table.Table.{Table}
 use Rattle.text.specs.Put.{Sized}
-use Rattle.text.specs.Rows.{Wide}
+use Rattle.text_lines.specs.Rows.{Wide}
 use Rattle.scatter_text.specs.Done.{textOf}
 use Rattle.scatter_text.specs.Laws.{text-of-arrays}
 use Rattle.scatter_text.specs.Rows.{rows-wide}

@@ -2,7 +2,7 @@
 use native.Mathlib.Omega.{arith}
 use borrow.Author.Needs.{needs}
 use lib.ListN.{length-append}
-use Rattle.text.specs.Numbers.{length-number-line}
+use Rattle.text_lines.specs.Numbers.{length-number-line}
 use Rattle.scatter_text.specs.Done.{textOf}
 use Rattle.scatter_text.proofs.text_length.Statement.{statement}
 use Rattle.scatter_text.proofs.text_length.Tie as tie

@@ -4,8 +4,8 @@ use lib.Seq.{length-take-le}
 use mathlib.Core.Path.{sym}
 use borrow.Author.Needs.{needs}
 use Rattle.text.specs.Decimal.{digitsBy, digits, number}
-use Rattle.text.specs.Line.{further, line, numberLine, wordLine}
 use Rattle.text.specs.Put.{same-size}
+use Rattle.text_lines.specs.Line.{further, line, numberLine, wordLine}
 use Rattle.text_test.proofs.main.Statement.{statement}
 use Rattle.text_test.proofs.main.Tie as tie
 

@@ -3,10 +3,10 @@ use Prim.Native.Nat.{_+_, _≤_}
 use lib.ListN.{length}
 use native.Mathlib.Omega.{arith}
 use borrow.Author.Needs.{needs}
-use Rattle.text.specs.Line.{wordLine}
-use Rattle.text.specs.Lines.{lines}
 use Rattle.text.specs.Put.{put-then}
-use Rattle.text.specs.Rows.{rowLine}
+use Rattle.text_lines.specs.Line.{wordLine}
+use Rattle.text_lines.specs.Lines.{lines}
+use Rattle.text_lines.specs.Rows.{rowLine}
 use Rattle.report.specs.Lines.{textOf}
 use Rattle.report.specs.Report.{outcomeWord}
 use Rattle.report.proofs.Written.{text-size}

@@ -3,6 +3,7 @@ use Prim.Native.Nat.{_*_, _≤_}
 use native.Mathlib.Nat.{mul-le-mul}
 use native.Mathlib.Omega.{arith}
 use borrow.Author.Needs.{needs}
+use Rattle.integer.specs.Matrix.{matrixOf}
 use Rattle.scatter_text.specs.Rows.{rowOf}
 use Rattle.scatter_text.proofs.rows.row_of.Statement.{statement}
 use Rattle.scatter_text.proofs.rows.row_of.Tie as tie
@@ -11,7 +12,7 @@ start : (c : tie.Start) → c .args .i * c .args .n ≤ 56
 start c = mul-le-mul {n₂ = 7} {m₂ = 8} (omega arith) (c .pre .0)
 
 pub row-of-spec : {M : Type 1} → statement M
-unfolding rowOf
+unfolding rowOf matrixOf
 row-of-spec =
     tie.close
     (tie.spec

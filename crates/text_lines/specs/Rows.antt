@@ -4,8 +4,8 @@ use mathlib.Core.Path.{_≡_}
 use mathlib.Core.List.{List, []}
 use lib.IntN.{ℤ}
 use lib.ListN.{length, take, getD}
-use Rattle.text.specs.Line.{numberLine}
-use Rattle.text.specs.Lines.{lines}
+use Rattle.text_lines.specs.Line.{numberLine}
+use Rattle.text_lines.specs.Lines.{lines}
 
 -- The line of row i: a tag and the first numbers of the row
 abbrev pub rowLine : ℕ → ℕ → List (List ℤ) → ℕ → List ℕ

@@ -7,8 +7,8 @@ use native.Mathlib.Omega.{arith}
 use lib.IntN.{ℤ, pos}
 use lib.ListN.{length, take, drop, getD, length-append, take-append-drop}
 use lib.Seq.{take-suc, take-take}
 use Rattle.text.specs.Decimal.{digits, number}
-use Rattle.text.specs.Line.{further, line, numbers, numberLine, wordLine, lineX}
+use Rattle.text_lines.specs.Line.{further, line, numbers, numberLine, wordLine, lineX}
 
 pub further-append : (fs gs : List (List ℕ)) → further (fs ++ gs) ≡ further fs ++ further gs
 unfolding further

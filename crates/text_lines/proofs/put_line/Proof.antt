@@ -1,13 +1,13 @@
--- `text::put_line` meets its contract: the tag, the numbers and the line feed, each written where the last one ended.
+-- `text_lines::put_line` meets its contract: the tag, the numbers and the line feed, each written where the last one ended.
 use Prim.Native.Nat.{_+_, _≤_}
 use lib.ListN.{length, take}
 use native.Mathlib.Omega.{arith}
 use borrow.Author.Needs.{needs}
-use Rattle.text.specs.Line.{numbers}
-use Rattle.text.specs.Numbers.{number-line, length-number-line}
 use Rattle.text.specs.Put.{put-then}
-use Rattle.text.proofs.put_line.Statement.{statement}
-use Rattle.text.proofs.put_line.Tie as tie
+use Rattle.text_lines.specs.Line.{numbers}
+use Rattle.text_lines.specs.Numbers.{number-line, length-number-line}
+use Rattle.text_lines.proofs.put_line.Statement.{statement}
+use Rattle.text_lines.proofs.put_line.Tie as tie
 
 sized : (c : tie.Start) → length (numbers (take (c .args .n) (c .args .values .now))) + 2 ≤ length (c .args .buf .now)
 sized c = rw length-number-line at (c .pre .1)

@@ -1,15 +1,15 @@
--- `text::rows::rows_length` meets its contract. The invariant: the first i lines are counted, at most 233 bytes each.
+-- `text_lines::rows::rows_length` meets its contract. The invariant: the first i lines are counted, at most 233 bytes each.
 use Prim.Native.Nat.{ℕ, _-_, _*_, _≤_}
 use mathlib.Core.Path.{_≡_, sym}
 use mathlib.Core.List.{[]}
 use lib.ListN.{length, getD}
 use native.Mathlib.Omega.{arith}
 use borrow.Author.Needs.{needs}
-use Rattle.text.specs.Lines.{lines, lines-none, lines-length}
-use Rattle.text.specs.Numbers.{length-number-line}
-use Rattle.text.specs.Rows.{rowLine}
-use Rattle.text.proofs.rows.rows_length.Statement.{statement}
-use Rattle.text.proofs.rows.rows_length.Tie as tie
+use Rattle.text_lines.specs.Lines.{lines, lines-none, lines-length}
+use Rattle.text_lines.specs.Numbers.{length-number-line}
+use Rattle.text_lines.specs.Rows.{rowLine}
+use Rattle.text_lines.proofs.rows.rows_length.Statement.{statement}
+use Rattle.text_lines.proofs.rows.rows_length.Tie as tie
 
 abbrev Inv-loop : tie.InvT-loop
 Inv-loop rows n width total₀ i₀ total i =

@@ -1,9 +1,9 @@
 // Rows of numbers as lines, a tag and the first numbers of a row in each: how long they are together, and the writer.
 ghost use Prim.Native.Nat.{_+_, _≤_};
 ghost use lib.ListN.{length};
-ghost use Rattle.text.specs.Lines.{lines};
 ghost use Rattle.text.specs.Put.{Put};
-ghost use Rattle.text.specs.Rows.{RowsSized, Wide, rowLine};
+ghost use Rattle.text_lines.specs.Lines.{lines};
+ghost use Rattle.text_lines.specs.Rows.{RowsSized, Wide, rowLine};
 
 // The length of the lines of the first n rows, `width` numbers each.
 pub fn rows_length(rows: &[[i64; 11]; 8], n: usize, width: usize) -> usize

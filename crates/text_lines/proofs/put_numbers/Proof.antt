@@ -1,4 +1,4 @@
--- `text::put_numbers` meets its contract. The invariant: the first i numbers are written, and next is the place after them.
+-- `text_lines::put_numbers` meets its contract. The invariant: the first i numbers are written, and next is the place after them.
 use Prim.Native.Nat.{_+_, _-_, _≤_}
 use mathlib.Core.Path.{_≡_}
 use lib.IntN.{pos}
@@ -7,12 +7,12 @@ use mir.Syntax.{w64}
 use mir.Facts.{toZ-ofZ}
 use native.Mathlib.Omega.{arith}
 use borrow.Author.Needs.{needs}
 use Rattle.text.specs.Decimal.{number}
-use Rattle.text.specs.Line.{numbers, further}
-use Rattle.text.specs.Numbers.{numbers-more, number-within}
 use Rattle.text.specs.Put.{Put, put-nothing, put-then, same-size}
-use Rattle.text.proofs.put_numbers.Statement.{statement}
-use Rattle.text.proofs.put_numbers.Tie as tie
+use Rattle.text_lines.specs.Line.{numbers, further}
+use Rattle.text_lines.specs.Numbers.{numbers-more, number-within}
+use Rattle.text_lines.proofs.put_numbers.Statement.{statement}
+use Rattle.text_lines.proofs.put_numbers.Tie as tie
 
 abbrev Inv-loop : tie.InvT-loop
 Inv-loop buf₀ at values n next₀ i₀ buf next i = (i ≤ n) × Put (numbers (take i values)) at buf₀ buf next

@@ -1,14 +1,14 @@
--- `text::put_refusal` meets its contract: each field is written where the last one ended.
+-- `text_lines::put_refusal` meets its contract: each field is written where the last one ended.
 use Prim.Native.Nat.{_≤_}
 use lib.ListN.{length}
 use native.Mathlib.Omega.{arith}
 use borrow.Author.Needs.{needs}
 use Rattle.text.specs.Decimal.{digits}
 use Rattle.text.specs.Digits.{length-natural}
-use Rattle.text.specs.Numbers.{refusal-line}
 use Rattle.text.specs.Put.{put-then}
-use Rattle.text.proofs.put_refusal.Statement.{statement}
-use Rattle.text.proofs.put_refusal.Tie as tie
+use Rattle.text_lines.specs.Numbers.{refusal-line}
+use Rattle.text_lines.proofs.put_refusal.Statement.{statement}
+use Rattle.text_lines.proofs.put_refusal.Tie as tie
 
 number-length : (s : tie.Start) → length (digits (s .args .number)) ≤ 20
 number-length s = length-natural (s .args .number) (omega (arith, s .fits .number .fits))

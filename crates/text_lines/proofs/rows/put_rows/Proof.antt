@@ -1,15 +1,15 @@
--- `text::rows::put_rows` meets its contract. The invariant: the first i lines are written, and `at` is the place after them.
+-- `text_lines::rows::put_rows` meets its contract. The invariant: the first i lines are written, and `at` is the place after them.
 use Prim.Native.Nat.{_-_, _≤_}
 use mathlib.Core.Path.{_≡_, sym}
 use mathlib.Core.List.{[]}
 use lib.ListN.{length, getD}
 use native.Mathlib.Omega.{arith}
 use borrow.Author.Needs.{needs}
-use Rattle.text.specs.Lines.{lines, lines-none, lines-more, line-within}
 use Rattle.text.specs.Put.{Put, put-nothing, put-part, part-size, same-size}
-use Rattle.text.specs.Rows.{rowLine}
-use Rattle.text.proofs.rows.put_rows.Statement.{statement}
-use Rattle.text.proofs.rows.put_rows.Tie as tie
+use Rattle.text_lines.specs.Lines.{lines, lines-none, lines-more, line-within}
+use Rattle.text_lines.specs.Rows.{rowLine}
+use Rattle.text_lines.proofs.rows.put_rows.Statement.{statement}
+use Rattle.text_lines.proofs.rows.put_rows.Tie as tie
 
 abbrev Inv-loop : tie.InvT-loop
 Inv-loop buf₀ from tag rows n width at₀ i₀ buf at i = (i ≤ n) × Put (lines (rowLine tag width rows) i) from buf₀ buf at

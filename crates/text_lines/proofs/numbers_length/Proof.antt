@@ -1,4 +1,4 @@
--- `text::numbers_length` meets its contract. The invariant: the total is the length of the first i numbers, each of at most 21 bytes.
+-- `text_lines::numbers_length` meets its contract. The invariant: the total is the length of the first i numbers, each of at most 21 bytes.
 use Prim.Native.Nat.{_-_, _*_, _≤_}
 use mathlib.Core.Path.{_≡_, refl, ap}
 use lib.IntN.{pos}
@@ -7,11 +7,11 @@ use mir.Syntax.{w64}
 use mir.Facts.{toZ-ofZ}
 use native.Mathlib.Omega.{arith}
 use borrow.Author.Needs.{needs}
 use Rattle.text.specs.Decimal.{number}
-use Rattle.text.specs.Line.{further, numbers}
-use Rattle.text.specs.Numbers.{numbers-more}
-use Rattle.text.proofs.numbers_length.Statement.{statement}
-use Rattle.text.proofs.numbers_length.Tie as tie
+use Rattle.text_lines.specs.Line.{further, numbers}
+use Rattle.text_lines.specs.Numbers.{numbers-more}
+use Rattle.text_lines.proofs.numbers_length.Statement.{statement}
+use Rattle.text_lines.proofs.numbers_length.Tie as tie
 
 abbrev Inv-loop : tie.InvT-loop
 Inv-loop values n total₀ i₀ total i = (i ≤ n) × (total ≡ length (numbers (take i values))) × (total ≤ 21 * i)
