@@ -11,7 +11,7 @@ use Rattle.text.specs.Parts.{onto, split, before}
 use Rattle.text.specs.Range.{within, allWithin}
 use Rattle.job_table.specs.Held.{sumsFor, tableFor}
 use Rattle.record.specs.AxisNumbers.{axisValues}
-use Rattle.report.specs.Report.{outcomeWord, runFor, lineR, lineA, reportOf}
+use Rattle.report.specs.Report.{headOf, runFor, lineR, lineA, reportOf}
 use Rattle.job.specs.Reply.{printedBy, printedOf}
 use Rattle.rounding.specs.Rounding.{rnd}
 use Rattle.run.specs.Cards as running
@@ -22,6 +22,7 @@ use Rattle.job_line.specs.Range.{parametersInRange, sampleInRange}
 use Rattle.job_line.specs.Text.{numberOf, numbersOf, isTag, recordOf, lineOf}
 use Rattle.text_lines.specs.Line.{line, further, numberLine, wordLine}
 use Rattle.text_lines.specs.Lines.{lines}
+use Rattle.report_text.specs.Text.{outcomeWord}
 
 -- `P 2 1 0`
 abbrev p-line : List ℕ
@@ -80,7 +81,7 @@ card12 : running.Card12
 card12 = running.cards .card12
 
 first : lineR job ≡ r-line
-unfolding lineR outcomeWord wordLine line further number digits digitsBy
+unfolding lineR headOf outcomeWord wordLine line further number digits digitsBy
 first = rw (ran, table .0, card12 .sweeps, card12 .turns, card12 .outcome)
 
 axis-1 : lineA 2 (running.three .last) 1 ≡ a-line-1

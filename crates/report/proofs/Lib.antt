@@ -1,4 +1,3 @@
-mod Written
 mod Bounds
 mod Same
 pub mod Certificate

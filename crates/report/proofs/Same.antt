@@ -13,8 +13,8 @@ use Rattle.record.specs.declared.Record.{Record}
 use Rattle.text_lines.specs.Line.{numberLine}
 use Rattle.text_lines.specs.Lines.{lines-same}
 use Rattle.text_lines.specs.Rows.{Wide, rowLine}
-use Rattle.report.specs.Lines.{headOf, textOf}
-use Rattle.report.specs.Report.{lineA, lineR, reportOf, runFor}
+use Rattle.report_text.specs.Text.{textOf}
+use Rattle.report.specs.Report.{headOf, lineA, lineR, reportOf, runFor}
 use Rattle.report.proofs.Bounds.{run-channels}
 
 module _ (r : Record) where

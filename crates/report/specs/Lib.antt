@@ -1,4 +1,3 @@
 pub mod Report
-pub mod Lines
 pub mod Done
 pub mod Certified

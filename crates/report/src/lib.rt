@@ -1,6 +1,4 @@
 // Job text in, report or refusal out: document 01, 'Job text and report'.
-mod lines;
-
 use job::Job;
 use job::reply::Reply;
 use run::Ended;
@@ -47,11 +45,11 @@ fn report_job(job: Job, buf: &mut [u8]) -> Reply
         run.sweeps as i64,
         run.m as i64,
     ];
-    let length = lines::text_length(&head, outcome, &axes, n);
+    let length = report_text::text_length(&head, outcome, &axes, n);
     if buf.len() < length {
         return Reply::Refused(12, 0);
     }
-    Reply::Written(lines::put_text(buf, &head, outcome, &axes, n))
+    Reply::Written(report_text::put_text(buf, &head, outcome, &axes, n))
 }
 
 pub fn report(text: &[u8], buf: &mut [u8]) -> Reply

@@ -18,8 +18,8 @@ use Rattle.text.specs.Put.{Sized}
 use Rattle.run.specs.Run.{endOf}
 use Rattle.run.specs.declared.Ended.{Ended}
 use Rattle.text_lines.specs.Rows.{Wide}
-use Rattle.report.specs.Lines.{textOf, headOf}
-use Rattle.report.specs.Report.{reportOf, runFor}
+use Rattle.report_text.specs.Text.{textOf}
+use Rattle.report.specs.Report.{headOf, reportOf, runFor}
 use Rattle.report.proofs.Bounds.{sweeps-most, turns-most}
 use Rattle.report.proofs.Same.{axes-wide, text-same}
 use Rattle.report.proofs.report_job.Statement.{statement}

@@ -6,8 +6,7 @@ ghost use lib.ListN.{length};
 ghost use Rattle.text.specs.Put.{Put, Sized};
 ghost use Rattle.text_lines.specs.Line.{wordLine};
 ghost use Rattle.text_lines.specs.Rows.{Wide};
-ghost use Rattle.report.specs.Lines.{textOf};
-ghost use Rattle.report.specs.Report.{outcomeWord};
+ghost use Rattle.report_text.specs.Text.{textOf, outcomeWord};
 
 fn word_length(outcome: Outcome) -> usize
     ensures { λ r. ⌜ r ≡ length (outcomeWord outcome) ⌝ }

@@ -1,8 +1,8 @@
--- `report::lines::word_length` meets its contract.
-use Rattle.report.specs.Report.{outcomeWord}
+-- `report_text::word_length` meets its contract.
+use Rattle.report_text.specs.Text.{outcomeWord}
 use borrow.Author.Needs.{needs}
-use Rattle.report.proofs.lines.word_length.Statement.{statement}
-use Rattle.report.proofs.lines.word_length.Tie as tie
+use Rattle.report_text.proofs.word_length.Statement.{statement}
+use Rattle.report_text.proofs.word_length.Tie as tie
 
 returns : tie.Need-returns
 unfolding outcomeWord

@@ -10,8 +10,7 @@ use Rattle.run.specs.declared.Outcome.the-variants.{Settled, Still, Spent}
 use Rattle.text_lines.specs.Line.{wordLine}
 use Rattle.text_lines.specs.Lines.{lines}
 use Rattle.text_lines.specs.Rows.{rowLine}
-use Rattle.report.specs.Lines.{textOf}
-use Rattle.report.specs.Report.{outcomeWord}
+use Rattle.report_text.specs.Text.{textOf, outcomeWord}
 
 pub word-few : (outcome : Outcome) → length (outcomeWord outcome) ≤ 7
 unfolding outcomeWord

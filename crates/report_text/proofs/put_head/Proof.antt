@@ -1,10 +1,10 @@
--- `report::lines::put_head` meets its contract.
+-- `report_text::put_head` meets its contract.
 use lib.Seq.{take-length}
 use native.Mathlib.Nat.{le-refl}
 use borrow.Author.Needs.{needs}
-use Rattle.report.specs.Report.{outcomeWord}
-use Rattle.report.proofs.lines.put_head.Statement.{statement}
-use Rattle.report.proofs.lines.put_head.Tie as tie
+use Rattle.report_text.specs.Text.{outcomeWord}
+use Rattle.report_text.proofs.put_head.Statement.{statement}
+use Rattle.report_text.proofs.put_head.Tie as tie
 
 put-word-line-requires : tie.Need-put-word-line-requires
 unfolding outcomeWord

@@ -1,4 +1,4 @@
--- `report::lines::text_length` meets its contract: the R line, and the A lines.
+-- `report_text::text_length` meets its contract: the R line, and the A lines.
 use Prim.Native.Nat.{_+_, _≤_}
 use mathlib.Core.Path.{_≡_}
 use lib.ListN.{length}
@@ -7,10 +7,10 @@ use native.Mathlib.Omega.{arith}
 use borrow.Author.Needs.{needs}
 use Rattle.text_lines.specs.Line.{wordLine}
 use Rattle.text_lines.specs.Numbers.{length-word-line}
-use Rattle.report.specs.Report.{outcomeWord}
-use Rattle.report.proofs.Written.{word-few, text-size}
-use Rattle.report.proofs.lines.text_length.Statement.{statement}
-use Rattle.report.proofs.lines.text_length.Tie as tie
+use Rattle.report_text.specs.Text.{outcomeWord}
+use Rattle.report_text.proofs.Written.{word-few, text-size}
+use Rattle.report_text.proofs.text_length.Statement.{statement}
+use Rattle.report_text.proofs.text_length.Tie as tie
 
 -- The R line has at most 115 bytes.
 few : (c : tie.After-word-length) → c .before .numbers-length .result + c .word-length .result + 3 ≤ 115

@@ -1,4 +1,4 @@
--- `report::lines::put_text` meets its contract: the R line, and the A lines after it.
+-- `report_text::put_text` meets its contract: the R line, and the A lines after it.
 use Prim.Native.Nat.{_+_, _≤_}
 use lib.ListN.{length}
 use native.Mathlib.Omega.{arith}
@@ -7,11 +7,10 @@ use Rattle.text.specs.Put.{put-then}
 use Rattle.text_lines.specs.Line.{wordLine}
 use Rattle.text_lines.specs.Lines.{lines}
 use Rattle.text_lines.specs.Rows.{rowLine}
-use Rattle.report.specs.Lines.{textOf}
-use Rattle.report.specs.Report.{outcomeWord}
-use Rattle.report.proofs.Written.{text-size}
-use Rattle.report.proofs.lines.put_text.Statement.{statement}
-use Rattle.report.proofs.lines.put_text.Tie as tie
+use Rattle.report_text.specs.Text.{textOf, outcomeWord}
+use Rattle.report_text.proofs.Written.{text-size}
+use Rattle.report_text.proofs.put_text.Statement.{statement}
+use Rattle.report_text.proofs.put_text.Tie as tie
 
 sized : (c : tie.Start) → length (wordLine 82 (c .args .head .now) (outcomeWord (c .args .outcome))) + length (lines (rowLine 65 (c .args .n + 3) (c .args .axes .now)) (c .args .n)) ≤ length (c .args .buf .now)
 sized c = rw (text-size (c .args .head .now) (c .args .outcome) (c .args .axes .now) (c .args .n)) at (c .pre .2)
