@@ -1,6 +1,6 @@
-mod Back
-mod Columns
+pub mod Back
+pub mod Columns
 mod Combination
-mod Pass
+pub mod Pass
 mod Power
-mod Whole
+pub mod Whole

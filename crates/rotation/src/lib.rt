@@ -1,3 +1,2 @@
-// The turn of a pair of channels: the rotation, and the turned matrix and axes.
+// The rotation of a pair of channels, and two entries turned by it. The theory of a turn is in specs/.
 pub mod pair;
-pub mod turn;

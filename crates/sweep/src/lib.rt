@@ -11,7 +11,6 @@ ghost use Rattle.sweep.specs.Worked.{Ready, workAt};
 ghost use Rattle.sweep.specs.Work.{workPair, workPairs};
 use choice::Choice;
 use rotation::pair::Rotation;
-use rotation::turn;
 
 pub fn turn_refusal(n: usize, m: u64, p: usize, q: usize) -> u32
     ensures { λ r. ⌜ r ≡ refusalOf n m (turn p q) ⌝ }

@@ -4,7 +4,6 @@ use crate::generator;
 use crate::text;
 use choice::Choice;
 use rotation::pair::Rotation;
-use rotation::turn;
 
 // R u w rnd(u/w)
 pub fn rounded(k: u64)

@@ -1,4 +1,4 @@
--- `rotation::turn::turn_block` meets its contract.
+-- `turn::turn_block` meets its contract.
 use mathlib.Core.Path.{_≡_, ap, _∙_}
 use Prim.Native.Nat.{ℕ}
 use lib.IntN.{ℤ}
@@ -8,15 +8,15 @@ use mir.Facts.{toZ-ofZ}
 use borrow.Author.Needs.{needs}
 use Rattle.integer.specs.Word.{word}
 use Rattle.choice.specs.Widest.{widest}
 use Rattle.rotation.specs.InPlace.{blockOf}
 use Rattle.rotation.specs.Rotation.{first, inverse, second}
 use Rattle.rotation.specs.Size.{passed}
 use Rattle.rotation.specs.Turn.{at}
 use Rattle.rotation.specs.declared.pair.Rotation.{Rotation}
 use Rattle.rotation.proofs.Back.{Back, back-of, inverse-first}
 use Rattle.rotation.proofs.Pass.{room}
-use Rattle.rotation.proofs.turn.turn_block.Statement.{statement}
-use Rattle.rotation.proofs.turn.turn_block.Tie as tie
+use Rattle.turn.proofs.turn_block.Statement.{statement}
+use Rattle.turn.proofs.turn_block.Tie as tie
 
 -- the entries of the block, which are words of 64 bits, and both rotations of them
 module _ (c : tie.After-inverse) where

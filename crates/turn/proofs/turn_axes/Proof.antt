@@ -1,8 +1,8 @@
--- `rotation::turn::turn_axes` meets its contract.
+-- `turn::turn_axes` meets its contract.
 use borrow.Author.Needs.{needs}
 use Rattle.rotation.specs.Shape.{shaped}
-use Rattle.rotation.proofs.turn.turn_axes.Statement.{statement}
-use Rattle.rotation.proofs.turn.turn_axes.Tie as tie
+use Rattle.turn.proofs.turn_axes.Statement.{statement}
+use Rattle.turn.proofs.turn_axes.Tie as tie
 
 turn-axes-in-place-requires : tie.Need-turn-axes-in-place-requires
 turn-axes-in-place-requires c κs =

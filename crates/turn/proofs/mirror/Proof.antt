@@ -1,4 +1,4 @@
--- `rotation::turn::mirror` meets its contract: at i the rows before it are mirrored.
+-- `turn::mirror` meets its contract: at i the rows before it are mirrored.
 use mathlib.Core.Path.{_≡_}
 use mathlib.Core.List.{[]}
 use Prim.Native.Nat.{_-_, _≤_}
@@ -9,10 +9,10 @@ use mir.Syntax.{w64}
 use mir.Val.{SFits}
 use borrow.Author.Needs.{needs}
 use Rattle.integer.specs.Word.{word}
 use Rattle.rotation.specs.Turn.{at}
 use Rattle.rotation.proofs.Whole.{Mirrored, no-row, first-read, second-read, rows-more}
-use Rattle.rotation.proofs.turn.mirror.Statement.{statement}
-use Rattle.rotation.proofs.turn.mirror.Tie as tie
+use Rattle.turn.proofs.mirror.Statement.{statement}
+use Rattle.turn.proofs.mirror.Tie as tie
 
 abbrev Inv-loop : tie.InvT-loop
 Inv-loop a₀ n p q i₀ a i = (i ≤ n) × Mirrored p q a₀ i a

@@ -1,8 +1,8 @@
--- `rotation::turn::turn_matrix` meets its contract.
+-- `turn::turn_matrix` meets its contract.
 use borrow.Author.Needs.{needs}
 use Rattle.rotation.specs.Shape.{shaped}
-use Rattle.rotation.proofs.turn.turn_matrix.Statement.{statement}
-use Rattle.rotation.proofs.turn.turn_matrix.Tie as tie
+use Rattle.turn.proofs.turn_matrix.Statement.{statement}
+use Rattle.turn.proofs.turn_matrix.Tie as tie
 
 turn-matrix-in-place-requires : tie.Need-turn-matrix-in-place-requires
 turn-matrix-in-place-requires c κs =

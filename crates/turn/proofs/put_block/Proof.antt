@@ -1,9 +1,9 @@
--- `rotation::turn::put_block` meets its contract.
+-- `turn::put_block` meets its contract.
 use mir.Facts.{toZ-ofZ}
 use borrow.Author.Needs.{needs}
 use Rattle.rotation.proofs.Whole.{block}
-use Rattle.rotation.proofs.turn.put_block.Statement.{statement}
-use Rattle.rotation.proofs.turn.put_block.Tie as tie
+use Rattle.turn.proofs.put_block.Statement.{statement}
+use Rattle.turn.proofs.put_block.Tie as tie
 
 returns : tie.Need-returns
 returns c =

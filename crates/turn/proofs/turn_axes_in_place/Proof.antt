@@ -1,4 +1,4 @@
--- `rotation::turn::turn_axes_in_place` meets its contract: at j the columns before it are turned.
+-- `turn::turn_axes_in_place` meets its contract: at j the columns before it are turned.
 use mathlib.Core.Path.{_≡_, ap, _∙_}
 use mathlib.Core.List.{List}
 use Prim.Native.Nat.{ℕ, _-_, _≤_, _<_}
@@ -9,13 +9,13 @@ use mir.Val.{SFits, toZ, ofZ}
 use borrow.Author.Needs.{needs}
 use Rattle.integer.specs.Word.{read-back, word}
 use Rattle.choice.specs.Widest.{widest}
 use Rattle.rotation.specs.Rotation.{first}
 use Rattle.rotation.specs.Turn.{at}
 use Rattle.rotation.proofs.Back.{back-of}
 use Rattle.rotation.proofs.Pass.{room}
 use Rattle.rotation.proofs.Columns.{Columns, no-column, column-read, columns-more, columns-all}
-use Rattle.rotation.proofs.turn.turn_axes_in_place.Statement.{statement}
-use Rattle.rotation.proofs.turn.turn_axes_in_place.Tie as tie
+use Rattle.turn.proofs.turn_axes_in_place.Statement.{statement}
+use Rattle.turn.proofs.turn_axes_in_place.Tie as tie
 
 abbrev Inv-loop : tie.InvT-loop
 Inv-loop v₀ n r p q back j₀ v j = (j ≤ n) × Columns r p q v₀ j v

@@ -1,12 +1,12 @@
--- `rotation::turn::turn_matrix_in_place` meets its contract: rows, block and mirrors.
+-- `turn::turn_matrix_in_place` meets its contract: rows, block and mirrors.
 use mathlib.Core.Path.{_∙_}
 use native.Mathlib.Omega.{arith}
 use borrow.Author.Needs.{needs}
 use Rattle.rotation.specs.Eight.{shaped-square}
 use Rattle.rotation.proofs.Columns.{shaped-axes-of}
 use Rattle.rotation.proofs.Whole.{cross, matrix, pass}
-use Rattle.rotation.proofs.turn.turn_matrix_in_place.Statement.{statement}
-use Rattle.rotation.proofs.turn.turn_matrix_in_place.Tie as tie
+use Rattle.turn.proofs.turn_matrix_in_place.Statement.{statement}
+use Rattle.turn.proofs.turn_matrix_in_place.Tie as tie
 
 turn-block-requires : tie.Need-turn-block-requires
 turn-block-requires c κs =
