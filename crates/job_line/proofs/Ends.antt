@@ -6,10 +6,11 @@ use mathlib.Core.List.{List}
 use mathlib.Core.Logic.{_⊎_}
 use lib.Dec.{leb, ltb, eqb, lit<, lit≤}
 use lib.ListN.{length, set, replicate}
+use Rattle.job_field.specs.Scan.{fieldAt, taggedAt}
+use Rattle.job_field.specs.declared.Field.{Field}
+use Rattle.job_field.specs.declared.Field.the-variants.{Inner, Last}
 use Rattle.job_line.specs.Range.{parametersInRange}
-use Rattle.job_line.specs.Scan.{fieldAt, taggedAt, malformedLine, numbersAt, lineAt, parametersOf, parametersAt, endingOf, endingAt}
-use Rattle.job_line.specs.declared.field.Field.{Field}
-use Rattle.job_line.specs.declared.field.Field.the-variants.{Inner, Last}
+use Rattle.job_line.specs.Scan.{malformedLine, numbersAt, lineAt, parametersOf, parametersAt, endingOf, endingAt}
 use Rattle.job_line.specs.declared.sample.Line.{Line}
 use Rattle.job_line.specs.declared.first.Parameters.the-variants as P
 use Rattle.job_line.specs.declared.last.Ending.the-variants as E

@@ -11,9 +11,9 @@ use lib.ListN.{length, drop}
 use Rattle.text.specs.Numeral.{isDigit}
 use Rattle.text.specs.Parts.{onto, split}
 use Rattle.text.specs.Range.{within}
-use Rattle.job_line.specs.Scan.{mayFollow, digitsFrom, fieldFrom}
-use Rattle.job_line.specs.declared.field.Field.{Field}
-use Rattle.job_line.specs.declared.field.Field.the-variants.{Inner, Last, Bad}
+use Rattle.job_field.specs.Scan.{mayFollow, digitsFrom, fieldFrom}
+use Rattle.job_field.specs.declared.Field.{Field}
+use Rattle.job_field.specs.declared.Field.the-variants.{Inner, Last, Bad}
 use Rattle.job_line.proofs.Numeral.{more, numeral}
 
 -- What ends a field: a tab, a line feed, or the end of the text.

@@ -11,8 +11,8 @@ use lib.Dec.{leb, ltb, eqb, leb·zero, leb·suc-zero, leb·suc-suc, lit<}
 use lib.ListN.{length}
 use Rattle.text.specs.Numeral.{isDigit, leadingZero, valueFrom}
 use Rattle.text.specs.Range.{allWithin, is-within}
+use Rattle.job_field.specs.Scan.{mayFollow}
 use Rattle.job_line.specs.Text.{numberOf}
-use Rattle.job_line.specs.Scan.{mayFollow}
 
 unfoldable pub more : ℕ → List ℕ → Option ℕ
 more v [] = some v

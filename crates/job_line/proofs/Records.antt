@@ -13,8 +13,9 @@ use lib.Seq.{sets, drop-drop}
 use Rattle.integer.specs.Tests.{cond-same}
 use Rattle.text.specs.Parts.{onto, split, before}
 use Rattle.text.specs.Range.{both}
+use Rattle.job_field.specs.Scan.{fieldAt, taggedFrom, taggedAt}
 use Rattle.job_line.specs.Text.{numberOf, numbersOf, isTag, recordOf, lineOf}
-use Rattle.job_line.specs.Scan.{fieldAt, taggedFrom, taggedAt, malformedLine, lastNumber, innerNumber, numbersAt, lineAt}
+use Rattle.job_line.specs.Scan.{malformedLine, lastNumber, innerNumber, numbersAt, lineAt}
 use Rattle.job_line.specs.declared.sample.Line.{Line}
 use Rattle.job_line.specs.declared.sample.Extent.the-variants.{To}
 use Rattle.job_line.proofs.Numeral.{number-is}

@@ -1,8 +1,8 @@
 // The line `P`.
-use crate::field::Field;
-use crate::field::number;
-use crate::field::tagged;
 use crate::ranges::parameters_within;
+use job_field::Field;
+use job_field::number;
+use job_field::tagged;
 ghost use mathlib.Core.Path.{_≡_};
 ghost use Rattle.job_line.specs.Scan.{parametersAt};
 

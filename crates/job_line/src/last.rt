@@ -1,7 +1,7 @@
 // The line `E`.
-use crate::field::Field;
-use crate::field::number;
-use crate::field::tagged;
+use job_field::Field;
+use job_field::number;
+use job_field::tagged;
 ghost use mathlib.Core.Path.{_≡_};
 ghost use Rattle.job_line.specs.Scan.{endingAt};
 

@@ -1,16 +1,11 @@
 // The ranges of the numbers of a line.
+use job_field::is_within;
 ghost use mathlib.Core.Path.{_≡_};
 ghost use Prim.Native.Nat.{_+_, _≤_};
 ghost use lib.Seq.{slice};
-ghost use Rattle.text.specs.Range.{within, allWithin};
+ghost use Rattle.text.specs.Range.{allWithin};
 ghost use Rattle.job_line.specs.Range.{parametersInRange};
 ghost use Rattle.job_line.specs.Scan.{sampleWithin};
-
-pub fn is_within(low: u32, high: u32, x: u32) -> bool
-    ensures { λ r. ⌜ r ≡ within low high x ⌝ }
-{
-    if x < low { false } else { x <= high }
-}
 
 // "`P` n (2..8), sweep limit (1..16), tolerance t in units (0..1,048,576)."
 pub fn parameters_within(n: u32, limit: u32, tolerance: u32) -> bool

@@ -1,7 +1,7 @@
 // The line `S`.
-use crate::field::Field;
-use crate::field::number;
-use crate::field::tagged;
+use job_field::Field;
+use job_field::number;
+use job_field::tagged;
 ghost use mathlib.Core.Path.{_≡_};
 ghost use Prim.Native.Nat.{_≤_};
 ghost use lib.ListN.{replicate};

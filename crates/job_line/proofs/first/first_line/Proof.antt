@@ -1,4 +1,4 @@
--- `first::first_line` meets its contract: each field that was read, or was not, picks the same branch of `parametersAt`.
+-- `job_line::first::first_line` meets its contract: each field that was read, or was not, picks the same branch of `parametersAt`.
 use mathlib.Core.Path.{_≡_, _∙_, sym}
 use mathlib.Core.Bool.{cond}
 use denote.Ref.{now}
@@ -6,8 +6,8 @@ use Rattle.job_line.specs.Range.{parametersInRange}
 use Rattle.job_line.specs.Scan.{parametersAt}
 use Rattle.job_line.specs.declared.first.Parameters.the-variants.{Read, Refused}
 use borrow.Author.Needs.{needs}
+use Rattle.job_field.proofs.Flags.{denied, granted}
 use Rattle.job_line.proofs.Ends.{p-untagged, p-first, p-second, p-third, p-whole}
-use Rattle.job_line.proofs.Flags.{denied, granted}
 use Rattle.job_line.proofs.first.first_line.Statement.{statement}
 use Rattle.job_line.proofs.first.first_line.Tie as tie
 

@@ -1,4 +1,4 @@
--- `last::last_line` meets its contract: the field that was read, or was not, and each test picks the same branch of `endingAt`.
+-- `job_line::last::last_line` meets its contract: the field that was read, or was not, and each test picks the same branch of `endingAt`.
 use mathlib.Core.Path.{_≡_}
 use mathlib.Core.Bool.{cond, _&&_}
 use denote.Ref.{now}
@@ -9,9 +9,9 @@ use Rattle.job_line.specs.declared.last.Ending.the-variants.{Accepted, R
 use borrow.Author.Needs.{needs}
 use borrow.Author.Tests.{lt-ltb, le-ltb, le-leb, lt-leb, eq-eqb, ne-eqb}
 use native.Mathlib.Omega.{arith}
+use Rattle.job_field.proofs.Flags.{denied, granted}
+use Rattle.job_field.proofs.Tags.{tagged-room}
 use Rattle.job_line.proofs.Ends.{e-untagged, e-first, e-whole}
-use Rattle.job_line.proofs.Flags.{denied, granted}
-use Rattle.job_line.proofs.Lines.{tagged-room}
 use Rattle.job_line.proofs.last.last_line.Statement.{statement}
 use Rattle.job_line.proofs.last.last_line.Tie as tie
 

@@ -1,11 +1,11 @@
--- `ranges::counts_within` meets its contract. The invariant: the test of all counts is the test of those from number i on.
+-- `job_line::ranges::counts_within` meets its contract. The invariant: the test of all counts is the test of those from number i on.
 use Prim.Native.Nat.{_+_, _-_, _≤_}
 use mathlib.Core.Path.{_≡_}
 use lib.Seq.{slice}
 use borrow.Author.Needs.{needs}
 use Rattle.text.specs.Range.{allWithin}
+use Rattle.job_field.proofs.Flags.{denied, granted}
 use Rattle.job_line.proofs.Lines.{all-end, all-over, all-more}
-use Rattle.job_line.proofs.Flags.{denied, granted}
 use Rattle.job_line.proofs.ranges.counts_within.Statement.{statement}
 use Rattle.job_line.proofs.ranges.counts_within.Tie as tie
 

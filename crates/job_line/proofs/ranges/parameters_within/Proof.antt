@@ -1,7 +1,7 @@
--- `ranges::parameters_within` meets its contract: each answer of `is_within` is one part of the definition.
+-- `job_line::ranges::parameters_within` meets its contract: each answer of `is_within` is one part of the definition.
 use borrow.Author.Needs.{needs}
+use Rattle.job_field.proofs.Flags.{denied, granted}
 use Rattle.job_line.specs.Range.{parametersInRange}
-use Rattle.job_line.proofs.Flags.{denied, granted}
 use Rattle.job_line.proofs.ranges.parameters_within.Statement.{statement}
 use Rattle.job_line.proofs.ranges.parameters_within.Tie as tie
 

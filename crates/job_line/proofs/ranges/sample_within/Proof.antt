@@ -1,7 +1,7 @@
--- `ranges::sample_within` meets its contract.
+-- `job_line::ranges::sample_within` meets its contract.
 use borrow.Author.Needs.{needs}
+use Rattle.job_field.proofs.Flags.{denied, granted}
 use Rattle.job_line.specs.Scan.{sampleWithin}
-use Rattle.job_line.proofs.Flags.{denied, granted}
 use Rattle.job_line.proofs.ranges.sample_within.Statement.{statement}
 use Rattle.job_line.proofs.ranges.sample_within.Tie as tie
 

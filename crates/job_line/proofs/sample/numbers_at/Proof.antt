@@ -1,4 +1,4 @@
--- `sample::numbers_at` meets its contract. The invariant: the line read from its first number is the line read on from number i.
+-- `job_line::sample::numbers_at` meets its contract. The invariant: the line read from its first number is the line read on from number i.
 use Prim.Native.Nat.{_+_}
 use mathlib.Core.Path.{_≡_, _∙_}
 use lib.ListN.{length, replicate}

@@ -1,9 +1,9 @@
--- `sample::sample_line` meets its contract.
+-- `job_line::sample::sample_line` meets its contract.
 use mathlib.Core.Path.{_∙_, sym}
 use borrow.Author.Needs.{needs}
 use native.Mathlib.Omega.{arith}
+use Rattle.job_field.proofs.Tags.{tagged-room}
 use Rattle.job_line.specs.Scan.{lineAt}
-use Rattle.job_line.proofs.Lines.{tagged-room}
 use Rattle.job_line.proofs.sample.sample_line.Statement.{statement}
 use Rattle.job_line.proofs.sample.sample_line.Tie as tie
 

@@ -10,9 +10,9 @@ use lib.ListN.{length, getD, drop-of-length-le}
 use lib.Seq.{drop-cons}
 use Rattle.text.specs.Numeral.{isDigit}
 use Rattle.text.specs.Range.{is-within}
-use Rattle.job_line.specs.Scan.{mayFollow, digitsFrom, digitsAt, fieldFrom, fieldAt}
-use Rattle.job_line.specs.declared.field.Field.{Field}
-use Rattle.job_line.specs.declared.field.Field.the-variants.{Inner, Last, Bad}
+use Rattle.job_field.specs.Scan.{mayFollow, digitsFrom, digitsAt, fieldFrom, fieldAt}
+use Rattle.job_field.specs.declared.Field.{Field}
+use Rattle.job_field.specs.declared.Field.the-variants.{Inner, Last, Bad}
 
 -- What the reading comes to at a byte of the text, case by case. r is the reading of the whole, which has come to the place `at`.
 module _ (r : Field) (text : List ℕ) (at v : ℕ) where

@@ -1,14 +1,14 @@
--- `field::digits` meets its contract. The invariant: the field read from the start is the field read from `at` with the value so far.
+-- `job_field::digits` meets its contract. The invariant: the field read from the start is the field read from `at` with the value so far.
 use Prim.Native.Nat.{_-_}
 use mathlib.Core.Path.{_≡_}
 use lib.ListN.{length}
 use borrow.Author.Needs.{needs}
 use native.Mathlib.Omega.{arith}
-use Rattle.job_line.specs.Scan.{digitsAt}
-use Rattle.job_line.proofs.Digits.{digits-end, digits-tab, digits-feed, digits-bad, digits-more, may-follow}
-use Rattle.job_line.proofs.Flags.{denied, granted}
-use Rattle.job_line.proofs.field.digits.Statement.{statement}
-use Rattle.job_line.proofs.field.digits.Tie as tie
+use Rattle.job_field.specs.Scan.{digitsAt}
+use Rattle.job_field.proofs.Bytes.{digits-end, digits-tab, digits-feed, digits-bad, digits-more, may-follow}
+use Rattle.job_field.proofs.Flags.{denied, granted}
+use Rattle.job_field.proofs.digits.Statement.{statement}
+use Rattle.job_field.proofs.digits.Tie as tie
 
 abbrev Inv-loop : tie.InvT-loop
 Inv-loop text from start value₀ at₀ value at = digitsAt text from start ≡ digitsAt text at value

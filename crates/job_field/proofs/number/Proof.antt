@@ -1,12 +1,12 @@
--- `field::number` meets its contract: the first byte decides, and `digits` reads on from the second.
+-- `job_field::number` meets its contract: the first byte decides, and `digits` reads on from the second.
 use mathlib.Core.Path.{_∙_}
 use borrow.Author.Needs.{needs}
 use native.Mathlib.Omega.{arith}
 use Rattle.text.specs.Range.{is-within}
-use Rattle.job_line.proofs.Digits.{field-end, field-bad, field-more}
-use Rattle.job_line.proofs.Flags.{denied, granted}
-use Rattle.job_line.proofs.field.number.Statement.{statement}
-use Rattle.job_line.proofs.field.number.Tie as tie
+use Rattle.job_field.proofs.Bytes.{field-end, field-bad, field-more}
+use Rattle.job_field.proofs.Flags.{denied, granted}
+use Rattle.job_field.proofs.number.Statement.{statement}
+use Rattle.job_field.proofs.number.Tie as tie
 
 returns : tie.Need-returns
 returns c = search (needs, field-end)

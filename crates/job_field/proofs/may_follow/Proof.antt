@@ -1,9 +1,9 @@
--- `field::may_follow` meets its contract: each test that led to a return picks the same branch of `mayFollow`.
+-- `job_field::may_follow` meets its contract: each test that led to a return picks the same branch of `mayFollow`.
 use borrow.Author.Needs.{needs}
 use borrow.Author.Tests.{le-ltb, lt-ltb}
-use Rattle.job_line.specs.Scan.{mayFollow}
-use Rattle.job_line.proofs.field.may_follow.Statement.{statement}
-use Rattle.job_line.proofs.field.may_follow.Tie as tie
+use Rattle.job_field.specs.Scan.{mayFollow}
+use Rattle.job_field.proofs.may_follow.Statement.{statement}
+use Rattle.job_field.proofs.may_follow.Tie as tie
 
 returns : tie.Need-returns
 unfolding mayFollow

@@ -1,7 +1,13 @@
-// A field of a line: a tag, or a number and what ends it.
-use crate::ranges::is_within;
+// A field of a line of job text: a tag, or a number and what ends it. Document 01, "Job text and report".
 ghost use mathlib.Core.Path.{_≡_};
-ghost use Rattle.job_line.specs.Scan.{taggedAt, mayFollow, digitsAt, fieldAt};
+ghost use Rattle.text.specs.Range.{within};
+ghost use Rattle.job_field.specs.Scan.{taggedAt, mayFollow, digitsAt, fieldAt};
+
+pub fn is_within(low: u32, high: u32, x: u32) -> bool
+    ensures { λ r. ⌜ r ≡ within low high x ⌝ }
+{
+    if x < low { false } else { x <= high }
+}
 
 // Whether the tag and a tab stand at a place of the text.
 pub fn tagged(text: &[u8], at: usize, tag: u8) -> bool

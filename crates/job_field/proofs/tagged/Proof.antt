@@ -1,9 +1,9 @@
--- `field::tagged` meets its contract.
+-- `job_field::tagged` meets its contract.
 use borrow.Author.Needs.{needs}
 use native.Mathlib.Omega.{arith}
-use Rattle.job_line.proofs.Lines.{tagged-short, tagged-same, tagged-other}
-use Rattle.job_line.proofs.field.tagged.Statement.{statement}
-use Rattle.job_line.proofs.field.tagged.Tie as tie
+use Rattle.job_field.proofs.Tags.{tagged-short, tagged-same, tagged-other}
+use Rattle.job_field.proofs.tagged.Statement.{statement}
+use Rattle.job_field.proofs.tagged.Tie as tie
 
 returns : tie.Need-returns
 returns c = tagged-short _ _ _ (omega arith)

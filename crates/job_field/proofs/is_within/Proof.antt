@@ -1,8 +1,8 @@
--- `ranges::is_within` meets its contract: the first test tells the first half of `within`.
+-- `job_field::is_within` meets its contract: the first test tells the first half of `within`.
 use borrow.Author.Tests.{le-leb, lt-leb}
 use Rattle.text.specs.Range.{within}
-use Rattle.job_line.proofs.ranges.is_within.Statement.{statement}
-use Rattle.job_line.proofs.ranges.is_within.Tie as tie
+use Rattle.job_field.proofs.is_within.Statement.{statement}
+use Rattle.job_field.proofs.is_within.Tie as tie
 
 returns : tie.Need-returns
 unfolding within

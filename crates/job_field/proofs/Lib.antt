@@ -1,0 +1,3 @@
+mod Bytes
+pub mod Flags
+pub mod Tags
