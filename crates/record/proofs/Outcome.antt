@@ -19,6 +19,7 @@ use Rattle.record.specs.Flat.{rowsOf}
 use Rattle.record.specs.Kept.{Kept}
 use Rattle.record.specs.Record.{acceptedOf, afterOf, answerOf, refusedOf, valueOf, workOf}
 use Rattle.record.specs.declared.Record.{Record}
+use Rattle.record.specs.declared.Step.{Step}
 use Rattle.record.specs.Fill.{shaped-rows}
 
 module _ (r : Record) (call : Call) (k : Kept r) (number : ℕ) (e : number ≡ refusalOf (r .n) (r .m) call) where
@@ -28,6 +29,9 @@ module _ (r : Record) (call : Call) (k : Kept r) (number : ℕ) (e : number ≡ 
       let test = ne-eqb (refusalOf (r .n) (r .m) call) 0 (λ z. f (e ∙ z)) in
       let leaves : next ≡ afterOf r call = h ∙ rw test in
       record { answers = ap Refused e ∙ rw test; leaves = leaves; keeps = rw leaves (after-kept r call k) }
+
+  pub refuses : (z : Step) → (number ≡ 0 → ⊥) → (z .answer ≡ Refused number) × (z .next ≡ refusedOf r) → Done r call (z .answer) (z .next)
+  refuses z f h = rw (h .0) (refused (z .next) f (h .1))
 
   pub accepted : (answer : Answer) (next : Record) → number ≡ 0 → answer ≡ valueOf r call → next ≡ acceptedOf r call → Done r call answer next
   unfolding answerOf afterOf

@@ -1,5 +1,6 @@
 // The record and its calls: one matrix with its axes, the turns made of it, and the count of refused calls.
 ghost use Rattle.ledger.specs.Call.{axis, load, loosePair, sweep, turn};
+ghost use Rattle.query.specs.declared.Answer.the-variants.{Refused};
 ghost use Rattle.sweep.specs.Worked.{workAt};
 ghost use Rattle.record.specs.Done.{AxisDone, Done, Fresh};
 ghost use Rattle.record.specs.Kept.{Kept};
@@ -96,16 +97,23 @@ impl Record {
         self
     }
 
+    // What a refused call answers and leaves; an axis call has its own.
+    fn refuse(self, number: u32) -> Step
+        ensures { λ z. ⌜ (z .answer ≡ Refused number) × (z .next ≡ refusedOf self) ⌝ }
+    {
+        Step {
+            answer: Answer::Refused(number),
+            next: self.after_refusal(),
+        }
+    }
+
     pub fn load(self, n: usize, numbers: &[i64]) -> Step
         requires { ⌜ Kept self ⌝ }
         ensures { λ z. ⌜ Done self (load n (now (numbers .entry))) (z .answer) (z .next) ⌝ }
     {
         let number = load::load_refusal(n, numbers);
         if number != 0 {
-            return Step {
-                answer: Answer::Refused(number),
-                next: self.after_refusal(),
-            };
+            return self.refuse(number);
         }
         let refused = self.refused;
         let mut matrix = [[0i64; 8]; 8];
@@ -132,10 +140,7 @@ impl Record {
         let m = self.m;
         let number = sweep::turn_refusal(n, m, p, q);
         if number != 0 {
-            return Step {
-                answer: Answer::Refused(number),
-                next: self.after_refusal(),
-            };
+            return self.refuse(number);
         }
         let mut matrix = rows::unpacked(&self.a);
         let mut axes = rows::unpacked(&self.v);
@@ -154,10 +159,7 @@ impl Record {
         let m = self.m;
         let number = sweep::sweep_refusal(n, m);
         if number != 0 {
-            return Step {
-                answer: Answer::Refused(number),
-                next: self.after_refusal(),
-            };
+            return self.refuse(number);
         }
         let mut matrix = rows::unpacked(&self.a);
         let mut axes = rows::unpacked(&self.v);
@@ -175,10 +177,7 @@ impl Record {
         let n = self.n;
         let number = query::loose_pair_refusal(n, t);
         if number != 0 {
-            return Step {
-                answer: Answer::Refused(number),
-                next: self.after_refusal(),
-            };
+            return self.refuse(number);
         }
         let matrix = rows::unpacked(&self.a);
         Step {

@@ -7,15 +7,15 @@ use Rattle.load.specs.Blank.{blank}
 use Rattle.record.specs.Loading.{load-refusal-alone, loads-within}
 use Rattle.record.specs.Record.{acceptedOf, loadedOf, valueOf}
 use Rattle.record.proofs.FlatFilled.{flat-square}
-use Rattle.record.proofs.Outcome.{accepted, refused}
+use Rattle.record.proofs.Outcome.{accepted, refuses}
 use Rattle.record.proofs.Record.load.Statement.{statement}
 use Rattle.record.proofs.Record.load.Tie as tie
 
 returns : tie.Need-returns
 returns c =
     let s = c .before .before .before in
-    refused (s .args .self) (load (s .args .n) (s .args .numbers .now)) (s .pre) _
-    (c .before .before .load-refusal .ensures ∙ sym (load-refusal-alone _ _ _ _)) _ (c .before .if1 .taken) (c .after-refusal .ensures)
+    refuses (s .args .self) (load (s .args .n) (s .args .numbers .now)) (s .pre) _
+    (c .before .before .load-refusal .ensures ∙ sym (load-refusal-alone _ _ _ _)) _ (c .before .if1 .taken) (c .refuse .ensures)
 
 -- what the passed checks tell
 loads : (c : tie.Else1) → Loads (c .before .before .args .n) (c .before .before .args .numbers .now)

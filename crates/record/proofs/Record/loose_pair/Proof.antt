@@ -9,7 +9,7 @@ use Rattle.ledger.specs.Refusal.{refusalOf}
 use Rattle.query.proofs.Search.{same-loose}
 use Rattle.record.specs.Fill.{at-rowsOf}
 use Rattle.record.specs.Record.{acceptedOf, valueOf}
-use Rattle.record.proofs.Outcome.{accepted, refused}
+use Rattle.record.proofs.Outcome.{accepted, refuses}
 use Rattle.record.proofs.Record.loose_pair.Statement.{statement}
 use Rattle.record.proofs.Record.loose_pair.Tie as tie
 
@@ -17,7 +17,7 @@ returns : tie.Need-returns
 unfolding refusalOf
 returns c =
     let s = c .before .before .before in
-    refused (s .args .t1) (loosePair (s .args .t)) (s .pre) _ (c .before .before .loose-pair-refusal .ensures) _ (c .before .if1 .taken) (c .after-refusal .ensures)
+    refuses (s .args .t1) (loosePair (s .args .t)) (s .pre) _ (c .before .before .loose-pair-refusal .ensures) _ (c .before .if1 .taken) (c .refuse .ensures)
 
 loose-pair-of-requires : tie.Need-loose-pair-of-requires
 loose-pair-of-requires c κs = c .before .before .before .before .before .before .pre .size

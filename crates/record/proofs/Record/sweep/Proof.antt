@@ -10,7 +10,7 @@ use Rattle.sweep.specs.Worked.{Ready, workAt}
 use Rattle.query.specs.declared.Answer.the-variants.{Swept}
 use Rattle.record.specs.Record.{acceptedOf, sweptOf, valueOf, workOf, workedOf}
 use Rattle.record.specs.declared.Record.{Record}
-use Rattle.record.proofs.Outcome.{accepted, at-work, kept-ready, refused}
+use Rattle.record.proofs.Outcome.{accepted, at-work, kept-ready, refuses}
 use Rattle.record.proofs.Record.sweep.Statement.{statement}
 use Rattle.record.proofs.Record.sweep.Tie as tie
 
@@ -20,7 +20,7 @@ sweep-refusal-requires c κs = (c .pre .size, c .pre .turns)
 returns : tie.Need-returns
 returns c =
     let s = c .before .before .before in
-    refused (s .args .t1) sweep (s .pre) _ (c .before .before .sweep-refusal .ensures) _ (c .before .if1 .taken) (c .after-refusal .ensures)
+    refuses (s .args .t1) sweep (s .pre) _ (c .before .before .sweep-refusal .ensures) _ (c .before .if1 .taken) (c .refuse .ensures)
 
 -- the rows of the record, unpacked
 module _ (c : tie.After-unpacked2) where
@@ -48,7 +48,7 @@ work-pairs-requires c κs =
     let s = start u in
     (s .pre .size, s .pre .turns, ready u)
 
-least : tie.Need-sub-t18
+least : tie.Need-sub-t16
 unfolding workOf
 least c =
     let u = c .before .before .before in

@@ -13,14 +13,14 @@ use Rattle.sweep.specs.Worked.{Ready, workAt}
 use Rattle.query.specs.declared.Answer.the-variants.{Turned}
 use Rattle.record.specs.Record.{acceptedOf, turnedOf, valueOf, workOf, workedOf}
 use Rattle.record.specs.declared.Record.{Record}
-use Rattle.record.proofs.Outcome.{accepted, at-work, kept-ready, refused}
+use Rattle.record.proofs.Outcome.{accepted, at-work, kept-ready, refuses}
 use Rattle.record.proofs.Record.turn.Statement.{statement}
 use Rattle.record.proofs.Record.turn.Tie as tie
 
 returns : tie.Need-returns
 returns c =
     let s = c .before .before .before in
-    refused (s .args .t1) (turn (s .args .p) (s .args .q)) (s .pre) _ (c .before .before .turn-refusal .ensures) _ (c .before .if1 .taken) (c .after-refusal .ensures)
+    refuses (s .args .t1) (turn (s .args .p) (s .args .q)) (s .pre) _ (c .before .before .turn-refusal .ensures) _ (c .before .if1 .taken) (c .refuse .ensures)
 
 -- what the passed checks tell
 turns : (c : tie.Else1) → (let s = c .before .before .args in Turns (s .t1 .n) (s .t1 .m) (s .p) (s .q))
