@@ -78,10 +78,10 @@ quotient (negsuc u) w = ap (λ n. negℤ (pos (n / w))) (sym (suc-add u (w / 2))
 pub rnd-fits : (u : ℤ) (w : ℕ) → natAbs u + w / 2 < 2 ^ 63 → SFits w64 (rnd u w)
 rnd-fits u w f = held (rnd u w) (rw rnd-size (omega (arith, div-le-self (natAbs u + w / 2) w)))
 
--- What `nearest` computes, of numbers as the machine reads them back from their bits
-module _ (u r : ℤ) (w : ℕ) (f : SFits w64 u) (e : r ≡ sign (toZ w64 (ofZ w64 u))) (fits : natAbs u + w / 2 < 2 ^ 63) where
-  pub product : toZ w64 (ofZ w64 r) *ℤ toZ w64 (w / 2) ≡ sign u *ℤ pos (w / 2)
-  product = rw (e, toZ-ofZ f, toZ-ofZ (sign-fits u), toZ-pos w64 {n = w / 2} (omega arith))
+-- What `nearest` computes, of numbers as the machine reads them back from their bits; h is the half that it adds
+module _ (u r : ℤ) (h w : ℕ) (f : SFits w64 u) (e : r ≡ sign (toZ w64 (ofZ w64 u))) (half : h ≡ w / 2) (fits : natAbs u + w / 2 < 2 ^ 63) where
+  pub product : toZ w64 (ofZ w64 r) *ℤ toZ w64 h ≡ sign u *ℤ pos (w / 2)
+  product = rw (half, e, toZ-ofZ f, toZ-ofZ (sign-fits u), toZ-pos w64 {n = w / 2} (omega arith))
 
-  pub total : toZ w64 (ofZ w64 u) +ℤ toZ w64 (ofZ w64 (toZ w64 (ofZ w64 r) *ℤ toZ w64 (w / 2))) ≡ away u (w / 2)
+  pub total : toZ w64 (ofZ w64 u) +ℤ toZ w64 (ofZ w64 (toZ w64 (ofZ w64 r) *ℤ toZ w64 h)) ≡ away u (w / 2)
   total = rw (product, toZ-ofZ (step-fits u (w / 2) (omega arith)), toZ-ofZ f) (moved u (w / 2))

@@ -11,10 +11,18 @@ fn sign_of(u: i64) -> i64
     2 * (u >> 63) + 1
 }
 
+// Half of w, cut to a whole number.
+fn half_of(w: u64) -> u64
+    requires { ⌜ 0 < w ⌝ }
+    ensures { λ r. ⌜ r ≡ w / 2 ⌝ }
+{
+    w / 2
+}
+
 // rnd(u/w). Half of w is added on u's side of zero, and the quotient is cut toward zero; u is never doubled.
 pub fn nearest(u: i64, w: u64) -> i64
     requires { ⌜ (0 < w) × (w < 2 ^ 63) × (natAbs u + w / 2 < 2 ^ 63) ⌝ }
     ensures { λ r. ⌜ r ≡ rnd u w ⌝ }
 {
-    (u + sign_of(u) * ((w / 2) as i64)) / (w as i64)
+    (u + sign_of(u) * (half_of(w) as i64)) / (w as i64)
 }
