@@ -9,4 +9,5 @@ pub mod Matrix
 pub mod Range
 pub mod Tests
 pub mod Tabulate
+pub mod Filled
 pub mod Word

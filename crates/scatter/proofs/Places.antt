@@ -16,12 +16,12 @@ use Rattle.limits.specs.Channels.{place-below, places}
 use Rattle.rounding.specs.Rounding.{rnd}
 use Rattle.rounding.specs.Nearest.{rnd-bound, rnd-zero}
 use Rattle.sums.specs.declared.Sums.{Sums}
+use Rattle.sums.specs.Ranges.{Bounded}
+use Rattle.integer.specs.Filled.{Filled, filled-skip, filled-all}
 use Rattle.scatter.specs.Table.{S, scatter, padded}
 use Rattle.scatter.specs.Entries.{padded-at, scatter-at, length-scatter, length-padded}
-use Rattle.sums.specs.Ranges.{Bounded}
 use Rattle.scatter.specs.Ranges.{Small}
 use Rattle.scatter.specs.Bounds.{S-small}
-use Rattle.sums.specs.Filled.{Filled, filled-skip, filled-all}
 
 abbrev pub zeros : List ℤ
 zeros = replicate 64 (pos 0)

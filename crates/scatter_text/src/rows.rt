@@ -12,19 +12,14 @@ fn row_from(number: usize, sums: &[i64; 64], at: usize) -> [i64; 11]
     requires { ⌜ (number ≤ 8) × (at ≤ 56) ⌝ }
     ensures { λ r. ⌜ r ≡ pos number ∷ (tabulate 8 (λ j. getD (now (sums .entry)) (at + j) (pos 0)) ++ (pos 0 ∷ pos 0 ∷ [])) ⌝ }
 {
-    [
-        number as i64,
-        sums[at],
-        sums[at + 1],
-        sums[at + 2],
-        sums[at + 3],
-        sums[at + 4],
-        sums[at + 5],
-        sums[at + 6],
-        sums[at + 7],
-        0,
-        0,
-    ]
+    let mut row = [0i64; 11];
+    row[0] = number as i64;
+    let mut j = 0;
+    while j < 8 {
+        row[j + 1] = sums[at + j];
+        j += 1;
+    }
+    row
 }
 
 fn row_of(n: usize, sums: &[i64; 64], i: usize) -> [i64; 11]

@@ -2,4 +2,3 @@ pub mod Samples
 pub mod Ranges
 pub mod Sums
 pub mod Bounds
-pub mod Filled
