@@ -24,7 +24,7 @@ put-field p q h = record { puts = put-then p q; bounded = omega (arith, p .answe
 -- A text at the front of the array is a line in it.
 printed : {w : List ℕ} {x : List ℕ} {r : ℕ} (t : List ℕ) → Put w 0 (replicate 256 0) x r → w ≡ t → Prints t (record { bytes = x; len = r })
 unfolding linePrinted
-printed t p e = record { is = rw (p .bytes, front-length p, e); short = p .within }
+printed t p e = record { is = rw (p .leaves, front-length p, e); short = p .within }
 
 pub bare-printed : {x y : List ℕ} {tag a r : ℕ} → Put (tag ∷ []) 0 (replicate 256 0) x a → Put (10 ∷ []) a x y r → Prints (line ((tag ∷ []) ∷ [])) (record { bytes = y; len = r })
 unfolding line further

@@ -23,4 +23,4 @@ module _ (refusal : ℕ) (numbers entry : List ℤ) where
 
     pub written-buffer : exit ≡ lent refusal numbers entry
     unfolding lent
-    written-buffer = rw (eq-eqb refusal 0 e) (p .bytes)
+    written-buffer = rw (eq-eqb refusal 0 e) (p .leaves)

@@ -31,7 +31,7 @@ module _ (f : Job → List ℕ) where
     put-whole exit r p =
         let e = front-length p in
         let test = le-leb (length (f j)) (length entry) (omega (arith, p .within, e)) in
-        record { answer = rw (test, e); buffer = rw test (p .bytes); short = short }
+        record { answer = rw (test, e); buffer = rw test (p .leaves); short = short }
 
   -- what a reading of a text tells
   pub replies-answered : (text entry exit : List ℕ) (a : Answer) (r : Reply) → jobOf text ≡ a → Answers f a entry exit r → Replies f text entry exit r
@@ -56,7 +56,7 @@ module _ (f : Job → List ℕ) where
         by-test : (b : Bool) → leb (length (f j)) (length entry) ≡ b → Written n ≡ cond b (Written (length (f j))) (Refused 12 0) → exit ≡ cond b (f j ++ drop (length (f j)) entry) entry → Put (f j) 0 entry exit n
         by-test true t e g =
             let q : n ≡ length (f j) = cc in
-            record { bytes = g; answer = q ∙ sym (zero-add _); within = rw q (leb-true _ _ t) }
+            record { leaves = g; answer = q ∙ sym (zero-add _); within = rw q (leb-true _ _ t) }
         by-test false t e g = let x : _≡_ {A = ℕ} 0 1 = cc in absurd (omega arith)
 
     refused-by : (a : Answer) (number line : ℕ) → 2048 ≤ length entry → Answers f a entry exit (Refused number line) → (exit ≡ entry) × (printedBy f a ≡ lineX number line)

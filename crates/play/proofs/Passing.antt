@@ -80,7 +80,7 @@ module _ (text entry : List ℕ) (t : Bool) (q : t ≡ leb (length (played text)
 
   pub all-written : t ≡ true → {exit : List ℕ} {r : ℕ} → Put (played text) 0 entry exit r → PlaysAll text entry exit (Written r)
   unfolding outputOf bufferOf fitted
-  all-written e p = record { answer = rw (← q, e, front-length p); buffer = rw (← q, e) (p .bytes) }
+  all-written e p = record { answer = rw (← q, e, front-length p); buffer = rw (← q, e) (p .leaves) }
 
   pub all-fits : t ≡ true → length (played text) ≤ length entry
   all-fits e = leb-true _ _ (sym q ∙ e)

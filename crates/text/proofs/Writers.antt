@@ -10,7 +10,7 @@ use Rattle.text.specs.Put.{Put}
 
 pub byte-put : (e : List ℕ) (at b : ℕ) → at + 1 ≤ length e → Put (b ∷ []) at e (set e at b) (at + 1)
 byte-put e at b h = record {
-  bytes = rw (set-split e at b (omega arith), drop-drop 1 at e, add-one);
+  leaves = rw (set-split e at b (omega arith), drop-drop 1 at e, add-one);
   answer = refl;
   within = h;
 }

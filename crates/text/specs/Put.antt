@@ -22,12 +22,12 @@ fitted text entry = cond (leb (length text) (length entry)) (text ++ drop (lengt
 
 -- At the place 0 the exit is text ++ drop (length text) entry.
 pub record Put {X : Type 0} (text : List X) (at : ℕ) (entry exit : List X) (r : ℕ) : Type 0 where
-  pub bytes : exit ≡ take at entry ++ (text ++ drop (length text) (drop at entry))
+  pub leaves : exit ≡ take at entry ++ (text ++ drop (length text) (drop at entry))
   pub answer : r ≡ at + length text
   pub within : r ≤ length entry
 
 pub put-nothing : {X : Type 0} (at : ℕ) (entry : List X) → at ≤ length entry → Put [] at entry entry at
-put-nothing at entry h = record { bytes = sym (take-append-drop at entry); answer = sym (add-zero at); within = h }
+put-nothing at entry h = record { leaves = sym (take-append-drop at entry); answer = sym (add-zero at); within = h }
 
 -- All that follows the first k.
 pub rest-all : {X : Type 0} (k : ℕ) (f : List X) → take (length f - k) (drop k f) ≡ drop k f
@@ -38,7 +38,7 @@ module _ {X : Type 0} {t e x : List X} {a r : ℕ} (p : Put t a e x r) where
   front = rw (length-append, length-take-le a e (let w = p .within in let v = p .answer in omega arith)) (sym (p .answer))
 
   split : x ≡ (take a e ++ t) ++ drop r e
-  split = p .bytes ∙ rw (drop-drop, append-assoc, p .answer)
+  split = p .leaves ∙ rw (drop-drop, append-assoc, p .answer)
 
   -- The bytes from the answer on are as they were.
   pub rest-stays : drop r x ≡ drop r e
@@ -53,7 +53,7 @@ module _ {X : Type 0} {t e x : List X} {a r : ℕ} (p : Put t a e x r) where
   -- A text that is written where the last one ended.
   pub put-then : {u y : List X} {s : ℕ} → Put u r x y s → Put (t ++ u) a e y s
   put-then {u} q = record {
-    bytes = q .bytes ∙ rw (written, rest-stays) (simp (drop-drop, length-append, append-assoc, add-assoc, p .answer));
+    leaves = q .leaves ∙ rw (written, rest-stays) (simp (drop-drop, length-append, append-assoc, add-assoc, p .answer));
     answer = q .answer ∙ rw (p .answer, length-append, add-assoc);
     within = rw same-size at (q .within);
   }
@@ -68,7 +68,7 @@ module _ {X : Type 0} {t e x : List X} {a r : ℕ} (p : Put t a e x r) where
   pub put-part : {u y : List X} {s : ℕ} → Put u 0 (take (length x - r) (drop r x)) y s
       → Put (t ++ u) a e (take r x ++ (y ++ drop (length x - r) (drop r x))) (r + s)
   put-part {u} {y} {s} q = put-then (record {
-    bytes = rw (past, append-nil, q .bytes, rest-all r x);
+    leaves = rw (past, append-nil, q .leaves, rest-all r x);
     answer = rw (q .answer, zero-add);
     within = omega (arith, q .within, part-size, same-size);
   })
@@ -79,7 +79,7 @@ front-length p = p .answer ∙ zero-add _
 
 -- Bytes or numbers that a loop writes one after the other: all of them, and one more.
 pub all-put : {X : Type 0} {t e x : List X} {at i : ℕ} → x ≡ paste e at t i → i ≡ length t → at + i ≤ length e → Put t at e x (at + i)
-all-put {t = t} {e} {x} {at} h i w = record { bytes = rw (h, i, take-length, append-assoc, drop-drop); answer = rw i; within = w }
+all-put {t = t} {e} {x} {at} h i w = record { leaves = rw (h, i, take-length, append-assoc, drop-drop); answer = rw i; within = w }
 
 pub one-more : {X : Type 0} {x : List X} (e : List X) (at : ℕ) (t : List X) (i : ℕ) (d : X) → x ≡ paste e at t i → i < length t → at + length t ≤ length e
     → set x (at + i) (getD t i d) ≡ paste e at t (i + 1)
