@@ -18,8 +18,10 @@ pub fn turn_axes_in_place(v: &mut [[i64; 8]; 8], n: usize, r: Rotation, p: usize
     while j < n {
         let x = v[p][j];
         let y = v[q][j];
-        v[p][j] = pair::turned(r, x, y);
-        v[q][j] = pair::turned(back, y, x);
+        let new_p = pair::turned(r, x, y);
+        let new_q = pair::turned(back, y, x);
+        v[p][j] = new_p;
+        v[q][j] = new_q;
         j += 1;
     }
 }

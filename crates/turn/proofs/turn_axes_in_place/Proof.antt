@@ -1,5 +1,5 @@
 -- `turn::turn_axes_in_place` meets its contract: at j the columns before it are turned.
-use mathlib.Core.Path.{_≡_, ap, _∙_}
+use mathlib.Core.Path.{_≡_, _∙_}
 use mathlib.Core.List.{List}
 use Prim.Native.Nat.{ℕ, _-_, _≤_, _<_}
 use native.Mathlib.Omega.{arith}
@@ -55,7 +55,7 @@ turned-requires-2 c κs =
     let s = l .before .before in
     let back = back-of _ _ (s .pre .3) (l .before .inverse .ensures) .turns in (
       back .positive,
-      rw (entry l h (s .args .p) (omega arith), entry l h (s .args .q) (omega arith))
+      rw (← entry l h (s .args .p) (omega arith), ← entry l h (s .args .q) (omega arith)) at
           (room (l .before .inverse .result) widest (at (v l h) (s .args .q) (l .loop .j)) (at (v l h) (s .args .p) (l .loop .j)) (s .pre .4 .small (s .args .q) (l .loop .j)) (s .pre .4 .small (s .args .p) (l .loop .j)) (back .first-pass)),
     )
 
@@ -71,10 +71,8 @@ loop-again c =
     let g : SFits w64 (y .result) = search needs in (
       omega arith,
       columns-more _ _ _ _ _ _ (l .loop .inv .1) (omega arith) (s .pre .0) (omega arith) _ _
-          (word f (rw (entry l h (s .args .p) (omega arith), entry l h (s .args .q) (omega arith)) at (x .ensures)))
-          (word g
-          ((rw (entry l h (s .args .p) (omega arith), entry l h (s .args .q) (omega arith)) at (y .ensures)) ∙
-          ap (λ t. first t (at (v l h) (s .args .q) (l .loop .j)) (at (v l h) (s .args .p) (l .loop .j))) (l .before .inverse .ensures))),
+          (word f (x .ensures ∙ (λ i. first (s .args .r) (entry l h (s .args .p) (omega arith) i) (entry l h (s .args .q) (omega arith) i))))
+          (word g (y .ensures ∙ (λ i. first (l .before .inverse .ensures i) (entry l h (s .args .q) (omega arith) i) (entry l h (s .args .p) (omega arith) i)))),
     )
 
 returns : tie.Need-returns Inv-loop μ-loop
@@ -101,11 +99,11 @@ turn-axes-in-place-spec =
     (λ c. search needs)
     (λ c. search needs)
     turned-requires
-    (λ c. search needs)
-    (λ c. search needs)
-    (λ c. search needs)
-    (λ c. search needs)
     turned-requires-2
+    (λ c. search needs)
+    (λ c. search needs)
+    (λ c. search needs)
+    (λ c. search needs)
     (λ c. search needs)
     (λ c. search needs)
     (λ c. search needs)
