@@ -46,14 +46,14 @@ const STORED: &[Stored] = &[
     from_file("crates/table", "stdout", "stdin", |text| {
         report::table_program(text).into_bytes()
     }),
-    by_rule("crates/turns", "stdout", || {
+    by_rule("crates/test_turns", "stdout", || {
         turn_vectors::turns().into_bytes()
     }),
-    by_rule("crates/scatter_vectors", "stdout", || {
+    by_rule("crates/test_tables", "stdout", || {
         scatter_vectors::scatter().into_bytes()
     }),
-    by_rule("crates/vectors", "data/jobs", jobs::container),
-    by_rule("crates/vectors", "stdout", jobs::outputs),
+    by_rule("crates/test_jobs", "data/jobs", jobs::container),
+    by_rule("crates/test_jobs", "stdout", jobs::outputs),
     by_rule("examples", "small.job", examples::small),
     from_file("examples", "small.report", "small.job", report_of),
     by_rule("examples", "field.job", examples::field),

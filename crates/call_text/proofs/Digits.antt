@@ -12,7 +12,7 @@ use lib.Dec.{eqb, leb, ltb, lit<}
 use lib.IntN.{ℤ}
 use lib.ListN.{length, drop, getD, drop-of-length-le}
 use lib.Seq.{drop-cons}
-use Rattle.rotation.specs.Rotation.{signed}
+use Rattle.turn.specs.Rotation.{signed}
 use Rattle.text.specs.Numeral.{leadingZero, valueFrom}
 use Rattle.text.specs.Range.{allWithin, both, is-within, within}
 use Rattle.call_text.specs.Numbers.{digitsFrom, numberOf, signedOf, positive, negative}

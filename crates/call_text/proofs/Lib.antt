@@ -1,3 +1,4 @@
+mod Printing
 pub mod Splitting
 pub mod Digits
 mod Lines

@@ -1,5 +1,5 @@
 // The number of a field.
-use rotation::pair::with_sign;
+use turn::pair::with_sign;
 ghost use mathlib.Core.Path.{_≡_};
 ghost use Prim.Native.Nat.{_≤_};
 ghost use lib.ListN.{length};

@@ -8,7 +8,7 @@ use Rattle.limits.specs.Limits.{toleranceLimit}
 use Rattle.job.specs.Reply.{printedOf}
 use Rattle.report.specs.Report.{reportOf}
 use Rattle.choice.specs.Cards as choosing
-use Rattle.rotation.specs.Cards as turning
+use Rattle.turn.specs.Cards as turning
 use Rattle.rounding.specs.Cards.{Card2, card2}
 use Rattle.rounding.specs.Rounding.{rnd}
 use Rattle.run.specs.Cards as running

@@ -25,12 +25,12 @@ use Rattle.record.specs.Accepted.{after-accepted, load-accepted, loose-pair-acc
 use Rattle.sums.specs.Samples.{Sample, z, sum, sumsOf}
 use Rattle.scatter.specs.OfSamples.{scatter-of-samples}
 use Rattle.scatter.specs.Table.{scatter, shift, entries}
-use Rattle.rotation.specs.InUse.{inUse-inside}
+use Rattle.turn.specs.InUse.{inUse-inside}
 use Rattle.run.specs.Run.{noPair, stop, runOf}
 use Rattle.run.specs.Running.{run-settled}
 use Rattle.run.specs.declared.Outcome.the-variants.{Settled}
-use Rattle.query.specs.Loose.{PairOrNone, loose-holds, looseOf}
-use Rattle.query.specs.declared.Answer.the-variants.{NoPair}
+use Rattle.record.specs.Loose.{PairOrNone, loose-holds, looseOf}
+use Rattle.record.specs.declared.query.Answer.the-variants.{NoPair}
 use Rattle.integer.specs.Matrix.{matrixOf}
 
 abbrev pub zeros : ℕ → List ℤ

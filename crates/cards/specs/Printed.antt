@@ -18,11 +18,11 @@ use Rattle.run.specs.Cards as running
 use Rattle.sums.specs.Samples.{samples, sampleAt, sumsOf, sumsAt, sum, products, z}
 use Rattle.scatter.specs.Table.{S, scatter, largest, smallest, shift, entries, padded, tableOf}
 use Rattle.text.specs.Decimal.{digits, digitsBy, number}
-use Rattle.job_line.specs.Range.{parametersInRange, sampleInRange}
-use Rattle.job_line.specs.Text.{numberOf, numbersOf, isTag, recordOf, lineOf}
-use Rattle.text_lines.specs.Line.{line, further, numberLine, wordLine}
-use Rattle.text_lines.specs.Lines.{lines}
-use Rattle.report_text.specs.Text.{outcomeWord}
+use Rattle.job.specs.Range.{parametersInRange, sampleInRange}
+use Rattle.job.specs.Text.{numberOf, numbersOf, isTag, recordOf, lineOf}
+use Rattle.text.specs.Line.{line, further, numberLine, wordLine}
+use Rattle.text.specs.Lines.{lines}
+use Rattle.report.specs.Text.{outcomeWord}
 
 -- `P 2 1 0`
 abbrev p-line : List ℕ

@@ -65,8 +65,8 @@ pub fn choose_turn(app: i64, aqq: i64, apq: i64) -> Choice
     let difference = aqq - app;
     let minus = (apq < 0) == (difference < 0);
     smallest_fit(
-        2 * signed::magnitude(apq),
-        signed::magnitude(difference),
+        2 * integer::magnitude(apq),
+        integer::magnitude(difference),
         minus,
     )
 }

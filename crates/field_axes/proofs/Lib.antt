@@ -1,3 +1,7 @@
 mod Answered
 mod Reporting
 mod Playing
+mod RunRefusals
+mod Following
+mod Within
+mod TableRefusals

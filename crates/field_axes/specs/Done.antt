@@ -10,8 +10,8 @@ use Rattle.report.specs.Report.{reportOf}
 use Rattle.field_axes.specs.Answer.{answered, lent}
 use Rattle.field_axes.specs.Calls.{lengthOrShort}
 use Rattle.field_axes.specs.Report.{lengthOrNumber, refusedLine}
-use Rattle.solution.specs.Solution.{solutionOf, solveRefusal}
-use Rattle.table_numbers.specs.Table.{tableNumbersOf, tableRefusal}
+use Rattle.field_axes.specs.Solution.{solutionOf, solveRefusal}
+use Rattle.field_axes.specs.Table.{tableNumbersOf, tableRefusal}
 
 pub record Solves (n : ℕ) (numbers : List ℤ) (limit t : ℕ) (entry exit : List ℤ) (r : ℤ) : Type 0 where
   pub answer : r ≡ answered (solveRefusal n numbers limit t (length entry)) (solutionOf n numbers limit t)

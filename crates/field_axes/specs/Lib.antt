@@ -2,3 +2,7 @@ pub mod Answer
 pub mod Report
 pub mod Calls
 pub mod Done
+pub mod Solution
+pub mod Solvable
+pub mod Table
+pub mod Readable

@@ -1,4 +1,7 @@
 // The functions of the static library, for Rust and C. bindings/ declares them; nothing checks those declarations against these.
+mod solve;
+mod table;
+
 use job::reply::Reply;
 use play::Output;
 ghost use mathlib.Core.Path.{_≡_};
@@ -24,11 +27,11 @@ pub extern "C" fn field_axes_solve(
 ) -> i64
     ensures { λ r. ⌜ Solves n (now (numbers .entry)) limit tolerance (now (out .entry)) (now (out .exit)) r ⌝ }
 {
-    let number = solution::solve_refusal(n, numbers, limit, tolerance, out.len());
+    let number = solve::solve_refusal(n, numbers, limit, tolerance, out.len());
     if number != 0 {
         return refused(number);
     }
-    solution::put_solution(n, numbers, limit, tolerance, out) as i64
+    solve::put_solution(n, numbers, limit, tolerance, out) as i64
 }
 
 // The table of samples, a dilution each and n counts each, sample after sample. Into `out`: the shift e, the n×n exact S_ij, and the n×n
@@ -42,11 +45,11 @@ pub extern "C" fn field_axes_table(
 ) -> i64
     ensures { λ r. ⌜ Tabulates n (now (dilutions .entry)) (now (counts .entry)) (now (out .entry)) (now (out .exit)) r ⌝ }
 {
-    let number = table_numbers::table_refusal(n, dilutions, counts, out.len());
+    let number = table::table_refusal(n, dilutions, counts, out.len());
     if number != 0 {
         return refused(number);
     }
-    table_numbers::put_table(n, dilutions, counts, out) as i64
+    table::put_table(n, dilutions, counts, out) as i64
 }
 
 // A job text to its report, document 01's `axes` as a function. Into `out`: the report. The answer is its length, or the refusal's number

@@ -11,8 +11,8 @@ use lib.Dec.{eqb, ltb, lit≤}
 use lib.ListN.{length, getD, drop, length-append, length-drop}
 use Rattle.text.specs.Parts.{split, before}
 use Rattle.text.specs.Range.{within, allWithin, both}
-use Rattle.job_line.specs.Range.{parametersInRange, sampleInRange}
-use Rattle.job_line.specs.Text.{numberOf, numbersOf, isTag, recordOf, lineOf}
+use Rattle.job.specs.Range.{parametersInRange, sampleInRange}
+use Rattle.job.specs.Text.{numberOf, numbersOf, isTag, recordOf, lineOf}
 use Rattle.job.specs.Job.{Job, Answer, refused, accepted, withSample, nextLine, nothing, ended, judged, after, begun, jobOfLines, jobOf}
 use Rattle.job.specs.Values.{inRange, Proper}
 

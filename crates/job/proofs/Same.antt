@@ -12,14 +12,14 @@ use lib.ListN.{length, getD, drop, set, replicate, length-drop, length-append, L
 use lib.Seq.{sets, sets-eq, slice, take-at}
 use Rattle.text.specs.Parts.{onto, split}
 use Rattle.text.specs.Range.{within, both, is-within}
-use Rattle.job_line.specs.Range.{parametersInRange, sampleInRange}
-use Rattle.job_line.specs.Scan.{lineAt, sampleWithin, parametersOf, parametersAt, endingOf, endingAt}
-use Rattle.job_line.specs.declared.sample.Line.{Line}
-use Rattle.job_line.specs.declared.sample.Extent.{Extent}
-use Rattle.job_line.specs.declared.sample.Extent.the-variants.{To, Malformed}
-use Rattle.job_line.specs.declared.first.Parameters.the-variants as First
-use Rattle.job_line.specs.declared.last.Ending.the-variants as Last
-use Rattle.job_line.proofs.Records.{lineIn, Reads, bad, good, Cons, split-cons, line-read}
+use Rattle.job.specs.Range.{parametersInRange, sampleInRange}
+use Rattle.job.specs.LineScan.{lineAt, sampleWithin, parametersOf, parametersAt, endingOf, endingAt}
+use Rattle.job.specs.declared.sample.Line.{Line}
+use Rattle.job.specs.declared.sample.Extent.{Extent}
+use Rattle.job.specs.declared.sample.Extent.the-variants.{To, Malformed}
+use Rattle.job.specs.declared.first.Parameters.the-variants as First
+use Rattle.job.specs.declared.last.Ending.the-variants as Last
+use Rattle.job.proofs.Records.{lineIn, Reads, bad, good, Cons, split-cons, line-read}
 use Rattle.job.specs.Job.{Job, Answer, refused, accepted, withSample, nextLine, nothing, ended, judged, after, begun, jobOfLines, jobOf}
 use Rattle.job.specs.Reading.{padded, inArrays, readingOf}
 use Rattle.job.specs.Scan.{newJob, refusedReading, finishedBy, finishedAt, kept, sampleOf, samplesAt, readingBy, readingAt}

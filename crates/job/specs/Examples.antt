@@ -5,8 +5,8 @@ use mathlib.Core.List.{List, [], _∷_, _++_}
 use Rattle.text.specs.Numeral.{leadingZero, valueFrom}
 use Rattle.text.specs.Parts.{onto, split, before}
 use Rattle.text.specs.Range.{within, allWithin}
-use Rattle.job_line.specs.Range.{parametersInRange, sampleInRange}
-use Rattle.job_line.specs.Text.{numberOf, numbersOf, isTag, recordOf, lineOf}
+use Rattle.job.specs.Range.{parametersInRange, sampleInRange}
+use Rattle.job.specs.Text.{numberOf, numbersOf, isTag, recordOf, lineOf}
 use Rattle.job.specs.Job.{refused, accepted, withSample, nextLine, nothing, ended, judged, after, begun, jobOfLines, jobOf}
 
 -- `P 2 1 0`, with tabs for blanks here and below

@@ -6,8 +6,8 @@ use mathlib.Core.Option.{Option, none, some}
 use lib.Dec.{ltb, eqb}
 use lib.ListN.{length, getD, drop}
 use Rattle.text.specs.Parts.{split}
-use Rattle.job_line.specs.Range.{parametersInRange, sampleInRange}
-use Rattle.job_line.specs.Text.{lineOf}
+use Rattle.job.specs.Range.{parametersInRange, sampleInRange}
+use Rattle.job.specs.Text.{lineOf}
 
 -- Sample after sample: a dilution each, and n counts each.
 pub record Job : Type 0 where

@@ -5,3 +5,7 @@ pub mod Scan
 pub mod Examples
 pub mod Reply
 pub mod Replying
+pub mod FieldScan
+pub mod Range
+pub mod Text
+pub mod LineScan

@@ -6,7 +6,7 @@ use mathlib.Core.List.{List}
 use lib.Dec.{leb}
 use lib.ListN.{length}
 use Rattle.text.specs.Put.{fitted}
-use Rattle.text_lines.specs.Line.{lineX}
+use Rattle.text.specs.Line.{lineX}
 use Rattle.job.specs.Job.{Answer, Job, accepted, jobOf, refused}
 use Rattle.job.specs.declared.reply.Reply.{Reply}
 use Rattle.job.specs.declared.reply.Reply.the-variants.{Refused, Written}

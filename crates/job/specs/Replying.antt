@@ -9,7 +9,7 @@ use borrow.Author.Tests.{le-leb, leb-false, leb-true, lt-leb}
 use lib.Dec.{leb}
 use lib.ListN.{drop, length}
 use Rattle.text.specs.Put.{Put, fitted, front-length}
-use Rattle.text_lines.specs.Line.{lineX}
+use Rattle.text.specs.Line.{lineX}
 use Rattle.job.specs.Job.{Answer, Job, accepted, jobOf, refused}
 use Rattle.job.specs.Reading.{readingOf}
 use Rattle.job.specs.Reply.{Answers, Replies, Short, bufferBy, bufferOf, printedBy, printedOf, replyBy, replyOf}

@@ -5,14 +5,14 @@ use mathlib.Core.List.{List}
 use lib.Dec.{ltb}
 use lib.ListN.{getD, set, replicate}
 use lib.Seq.{slice, sets}
-use Rattle.job_line.specs.Scan.{endingAt, lineAt, parametersAt, sampleWithin}
-use Rattle.job_line.specs.declared.sample.Extent.{Extent}
-use Rattle.job_line.specs.declared.sample.Extent.the-variants.{To, Malformed}
-use Rattle.job_line.specs.declared.first.Parameters.{Parameters}
-use Rattle.job_line.specs.declared.first.Parameters.the-variants as First
-use Rattle.job_line.specs.declared.first.Parameters.the-variants.{Read}
-use Rattle.job_line.specs.declared.last.Ending.{Ending}
-use Rattle.job_line.specs.declared.last.Ending.the-variants as Last
+use Rattle.job.specs.LineScan.{endingAt, lineAt, parametersAt, sampleWithin}
+use Rattle.job.specs.declared.sample.Extent.{Extent}
+use Rattle.job.specs.declared.sample.Extent.the-variants.{To, Malformed}
+use Rattle.job.specs.declared.first.Parameters.{Parameters}
+use Rattle.job.specs.declared.first.Parameters.the-variants as First
+use Rattle.job.specs.declared.first.Parameters.the-variants.{Read}
+use Rattle.job.specs.declared.last.Ending.{Ending}
+use Rattle.job.specs.declared.last.Ending.the-variants as Last
 use Rattle.job.specs.declared.Job.{Job}
 use Rattle.job.specs.declared.Reading.{Reading}
 use Rattle.job.specs.declared.Outcome.the-variants as Whole

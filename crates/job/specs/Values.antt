@@ -4,7 +4,7 @@ use mathlib.Core.Path.{_≡_}
 use mathlib.Core.Bool.{Bool, true, _&&_}
 use lib.ListN.{length}
 use Rattle.text.specs.Range.{within, allWithin}
-use Rattle.job_line.specs.Range.{parametersInRange}
+use Rattle.job.specs.Range.{parametersInRange}
 use Rattle.job.specs.Job.{Job}
 
 unfoldable pub inRange : Job → Bool

@@ -1,9 +1,14 @@
 // The reader of job text: document 01, "Job text and report", and its refusals 1 to 4.
+pub mod field;
+pub mod first;
+pub mod last;
+pub mod ranges;
 pub mod reply;
+pub mod sample;
 mod samples;
 
-use job_line::first::Parameters;
-use job_line::first::first_line;
+use crate::first::Parameters;
+use crate::first::first_line;
 use samples::samples;
 ghost use mathlib.Core.Path.{_≡_};
 ghost use Rattle.job.specs.Job.{jobOf};

@@ -19,7 +19,7 @@ use Rattle.sums.specs.Bounds.{readings-bounded}
 use Rattle.scatter.specs.Bounds.{shift-bound}
 use Rattle.sums.specs.Ranges.{Readings}
 use Rattle.scatter.specs.Table.{tableOf}
-use Rattle.job_line.specs.Range.{parametersInRange}
+use Rattle.job.specs.Range.{parametersInRange}
 use Rattle.job_table.specs.Held.{Held, jobIn, sumsFor, tableFor}
 
 module _ (j : Job) (p : Proper j) where

@@ -1,4 +1,7 @@
 // The table of a job: S, e and the entries of its samples.
+pub mod lines;
+mod rows;
+
 use job::Job;
 use scatter::table::Table;
 ghost use mathlib.Core.Path.{_≡_};

@@ -4,9 +4,9 @@ use mathlib.Core.Bool.{cond}
 use mathlib.Core.List.{List, [], _∷_}
 use lib.Dec.{eqb}
 use lib.IntN.{ℤ, pos, _*ℤ_}
-use Rattle.rotation.specs.Exact.{exact}
-use Rattle.rotation.specs.Rotation.{rotationOf}
-use Rattle.rotation.specs.Turn.{turned, turnedAxes}
+use Rattle.turn.specs.Exact.{exact}
+use Rattle.turn.specs.Rotation.{rotationOf}
+use Rattle.turn.specs.Turn.{turned, turnedAxes}
 use Rattle.limits.specs.Limits.{units, whole}
 use Rattle.choice.specs.Choice.{choose}
 use Rattle.choice.specs.declared.Choice.{Choice}

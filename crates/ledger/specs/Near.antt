@@ -9,10 +9,10 @@ use Rattle.integer.specs.Laws.{*ℤ-+ℤ}
 use Rattle.integer.specs.Ring.{ring, reading}
 use Rattle.integer.specs.Square.{sq-pos}
 use Rattle.integer.specs.Matrix.{Matrix, Symmetric, product, product-difference, conjugate, conjugate-product, conjugate-difference, squares, squares-cong, squares-*, squares-+}
-use Rattle.rotation.specs.Error.{matrixError, axesError, matrix-error, axes-error}
-use Rattle.rotation.specs.Exact.{Whole, exact, exact-squares, conjugate-squares}
-use Rattle.rotation.specs.Turn.{turned, turnedAxes}
-use Rattle.rotation.specs.declared.pair.Rotation.{Rotation}
+use Rattle.turn.specs.Error.{matrixError, axesError, matrix-error, axes-error}
+use Rattle.turn.specs.Exact.{Whole, exact, exact-squares, conjugate-squares}
+use Rattle.turn.specs.Turn.{turned, turnedAxes}
+use Rattle.turn.specs.declared.pair.Rotation.{Rotation}
 use Rattle.limits.specs.Limits.{units, whole}
 
 -- X = D² × B − 1024 × P A Pᵀ

@@ -7,11 +7,11 @@ use lib.IntN.{pos}
 use Rattle.integer.specs.Square.{sq}
 use Rattle.integer.specs.Sum.{sumℕ}
 use Rattle.integer.specs.Matrix.{diagonal}
-use Rattle.rotation.specs.Exact.{Whole, rotationOf-whole, exact-keeps-orthogonal, exact-dot-squares}
-use Rattle.rotation.specs.Norm.{turned-squares, axes-column}
-use Rattle.rotation.specs.Rotation.{rotationOf}
-use Rattle.rotation.specs.Symmetry.{turned-symmetric}
-use Rattle.rotation.specs.declared.pair.Rotation.{Rotation}
+use Rattle.turn.specs.Exact.{Whole, rotationOf-whole, exact-keeps-orthogonal, exact-dot-squares}
+use Rattle.turn.specs.Norm.{turned-squares, axes-column}
+use Rattle.turn.specs.Rotation.{rotationOf}
+use Rattle.turn.specs.Symmetry.{turned-symmetric}
+use Rattle.turn.specs.declared.pair.Rotation.{Rotation}
 use Rattle.limits.specs.Limits.{turnLimit}
 use Rattle.choice.specs.Choice.{choose}
 use Rattle.choice.specs.declared.Choice.{Choice}

@@ -1,3 +1,4 @@
 mod Stepping
 mod Whole
 mod Passing
+mod Playing

@@ -10,13 +10,13 @@ use lib.ListN.{length, take, drop, drop-of-length-le}
 use Rattle.text.specs.Parts.{split}
 use Rattle.ledger.specs.Call.{Call}
 use Rattle.record.specs.declared.Record.{Record}
-use Rattle.answer_text.specs.Answers.{answerLine, linePrinted, shown}
-use Rattle.answer_text.specs.declared.Played.{Played}
-use Rattle.answer_text.specs.declared.Printed.{Printed}
+use Rattle.call_text.specs.Answers.{answerLine, linePrinted, shown}
+use Rattle.call_text.specs.declared.answer.Played.{Played}
+use Rattle.call_text.specs.declared.answer.Printed.{Printed}
 use Rattle.call_text.specs.Calls.{callOf}
 use Rattle.call_text.specs.Parts.{front}
 use Rattle.call_text.proofs.Splitting.{partsAfter, parts-end, parts-more, split-front, take-front}
-use Rattle.played.specs.Played.{playedBy}
+use Rattle.play.specs.Played.{playedBy}
 use Rattle.play.specs.Steps.{onward, stepped, stopped}
 use Rattle.play.specs.Text.{unknownLine}
 

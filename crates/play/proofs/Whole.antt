@@ -13,7 +13,7 @@ use Rattle.text.specs.Parts.{split}
 use Rattle.ledger.specs.Call.{Call}
 use Rattle.record.specs.Kept.{Kept}
 use Rattle.record.specs.declared.Record.{Record}
-use Rattle.answer_text.specs.Answers.{linePrinted}
+use Rattle.call_text.specs.Answers.{linePrinted}
 use Rattle.call_text.specs.Calls.{callOf}
 use Rattle.call_text.specs.Parts.{front}
 use Rattle.call_text.proofs.Splitting.{partsAfter, parts-end, parts-more, split-front}

@@ -8,10 +8,10 @@ use Rattle.text.specs.Range.{allWithin, within}
 use Rattle.ledger.specs.Refusal.{refusalOf}
 use Rattle.record.specs.Record.{afterOf, answerOf, counted, fresh, refusedOf}
 use Rattle.text.specs.Decimal.{digits, digitsBy}
-use Rattle.answer_text.specs.Answers.{answerLine, rowOf, shown}
+use Rattle.call_text.specs.Answers.{answerLine, rowOf, shown}
 use Rattle.call_text.specs.Calls.{callBy, callOf, callOfFields, loadOf, oneOf, sweepOf, turnOf, withNumbers}
 use Rattle.call_text.specs.Numbers.{digitsFrom, negative, numberOf, numbersOf, positive, signedOf}
-use Rattle.text_lines.specs.Line.{further, line}
+use Rattle.text.specs.Line.{further, line}
 use Rattle.play.specs.Text.{answered, played, playedFrom, unknownLine}
 
 -- `W`, with a line feed

@@ -2,3 +2,4 @@ pub mod Text
 pub mod Buffer
 pub mod Steps
 pub mod Examples
+pub mod Played

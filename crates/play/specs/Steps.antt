@@ -11,7 +11,7 @@ use Rattle.ledger.specs.Call.{Call}
 use Rattle.record.specs.Kept.{Kept}
 use Rattle.record.specs.Record.{afterOf, fresh}
 use Rattle.record.specs.declared.Record.{Record}
-use Rattle.answer_text.specs.Answers.{answerLine, linePrinted}
+use Rattle.call_text.specs.Answers.{answerLine, linePrinted}
 use Rattle.call_text.specs.Calls.{callOf}
 use Rattle.play.specs.Text.{played, playedFrom, unknownLine}
 use Rattle.play.specs.declared.Stepped.{Stepped}

@@ -10,9 +10,9 @@ use Rattle.ledger.specs.Call.{Call}
 use Rattle.record.specs.Record.{afterOf, fresh}
 use Rattle.record.specs.declared.Record.{Record}
 use Rattle.text.specs.Decimal.{digits}
-use Rattle.answer_text.specs.Answers.{answerLine}
+use Rattle.call_text.specs.Answers.{answerLine}
 use Rattle.call_text.specs.Calls.{callOf}
-use Rattle.text_lines.specs.Line.{line}
+use Rattle.text.specs.Line.{line}
 
 -- 'At the first line that is no such call it prints `?` and that line's number'
 unfoldable pub unknownLine : ℕ → List ℕ

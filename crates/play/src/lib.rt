@@ -1,17 +1,18 @@
 // Calls read from text, played on a record, and answered by text.
+mod line;
 mod passes;
 
-use answer_text::Printed;
-use answer_text::answer_line;
-use answer_text::nothing;
-use answer_text::one_number;
+use call_text::answer::Printed;
+use call_text::answer::answer_line;
+use call_text::answer::nothing;
+use call_text::answer::one_number;
 use call_text::find::find;
 use call_text::line::line_of;
 use passes::fits;
 use passes::put_played;
-use played::play_line;
+use line::play_line;
 use record::Record;
-ghost use Rattle.answer_text.specs.Answers.{Prints};
+ghost use Rattle.call_text.specs.Answers.{Prints};
 ghost use Rattle.play.specs.Buffer.{PlaysAll};
 ghost use Rattle.play.specs.Steps.{Reached, Steps};
 ghost use Rattle.play.specs.Text.{unknownLine};

@@ -9,11 +9,11 @@ use lib.ListN.{getD, length-set, replicate, set}
 use lib.Seq.{ext-getD, getD-set-other, getD-set-same}
 use Rattle.integer.specs.Matrix.{Matrix}
 use Rattle.integer.specs.Tabulate.{getD-tabulate, length-tabulate, tabulate}
-use Rattle.rotation.specs.Eight.{at-eight}
-use Rattle.rotation.specs.Stored.{stored, stored-column, stored-here, stored-row}
-use Rattle.rotation.specs.InUse.{inUse}
-use Rattle.rotation.specs.Turn.{at, square}
-use Rattle.load.proofs.Filled.{all, filledTo, one, row}
+use Rattle.turn.specs.Eight.{at-eight}
+use Rattle.turn.specs.Stored.{stored, stored-column, stored-here, stored-row}
+use Rattle.turn.specs.InUse.{inUse}
+use Rattle.turn.specs.Turn.{at, square}
+use Rattle.record.proofs.Filled.{all, filledTo, one, row}
 use Rattle.record.specs.Flat.{flatOf}
 
 pub flat-cong : (f g : Matrix) → ((i j : ℕ) → i < 8 → j < 8 → f i j ≡ g i j) → flatOf f ≡ flatOf g

@@ -1,3 +1,7 @@
+mod Axes
+mod Checks
+pub mod Filled
+pub mod Search
 pub mod FlatFilled
 mod Handed
 mod LentCall
@@ -5,3 +9,5 @@ mod LentContract
 pub mod Outcome
 mod Parameters
 mod Steps
+pub mod Sweeping
+mod Worked

@@ -8,11 +8,11 @@ use lib.IntN.{ℤ}
 use borrow.Author.Tests.{eq-eqb, ne-eqb}
 use Rattle.ledger.specs.Call.{Call}
 use Rattle.ledger.specs.Refusal.{refusalOf}
-use Rattle.rotation.specs.Size.{Small}
-use Rattle.sweep.specs.Turning.{matrix-small}
-use Rattle.sweep.specs.Worked.{Ready, workAt}
-use Rattle.query.specs.declared.Answer.{Answer}
-use Rattle.query.specs.declared.Answer.the-variants.{Refused}
+use Rattle.turn.specs.Size.{Small}
+use Rattle.record.specs.Turning.{matrix-small}
+use Rattle.record.specs.Worked.{Ready, workAt}
+use Rattle.record.specs.declared.query.Answer.{Answer}
+use Rattle.record.specs.declared.query.Answer.the-variants.{Refused}
 use Rattle.record.specs.After.{after-kept}
 use Rattle.record.specs.Done.{Done}
 use Rattle.record.specs.Flat.{rowsOf}

@@ -1,8 +1,8 @@
 -- What the walk of a call on a lent record needs of `Step` and `AxisStep`, the structs that the calls by value return.
 use denote.Struct.Laws as LL
 use denote.Enum.Laws as EL
-use Rattle.query.proofs.Answer as Answer
-use Rattle.query.proofs.Answer.Laws as Answer′
+use Rattle.record.proofs.query.Answer as Answer
+use Rattle.record.proofs.query.Answer.Laws as Answer′
 use Rattle.record.proofs.AxisAnswer as AxisAnswer
 use Rattle.record.proofs.AxisAnswer.Laws as AxisAnswer′
 use Rattle.record.proofs.AxisStep as AxisStep

@@ -19,11 +19,11 @@ use Rattle.ledger.specs.Cyclic.{cyclic-length, cyclic-pairs}
 use Rattle.limits.specs.Limits.{turnLimit}
 use Rattle.ledger.specs.Pairs.{Pair, cyclic, rowsFrom}
 use Rattle.ledger.specs.Refusal.{refusalOf}
-use Rattle.rotation.specs.Turn.{at}
-use Rattle.sweep.specs.Kept.{KeptWork}
-use Rattle.rotation.specs.InUse.{inUse, Use, inside, outside, use-of, at-square, inUse-inside, inUse-outside}
-use Rattle.sweep.specs.Turning.{work-keeps, work-grows, works-keep, works-grow}
-use Rattle.sweep.specs.Work.{Work, workPair, workPairs}
+use Rattle.turn.specs.Turn.{at}
+use Rattle.record.specs.KeptWork.{KeptWork}
+use Rattle.turn.specs.InUse.{inUse, Use, inside, outside, use-of, at-square, inUse-inside, inUse-outside}
+use Rattle.record.specs.Turning.{work-keeps, work-grows, works-keep, works-grow}
+use Rattle.record.specs.Work.{Work, workPair, workPairs}
 use Rattle.record.specs.Flat.{entriesOf, flatOf, kept, rowsOf}
 use Rattle.record.specs.Kept.{Kept}
 use Rattle.record.specs.Loading.{at-flat, load-kept}

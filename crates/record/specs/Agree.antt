@@ -15,13 +15,13 @@ use Rattle.ledger.specs.Ledger as L
 use Rattle.ledger.specs.Ledger.{Ledger, State, empty, loaded, accepted, ledgerStep, sizeOf, turnsOf, take, turnPair, turnPairs}
 use Rattle.ledger.specs.Pairs.{Pair, cyclic}
 use Rattle.ledger.specs.Refusal.{refusalOf}
-use Rattle.rotation.specs.Congruence.{choose-same, turned-same, turnedAxes-same}
-use Rattle.rotation.specs.Rotation.{rotationOf}
-use Rattle.rotation.specs.Turn.{at, turnMatrix, turnAxes}
-use Rattle.sweep.specs.Kept.{KeptWork}
-use Rattle.rotation.specs.InUse.{at-array, inUse-inside}
-use Rattle.sweep.specs.Turning.{work-keeps}
-use Rattle.sweep.specs.Work.{Work, chosen, workBy, workPair, workPairs}
+use Rattle.turn.specs.Congruence.{choose-same, turned-same, turnedAxes-same}
+use Rattle.turn.specs.Rotation.{rotationOf}
+use Rattle.turn.specs.Turn.{at, turnMatrix, turnAxes}
+use Rattle.record.specs.KeptWork.{KeptWork}
+use Rattle.turn.specs.InUse.{at-array, inUse-inside}
+use Rattle.record.specs.Turning.{work-keeps}
+use Rattle.record.specs.Work.{Work, chosen, workBy, workPair, workPairs}
 use Rattle.choice.specs.declared.Choice.{Choice}
 use Rattle.choice.specs.declared.Choice.the-variants.{NoTurn, Turn}
 use Rattle.record.specs.Fill.{at-rowsOf, kept-flatOf}

@@ -16,10 +16,10 @@ use Rattle.ledger.specs.Accepted.{axis-taken}
 use Rattle.ledger.specs.Axis.{errorOf}
 use Rattle.ledger.specs.Call.{axis}
 use Rattle.ledger.specs.Refusal.{refusalOf}
-use Rattle.rotation.specs.Eight.{front, getD-eight, length-eight}
-use Rattle.sweep.specs.Turning.{matrix-small}
-use Rattle.query.specs.declared.Answer.{Answer}
-use Rattle.query.specs.declared.Answer.the-variants.{Loaded, Turned, Swept, Pair, NoPair, Axis, Refused}
+use Rattle.turn.specs.Eight.{front, getD-eight, length-eight}
+use Rattle.record.specs.Turning.{matrix-small}
+use Rattle.record.specs.declared.query.Answer.{Answer}
+use Rattle.record.specs.declared.query.Answer.the-variants.{Loaded, Turned, Swept, Pair, NoPair, Axis, Refused}
 use Rattle.choice.specs.Widest.{widest}
 use Rattle.record.specs.Fill.{at-rowsOf}
 use Rattle.record.specs.Flat.{entriesOf, kept}

@@ -11,7 +11,7 @@ use Rattle.integer.specs.Sum.{sumℕ}
 use Rattle.ledger.specs.Call.{Call, axis}
 use Rattle.ledger.specs.Ledger.{Ledger, State, empty, loaded, ledger}
 use Rattle.limits.specs.Limits.{units, whole}
-use Rattle.query.specs.declared.Answer.the-variants.{Axis}
+use Rattle.record.specs.declared.query.Answer.the-variants.{Axis}
 use Rattle.record.specs.Flat.{kept}
 use Rattle.record.specs.Record.{after, answerOf}
 use Rattle.record.specs.declared.Record.{Record}

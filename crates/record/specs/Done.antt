@@ -2,7 +2,7 @@
 use mathlib.Core.Path.{_≡_}
 use Prim.Native.Nat.{ℕ}
 use Rattle.ledger.specs.Call.{Call, axis}
-use Rattle.query.specs.declared.Answer.{Answer}
+use Rattle.record.specs.declared.query.Answer.{Answer}
 use Rattle.record.specs.Kept.{Kept}
 use Rattle.record.specs.Record.{afterOf, answerOf, axisOf, fresh}
 use Rattle.record.specs.declared.AxisAnswer.{AxisAnswer}

@@ -5,9 +5,9 @@ use Prim.Native.Nat.{ℕ, _+_, _*_, _/_, _%_, _<_}
 use native.Mathlib.Omega.{arith}
 use lib.IntN.{ℤ, pos}
 use Rattle.integer.specs.Tabulate.{getD-tabulate}
-use Rattle.rotation.specs.Eight.{at-eight, shaped-square}
-use Rattle.rotation.specs.Shape.{Shaped}
-use Rattle.rotation.specs.Turn.{at}
+use Rattle.turn.specs.Eight.{at-eight, shaped-square}
+use Rattle.turn.specs.Shape.{Shaped}
+use Rattle.turn.specs.Turn.{at}
 use Rattle.record.specs.Flat.{kept, entriesOf, rowsOf, flatOf}
 
 pub kept-flatOf : (f : ℕ → ℕ → ℤ) (i j : ℕ) → i < 8 → j < 8 → kept (flatOf f) i j ≡ f i j

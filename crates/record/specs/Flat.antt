@@ -5,7 +5,7 @@ use lib.IntN.{ℤ, pos}
 use lib.ListN.{getD}
 use Rattle.integer.specs.Matrix.{Matrix}
 use Rattle.integer.specs.Tabulate.{tabulate}
-use Rattle.rotation.specs.Turn.{eight}
+use Rattle.turn.specs.Turn.{eight}
 
 -- the entry in row i and column j
 unfoldable pub kept : List ℤ → Matrix

@@ -2,7 +2,7 @@
 use mathlib.Core.Logic.{_≢_}
 use Prim.Native.Nat.{_≤_}
 use Rattle.limits.specs.Limits.{turnLimit}
-use Rattle.sweep.specs.Kept.{KeptWork}
+use Rattle.record.specs.KeptWork.{KeptWork}
 use Rattle.record.specs.Record.{workOf}
 use Rattle.record.specs.declared.Record.{Record}
 

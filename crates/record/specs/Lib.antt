@@ -1,3 +1,6 @@
+pub mod Blank
+pub mod Among
+pub mod Loose
 pub mod Flat
 pub mod Fill
 pub mod Record
@@ -10,3 +13,7 @@ pub mod After
 pub mod Agree
 pub mod Demand3
 pub mod Demand3proof
+pub mod Work
+pub mod KeptWork
+pub mod Turning
+pub mod Worked

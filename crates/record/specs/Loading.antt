@@ -16,8 +16,8 @@ use Rattle.ledger.specs.Loaded.{load-size}
 use Rattle.limits.specs.Limits.{entryLimit, units, whole}
 use Rattle.ledger.specs.Refusal.{refusalOf, within}
 use Rattle.ledger.specs.Sound.{matrixBound, axesBound}
-use Rattle.rotation.specs.Turn.{at}
-use Rattle.rotation.specs.InUse.{inUse, Use, inside, outside, use-of, at-square, inUse-inside, inUse-outside, inUse-symmetric}
+use Rattle.turn.specs.Turn.{at}
+use Rattle.turn.specs.InUse.{inUse, Use, inside, outside, use-of, at-square, inUse-inside, inUse-outside, inUse-symmetric}
 use Rattle.integer.specs.Matrix.{Matrix, diagonal, diagonal-squares, squares, squares-cong, matrixOf}
 use Rattle.record.specs.Fill.{kept-flatOf}
 use Rattle.record.specs.Flat.{kept, entriesOf, rowsOf, flatOf}

@@ -10,12 +10,12 @@ use Rattle.ledger.specs.Call.{Call, load, turn, sweep, loosePair, axis}
 use Rattle.limits.specs.Limits.{units, whole}
 use Rattle.ledger.specs.Pairs.{cyclic}
 use Rattle.ledger.specs.Refusal.{refusalOf}
-use Rattle.rotation.specs.InUse.{inUse}
-use Rattle.rotation.specs.Turn.{at}
-use Rattle.sweep.specs.Work.{Work, chosen, isTurn, workPair, workPairs}
-use Rattle.query.specs.Loose.{looseOf}
-use Rattle.query.specs.declared.Answer.{Answer}
-use Rattle.query.specs.declared.Answer.the-variants.{Loaded, Turned, Swept, Axis, Refused}
+use Rattle.turn.specs.InUse.{inUse}
+use Rattle.turn.specs.Turn.{at}
+use Rattle.record.specs.Work.{Work, chosen, isTurn, workPair, workPairs}
+use Rattle.record.specs.Loose.{looseOf}
+use Rattle.record.specs.declared.query.Answer.{Answer}
+use Rattle.record.specs.declared.query.Answer.the-variants.{Loaded, Turned, Swept, Axis, Refused}
 use Rattle.integer.specs.Matrix.{diagonal, matrixOf}
 use Rattle.record.specs.Flat.{kept, entriesOf, rowsOf, flatOf}
 use Rattle.record.specs.declared.Record.{Record}

@@ -1,14 +1,17 @@
 // The record and its calls: one matrix with its axes, the turns made of it, and the count of refused calls.
 ghost use Rattle.ledger.specs.Call.{axis, load, loosePair, sweep, turn};
-ghost use Rattle.query.specs.declared.Answer.the-variants.{Refused};
-ghost use Rattle.sweep.specs.Worked.{workAt};
+ghost use Rattle.record.specs.declared.query.Answer.the-variants.{Refused};
+ghost use Rattle.record.specs.Worked.{workAt};
 ghost use Rattle.record.specs.Done.{AxisDone, Done, Fresh};
 ghost use Rattle.record.specs.Kept.{Kept};
 ghost use Rattle.record.specs.Record.{counted, refusedOf, workedOf};
 ghost use mathlib.Core.Path.{_≡_};
 
 pub mod lent;
+pub mod load;
+pub mod query;
 mod rows;
+pub mod sweep;
 
 pub use query::Answer;
 

@@ -2,7 +2,7 @@
 ghost use mathlib.Core.Path.{_≡_};
 ghost use Prim.Native.Nat.{_<_};
 ghost use Rattle.record.specs.Flat.{flatOf, rowsOf, entriesOf};
-ghost use Rattle.rotation.specs.Turn.{at};
+ghost use Rattle.turn.specs.Turn.{at};
 
 pub fn row(a: &[i64; 64], i: usize) -> [i64; 8]
     requires { ⌜ i < 8 ⌝ }

@@ -1,3 +1,4 @@
 mod Bounds
 mod Same
 pub mod Certificate
+mod Written

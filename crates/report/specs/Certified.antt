@@ -14,7 +14,7 @@ use Rattle.limits.specs.Limits.{units}
 use Rattle.record.specs.Record.{axisOf}
 use Rattle.run.specs.Calls.{callsOf}
 use Rattle.integer.specs.Matrix.{product, matrixOf}
-use Rattle.text_lines.specs.Line.{numberLine}
+use Rattle.text.specs.Line.{numberLine}
 use Rattle.report.specs.Report.{lineA, runFor}
 
 -- the numbers of the job's table that its run loads

@@ -9,10 +9,10 @@ use Rattle.ledger.specs.Call.{axis}
 use Rattle.record.specs.AxisNumbers.{axisValues}
 use Rattle.record.specs.Record.{answerOf, axisOf}
 use Rattle.record.specs.declared.Record.{Record}
-use Rattle.report_text.specs.Text.{outcomeWord}
+use Rattle.report.specs.Text.{outcomeWord}
 use Rattle.run.specs.Run.{runOf, Ran}
-use Rattle.text_lines.specs.Line.{numberLine, wordLine}
-use Rattle.text_lines.specs.Lines.{lines}
+use Rattle.text.specs.Line.{numberLine, wordLine}
+use Rattle.text.specs.Lines.{lines}
 
 -- The run on the job's table
 unfoldable pub runFor : Job → Ran

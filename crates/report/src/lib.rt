@@ -1,4 +1,6 @@
 // Job text in, report or refusal out: document 01, 'Job text and report'.
+mod lines;
+
 use job::Job;
 use job::reply::Reply;
 use run::Ended;
@@ -45,11 +47,11 @@ fn report_job(job: Job, buf: &mut [u8]) -> Reply
         run.sweeps as i64,
         run.m as i64,
     ];
-    let length = report_text::text_length(&head, outcome, &axes, n);
+    let length = lines::text_length(&head, outcome, &axes, n);
     if buf.len() < length {
         return Reply::Refused(12, 0);
     }
-    Reply::Written(report_text::put_text(buf, &head, outcome, &axes, n))
+    Reply::Written(lines::put_text(buf, &head, outcome, &axes, n))
 }
 
 pub fn report(text: &[u8], buf: &mut [u8]) -> Reply
@@ -71,6 +73,6 @@ pub fn answer(text: &[u8], out: &mut [u8; 2048]) -> usize
     let done = report(text, out);
     match done {
         Reply::Written(length) => length,
-        Reply::Refused(number, line) => text_lines::put_refusal(out, number, line),
+        Reply::Refused(number, line) => text::line::put_refusal(out, number, line),
     }
 }

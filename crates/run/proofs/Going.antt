@@ -14,10 +14,10 @@ use Rattle.ledger.specs.Call.{loosePair, sweep}
 use Rattle.ledger.specs.Cyclic.{cyclic-length, cyclic-pairs}
 use Rattle.ledger.specs.Pairs.{Pair, cyclic}
 use Rattle.ledger.specs.Refusal.{refusalOf}
-use Rattle.rotation.specs.Eight.{square-cong, square-of}
-use Rattle.rotation.specs.Shape.{Shaped}
-use Rattle.rotation.specs.Size.{Small}
-use Rattle.rotation.specs.Turn.{at}
+use Rattle.turn.specs.Eight.{square-cong, square-of}
+use Rattle.turn.specs.Shape.{Shaped}
+use Rattle.turn.specs.Size.{Small}
+use Rattle.turn.specs.Turn.{at}
 use Rattle.limits.specs.Limits.{toleranceLimit}
 use Rattle.record.specs.Accepted.{loose-pair-accepted, sweep-accepted, turns-suffice}
 use Rattle.record.specs.After.{after-kept}
@@ -25,12 +25,12 @@ use Rattle.record.specs.Fill.{kept-flatOf}
 use Rattle.record.specs.Flat.{entriesOf, flatOf, rowsOf}
 use Rattle.record.specs.Record.{acceptedOf, afterOf, answerOf, sweptOf, valueOf, workOf, workedOf}
 use Rattle.record.specs.declared.Record.{Record}
-use Rattle.sweep.specs.Turning.{matrix-small, works-grow, works-least}
-use Rattle.sweep.specs.Work.{Work, workPair, workPairs}
-use Rattle.sweep.specs.Worked.{Ready, workAt}
-use Rattle.sweep.proofs.Sweep.{pair-shaped}
-use Rattle.query.specs.Loose.{looseOf}
-use Rattle.query.proofs.Search.{same-loose}
+use Rattle.record.specs.Turning.{matrix-small, works-grow, works-least}
+use Rattle.record.specs.Work.{Work, workPair, workPairs}
+use Rattle.record.specs.Worked.{Ready, workAt}
+use Rattle.record.proofs.Sweeping.{pair-shaped}
+use Rattle.record.specs.Loose.{looseOf}
+use Rattle.record.proofs.Search.{same-loose}
 use Rattle.run.specs.Rows.{Holds, heldOf}
 use Rattle.run.specs.Run.{Ran, noPair, noTurn, runFrom, stop}
 use Rattle.run.specs.Running.{run-settled, run-still, run-spent, run-sweeps}

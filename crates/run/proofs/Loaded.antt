@@ -7,13 +7,13 @@ use borrow.Author.Tests.{eq-eqb}
 use Rattle.ledger.specs.Call.{load}
 use Rattle.ledger.specs.Refusal.{refusalOf}
 use Rattle.limits.specs.Limits.{units, whole}
-use Rattle.rotation.specs.Eight.{shaped-square}
-use Rattle.rotation.specs.Turn.{square}
+use Rattle.turn.specs.Eight.{shaped-square}
+use Rattle.turn.specs.Turn.{square}
 use Rattle.record.specs.After.{after-kept, fresh-kept}
 use Rattle.record.specs.Kept.{Kept}
 use Rattle.record.specs.Record.{acceptedOf, afterOf, fresh, loadedOf}
 use Rattle.record.proofs.FlatFilled.{flat-square}
-use Rattle.rotation.specs.InUse.{inUse}
+use Rattle.turn.specs.InUse.{inUse}
 use Rattle.integer.specs.Matrix.{diagonal, matrixOf}
 use Rattle.run.specs.Rows.{Holds, heldOf}
 

@@ -5,9 +5,9 @@ use mathlib.Core.Logic.{_≢_, _⊎_, ⊎-elim}
 use Prim.Native.Nat.{ℕ}
 use native.Mathlib.Omega.{arith}
 use denote.Enum.Declared.{tagOf, declared}
-use Rattle.query.proofs.Answer.{enum}
-use Rattle.query.specs.declared.Answer.{Answer}
-use Rattle.query.specs.declared.Answer.the-variants.{Loaded, Turned, Swept, Pair, NoPair, Axis, Refused}
+use Rattle.record.proofs.query.Answer.{enum}
+use Rattle.record.specs.declared.query.Answer.{Answer}
+use Rattle.record.specs.declared.query.Answer.the-variants.{Loaded, Turned, Swept, Pair, NoPair, Axis, Refused}
 use Rattle.run.specs.Run.{noPair}
 
 -- the number of an answer's variant

@@ -17,7 +17,7 @@ use Rattle.record.specs.Accepted.{after-accepted, loose-pair-accepted, sweep-ac
 use Rattle.record.specs.Loading.{load-refusal-alone}
 use Rattle.record.specs.Record.{acceptedOf, after, afterFrom, afterOf, fresh, loadedOf, sweptOf, workOf, workedOf}
 use Rattle.record.specs.declared.Record.{Record}
-use Rattle.sweep.specs.Turning.{works-grow}
+use Rattle.record.specs.Turning.{works-grow}
 use Rattle.run.specs.Course.{Course, settles, is-still, is-spent, sweeps-on, course}
 use Rattle.run.specs.Run.{runOf, Ran}
 

@@ -12,13 +12,13 @@ use Rattle.ledger.specs.Refusal.{equal, refusalOf, symmetric, within}
 use Rattle.integer.specs.Tabulate.{tabulate}
 use Rattle.record.specs.Flat.{entriesOf, flatOf, kept, rowsOf}
 use Rattle.record.specs.Record.{acceptedOf, afterOf, answerOf, axisOf, fresh, loadedOf, sweptOf, valueOf, workOf, workedOf}
-use Rattle.rotation.specs.Rotation.{first, rotationOf, second, signed}
-use Rattle.rotation.specs.Turn.{array, at, atPair, eight, hpp, hpq, hqp, hqq, newp, newpp, newpq, newq, newqq, turnAxes, turnMatrix, turned, turnedAxes}
+use Rattle.turn.specs.Rotation.{first, rotationOf, second, signed}
+use Rattle.turn.specs.Turn.{array, at, atPair, eight, hpp, hpq, hqp, hqq, newp, newpp, newpq, newq, newqq, turnAxes, turnMatrix, turned, turnedAxes}
 use Rattle.rounding.specs.Rounding.{rnd}
-use Rattle.rotation.specs.InUse.{inUse}
-use Rattle.sweep.specs.Work.{chosen, workBy, workPair, workPairs}
-use Rattle.query.specs.Loose.{looseOf}
-use Rattle.query.specs.declared.Answer.the-variants.{Axis}
+use Rattle.turn.specs.InUse.{inUse}
+use Rattle.record.specs.Work.{chosen, workBy, workPair, workPairs}
+use Rattle.record.specs.Loose.{looseOf}
+use Rattle.record.specs.declared.query.Answer.the-variants.{Axis}
 use Rattle.choice.specs.Choice.{choose, fits, minusSign, negative, smallest}
 use Rattle.choice.specs.Threshold.{roundedUp, threshold, u, w}
 use Rattle.integer.specs.Matrix.{diagonal, matrixOf}

@@ -6,9 +6,9 @@ use native.Mathlib.Omega.{arith}
 use lib.IntN.{ℤ, pos}
 use lib.ListN.{getD}
 use Rattle.ledger.specs.Axis.{errorOf, same-error}
-use Rattle.rotation.specs.Eight.{eight-cong, eight-of}
-use Rattle.rotation.specs.Shape.{Shaped}
-use Rattle.rotation.specs.Turn.{at}
+use Rattle.turn.specs.Eight.{eight-cong, eight-of}
+use Rattle.turn.specs.Shape.{Shaped}
+use Rattle.turn.specs.Turn.{at}
 use Rattle.record.specs.AxisNumbers.{axisNumbers, numbers-are}
 use Rattle.record.specs.Fill.{kept-flatOf}
 use Rattle.record.specs.Flat.{entriesOf, flatOf, kept}

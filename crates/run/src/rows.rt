@@ -10,22 +10,22 @@ ghost use Rattle.ledger.specs.Refusal.{refusalOf};
 ghost use Rattle.limits.specs.Limits.{toleranceLimit};
 ghost use Rattle.record.specs.AxisNumbers.{axesNumbers};
 ghost use Rattle.record.specs.Record.{afterOf, fresh};
-ghost use Rattle.rotation.specs.Turn.{at};
-ghost use Rattle.load.specs.Blank.{blank};
-ghost use Rattle.query.specs.Loose.{looseOf};
+ghost use Rattle.turn.specs.Turn.{at};
+ghost use Rattle.record.specs.Blank.{blank};
+ghost use Rattle.record.specs.Loose.{looseOf};
 ghost use Rattle.run.specs.Rows.{Holds, heldOf};
 ghost use Rattle.run.specs.Run.{noPair, runFrom, stop};
 use crate::Ended;
 use crate::Outcome;
-use query::Answer;
+use record::Answer;
 
 // The matrix and axes of a fresh record after a load, put into rows of 0.
 pub fn load_rows(matrix: &mut [[i64; 8]; 8], axes: &mut [[i64; 8]; 8], n: usize, numbers: &[i64])
     requires { ⌜ (now matrix ≡ blank) × (now axes ≡ blank) × (refusalOf 0 0 (load n (now numbers)) ≡ 0) ⌝ }
     ensures { λ _. ⌜ (heldOf n 0 (now (matrix .exit)) (now (axes .exit)) ≡ afterOf fresh (load n (now (numbers .entry)))) × Holds n 0 (now (matrix .exit)) (now (axes .exit)) ⌝ }
 {
-    load::load_matrix(matrix, n, numbers);
-    load::load_axes(axes, n);
+    record::load::load_matrix(matrix, n, numbers);
+    record::load::load_axes(axes, n);
 }
 
 // Whether a loose-pair call answers none.
@@ -33,7 +33,7 @@ fn is_settled(matrix: &[[i64; 8]; 8], n: usize, tolerance: u64) -> bool
     requires { ⌜ n ≤ 8 ⌝ }
     ensures { λ b. ⌜ b ≡ noPair (looseOf (at (now (matrix .entry))) tolerance (cyclic n)) ⌝ }
 {
-    let answer = query::loose_pair_of(matrix, n, tolerance);
+    let answer = record::query::loose_pair_of(matrix, n, tolerance);
     if let Answer::NoPair = answer {
         true
     } else {
@@ -78,7 +78,7 @@ pub fn run_rows(
             };
         }
         sweeps += 1;
-        let made = sweep::work_pairs(matrix, axes, n, m);
+        let made = record::sweep::work_pairs(matrix, axes, n, m);
         idle = made == m;
         m = made;
     }
@@ -116,7 +116,7 @@ pub fn axes_numbers(
     let mut numbers = [[0i64; 11]; 8];
     let mut i = 0;
     while i < n {
-        let error = query::error_of(matrix, n, m, i);
+        let error = record::query::error_of(matrix, n, m, i);
         let number = i + 1;
         numbers[i] = numbers_of(number as i64, matrix[i][i], error as i64, axes[i]);
         i = number;

@@ -64,7 +64,7 @@ fn largest_of(s: &[i64; 64], size: usize) -> u64
     let mut m = 0;
     let mut p = 0;
     while p < size {
-        let a = signed::magnitude(s[p]);
+        let a = integer::magnitude(s[p]);
         if m < a {
             m = a;
         }

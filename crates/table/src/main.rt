@@ -6,6 +6,6 @@ fn main() {
     let mut text = [0u8; 16384];
     let length = io::read_full(STDIN_FILENO, &mut text);
     let mut out = [0u8; 2048];
-    let printed = scatter_text::answer(&text[..length], &mut out);
+    let printed = job_table::lines::answer(&text[..length], &mut out);
     io::write_all(STDOUT_FILENO, &out[..printed]);
 }

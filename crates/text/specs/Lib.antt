@@ -5,3 +5,8 @@ pub mod Decimal
 pub mod Put
 pub mod Digits
 pub mod Examples
+pub mod Line
+pub mod Lines
+pub mod Rows
+pub mod Numbers
+pub mod LineExamples

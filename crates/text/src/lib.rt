@@ -1,4 +1,8 @@
 // Writers of text into a lent buffer: bytes and decimal numbers.
+pub mod line;
+pub mod numbers;
+pub mod rows;
+
 ghost use mathlib.Core.List.{_∷_, []};
 ghost use Prim.Native.Nat.{_+_, _≤_};
 ghost use lib.ListN.{length};
@@ -24,7 +28,7 @@ pub fn natural_length(x: u64) -> usize
 pub fn number_length(z: i64) -> usize
     ensures { λ r. ⌜ Sized (number z) 20 r ⌝ }
 {
-    let n = natural_length(signed::magnitude(z));
+    let n = natural_length(integer::magnitude(z));
     if z < 0 { 1 + n } else { n }
 }
 
@@ -66,7 +70,7 @@ pub fn put_number(buf: &mut [u8], at: usize, z: i64) -> usize
     requires { ⌜ at + length (number z) ≤ length (now buf) ⌝ }
     ensures { λ r. ⌜ Put (number z) at (now (buf .entry)) (now (buf .exit)) r ⌝ }
 {
-    let size = signed::magnitude(z);
+    let size = integer::magnitude(z);
     if z < 0 {
         let first = put_byte(buf, at, MINUS);
         put_natural(buf, first, size)

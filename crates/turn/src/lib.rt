@@ -1,12 +1,13 @@
 // The turn of the whole matrix and of the axes. Rows and columns count from 0; the first n are in use.
+pub mod pair;
+
 ghost use mathlib.Core.Path.{_≡_};
 ghost use Prim.Native.Nat.{_<_, _≤_};
-ghost use Rattle.rotation.specs.InPlace.{Passed, blockOf, mirrorOf, withBlock};
-ghost use Rattle.rotation.specs.Shape.{Shaped};
-ghost use Rattle.rotation.specs.Size.{Small, Symmetric, Turns};
-ghost use Rattle.rotation.specs.Turn.{at, square, turnAxes, turnMatrix};
-use rotation::pair;
-use rotation::pair::Rotation;
+ghost use Rattle.turn.specs.InPlace.{Passed, blockOf, mirrorOf, withBlock};
+ghost use Rattle.turn.specs.Shape.{Shaped};
+ghost use Rattle.turn.specs.Size.{Small, Symmetric, Turns};
+ghost use Rattle.turn.specs.Turn.{at, square, turnAxes, turnMatrix};
+use pair::Rotation;
 
 // The turn of lent axes on the pair p < q: rows p and q, column by column.
 pub fn turn_axes_in_place(v: &mut [[i64; 8]; 8], n: usize, r: Rotation, p: usize, q: usize)

@@ -6,7 +6,7 @@ use lib.ListN.{length}
 use borrow.Author.Needs.{needs}
 use Rattle.job.specs.Reply.{printedOf}
 use Rattle.job.specs.Replying.{refused-printed, written-printed}
-use Rattle.text_lines.specs.Line.{lineX}
+use Rattle.text.specs.Line.{lineX}
 use Rattle.report.specs.Report.{reportOf}
 use Rattle.report.proofs.answer.Statement.{statement}
 use Rattle.report.proofs.answer.Tie as tie

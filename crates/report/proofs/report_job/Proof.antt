@@ -17,8 +17,8 @@ use Rattle.record.specs.AxisNumbers.{axesNumbers}
 use Rattle.text.specs.Put.{Sized}
 use Rattle.run.specs.Run.{endOf}
 use Rattle.run.specs.declared.Ended.{Ended}
-use Rattle.text_lines.specs.Rows.{Wide}
-use Rattle.report_text.specs.Text.{textOf}
+use Rattle.text.specs.Rows.{Wide}
+use Rattle.report.specs.Text.{textOf}
 use Rattle.report.specs.Report.{headOf, reportOf, runFor}
 use Rattle.report.proofs.Bounds.{sweeps-most, turns-most}
 use Rattle.report.proofs.Same.{axes-wide, text-same}

@@ -4,7 +4,7 @@ use mathlib.Core.Bool.{false}
 use native.Mathlib.Omega.{arith}
 use Rattle.ledger.specs.Accepted.{load-accepted}
 use Rattle.record.specs.AxisNumbers.{axesNumbers}
-use Rattle.load.specs.Blank.{blank}
+use Rattle.record.specs.Blank.{blank}
 use Rattle.run.specs.Run.{Ran, endOf, runFrom, runOf}
 use Rattle.run.proofs.run.Statement.{statement}
 use Rattle.run.proofs.run.Tie as tie

@@ -9,8 +9,8 @@ use mir.Syntax.{w64}
 use mir.Val.{SFits}
 use borrow.Author.Needs.{needs}
 use Rattle.integer.specs.Word.{word}
-use Rattle.rotation.specs.Turn.{at}
-use Rattle.rotation.proofs.Whole.{Mirrored, no-row, first-read, second-read, rows-more}
+use Rattle.turn.specs.Turn.{at}
+use Rattle.turn.proofs.Whole.{Mirrored, no-row, first-read, second-read, rows-more}
 use Rattle.turn.proofs.mirror.Statement.{statement}
 use Rattle.turn.proofs.mirror.Tie as tie
 

@@ -1,7 +1,7 @@
 -- `turn::put_block` meets its contract.
 use mir.Facts.{toZ-ofZ}
 use borrow.Author.Needs.{needs}
-use Rattle.rotation.proofs.Whole.{block}
+use Rattle.turn.proofs.Whole.{block}
 use Rattle.turn.proofs.put_block.Statement.{statement}
 use Rattle.turn.proofs.put_block.Tie as tie
 

@@ -9,11 +9,11 @@ use mir.Val.{SFits, toZ, ofZ}
 use borrow.Author.Needs.{needs}
 use Rattle.integer.specs.Word.{read-back, word}
 use Rattle.choice.specs.Widest.{widest}
-use Rattle.rotation.specs.Rotation.{first}
-use Rattle.rotation.specs.Turn.{at}
-use Rattle.rotation.proofs.Back.{back-of}
-use Rattle.rotation.proofs.Pass.{room}
-use Rattle.rotation.proofs.Columns.{Columns, no-column, column-read, columns-more, columns-all}
+use Rattle.turn.specs.Rotation.{first}
+use Rattle.turn.specs.Turn.{at}
+use Rattle.turn.proofs.Back.{back-of}
+use Rattle.turn.proofs.Pass.{room}
+use Rattle.turn.proofs.Columns.{Columns, no-column, column-read, columns-more, columns-all}
 use Rattle.turn.proofs.turn_axes_in_place.Statement.{statement}
 use Rattle.turn.proofs.turn_axes_in_place.Tie as tie
 

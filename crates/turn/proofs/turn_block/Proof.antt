@@ -8,13 +8,13 @@ use mir.Facts.{toZ-ofZ}
 use borrow.Author.Needs.{needs}
 use Rattle.integer.specs.Word.{word}
 use Rattle.choice.specs.Widest.{widest}
-use Rattle.rotation.specs.InPlace.{blockOf}
-use Rattle.rotation.specs.Rotation.{first, inverse, second}
-use Rattle.rotation.specs.Size.{passed}
-use Rattle.rotation.specs.Turn.{at}
-use Rattle.rotation.specs.declared.pair.Rotation.{Rotation}
-use Rattle.rotation.proofs.Back.{Back, back-of, inverse-first}
-use Rattle.rotation.proofs.Pass.{room}
+use Rattle.turn.specs.InPlace.{blockOf}
+use Rattle.turn.specs.Rotation.{first, inverse, second}
+use Rattle.turn.specs.Size.{passed}
+use Rattle.turn.specs.Turn.{at}
+use Rattle.turn.specs.declared.pair.Rotation.{Rotation}
+use Rattle.turn.proofs.Back.{Back, back-of, inverse-first}
+use Rattle.turn.proofs.Pass.{room}
 use Rattle.turn.proofs.turn_block.Statement.{statement}
 use Rattle.turn.proofs.turn_block.Tie as tie
 

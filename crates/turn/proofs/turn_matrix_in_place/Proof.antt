@@ -2,9 +2,9 @@
 use mathlib.Core.Path.{_∙_}
 use native.Mathlib.Omega.{arith}
 use borrow.Author.Needs.{needs}
-use Rattle.rotation.specs.Eight.{shaped-square}
-use Rattle.rotation.proofs.Columns.{shaped-axes-of}
-use Rattle.rotation.proofs.Whole.{cross, matrix, pass}
+use Rattle.turn.specs.Eight.{shaped-square}
+use Rattle.turn.proofs.Columns.{shaped-axes-of}
+use Rattle.turn.proofs.Whole.{cross, matrix, pass}
 use Rattle.turn.proofs.turn_matrix_in_place.Statement.{statement}
 use Rattle.turn.proofs.turn_matrix_in_place.Tie as tie
 

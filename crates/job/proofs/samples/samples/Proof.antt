@@ -4,7 +4,7 @@ use mathlib.Core.Path.{_≡_, refl, _∙_}
 use lib.ListN.{length}
 use borrow.Author.Needs.{needs}
 use native.Mathlib.Omega.{arith}
-use Rattle.job_field.proofs.Flags.{denied, granted}
+use Rattle.job.proofs.Flags.{denied, granted}
 use Rattle.job.specs.Scan.{samplesAt, kept}
 use Rattle.job.proofs.Keeping.{kept-within, samples-end, samples-beyond, samples-full, samples-more}
 use Rattle.job.proofs.samples.samples.Statement.{statement}

@@ -14,8 +14,8 @@ use Rattle.ledger.specs.Accepted.{Names, axis-accepted}
 use Rattle.ledger.specs.Axis.{errorOf, same-error}
 use Rattle.ledger.specs.Call.{axis}
 use Rattle.ledger.specs.Refusal.{refusalOf}
-use Rattle.rotation.specs.Turn.{at}
-use Rattle.query.specs.declared.Answer.the-variants.{Axis}
+use Rattle.turn.specs.Turn.{at}
+use Rattle.record.specs.declared.query.Answer.the-variants.{Axis}
 use Rattle.record.specs.Fill.{at-rowsOf}
 use Rattle.record.specs.Flat.{kept}
 use Rattle.record.specs.Record.{acceptedOf, axisOf, valueOf}

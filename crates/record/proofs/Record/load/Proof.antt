@@ -3,7 +3,7 @@ use mathlib.Core.Path.{refl, sym, _∙_}
 use borrow.Author.Needs.{needs}
 use Rattle.ledger.specs.Accepted.{Loads, load-accepted}
 use Rattle.ledger.specs.Call.{load}
-use Rattle.load.specs.Blank.{blank}
+use Rattle.record.specs.Blank.{blank}
 use Rattle.record.specs.Loading.{load-refusal-alone, loads-within}
 use Rattle.record.specs.Record.{acceptedOf, loadedOf, valueOf}
 use Rattle.record.proofs.FlatFilled.{flat-square}

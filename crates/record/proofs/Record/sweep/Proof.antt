@@ -4,10 +4,10 @@ use Prim.Native.Nat.{_-_}
 use borrow.Author.Needs.{needs}
 use Rattle.ledger.specs.Call.{sweep}
 use Rattle.ledger.specs.Pairs.{cyclic}
-use Rattle.sweep.specs.Turning.{works-least}
-use Rattle.sweep.specs.Work.{Work, workPairs}
-use Rattle.sweep.specs.Worked.{Ready, workAt}
-use Rattle.query.specs.declared.Answer.the-variants.{Swept}
+use Rattle.record.specs.Turning.{works-least}
+use Rattle.record.specs.Work.{Work, workPairs}
+use Rattle.record.specs.Worked.{Ready, workAt}
+use Rattle.record.specs.declared.query.Answer.the-variants.{Swept}
 use Rattle.record.specs.Record.{acceptedOf, sweptOf, valueOf, workOf, workedOf}
 use Rattle.record.specs.declared.Record.{Record}
 use Rattle.record.proofs.Outcome.{accepted, at-work, kept-ready, refuses}

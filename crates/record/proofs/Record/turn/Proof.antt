@@ -7,10 +7,10 @@ use borrow.Author.Needs.{needs}
 use Rattle.ledger.specs.Accepted.{Turns, turn-accepted}
 use Rattle.ledger.specs.Call.{turn}
 use Rattle.ledger.specs.Pairs.{Pair}
-use Rattle.sweep.specs.Turning.{work-turned}
-use Rattle.sweep.specs.Work.{Work, workPair}
-use Rattle.sweep.specs.Worked.{Ready, workAt}
-use Rattle.query.specs.declared.Answer.the-variants.{Turned}
+use Rattle.record.specs.Turning.{work-turned}
+use Rattle.record.specs.Work.{Work, workPair}
+use Rattle.record.specs.Worked.{Ready, workAt}
+use Rattle.record.specs.declared.query.Answer.the-variants.{Turned}
 use Rattle.record.specs.Record.{acceptedOf, turnedOf, valueOf, workOf, workedOf}
 use Rattle.record.specs.declared.Record.{Record}
 use Rattle.record.proofs.Outcome.{accepted, at-work, kept-ready, refuses}

@@ -9,9 +9,9 @@ use mir.Syntax.{w64}
 use mir.Val.{SFits}
 use mir.Facts.{toZ-ofZ}
 use borrow.Author.Needs.{needs}
-use Rattle.rotation.specs.Turn.{at}
-use Rattle.rotation.specs.InUse.{inUse-inside}
-use Rattle.load.proofs.Filled.{filledTo}
+use Rattle.turn.specs.Turn.{at}
+use Rattle.turn.specs.InUse.{inUse-inside}
+use Rattle.record.proofs.Filled.{filledTo}
 use Rattle.record.specs.Flat.{flatOf}
 use Rattle.record.proofs.FlatFilled.{flat-all, flat-cong, flat-none, flat-one, flat-row}
 use Rattle.record.proofs.rows.packed.Statement.{statement}

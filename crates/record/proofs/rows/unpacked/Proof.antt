@@ -1,7 +1,7 @@
 -- `record::rows::unpacked` meets its contract, a row at a time.
 use mathlib.Core.List.{[], _∷_}
 use borrow.Author.Needs.{needs}
-use Rattle.rotation.specs.Turn.{eight}
+use Rattle.turn.specs.Turn.{eight}
 use Rattle.record.specs.Flat.{rowsOf}
 use Rattle.record.proofs.rows.unpacked.Statement.{statement}
 use Rattle.record.proofs.rows.unpacked.Tie as tie

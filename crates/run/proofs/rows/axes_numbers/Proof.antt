@@ -11,8 +11,8 @@ use mir.Val.{SFits}
 use mir.Facts.{toZ-ofZ, toZ-pos}
 use borrow.Author.Needs.{needs}
 use Rattle.integer.specs.Word.{held}
-use Rattle.rotation.specs.Eight.{front, front-more}
-use Rattle.rotation.specs.Turn.{at, eight}
+use Rattle.turn.specs.Eight.{front, front-more}
+use Rattle.turn.specs.Turn.{at, eight}
 use Rattle.record.specs.AxisNumbers.{axesNumbers, axisNumbers, error-small}
 use Rattle.run.specs.Rows.{error-held, heldOf, numbers-held}
 use Rattle.run.proofs.Going.{held-small}

@@ -1,0 +1,135 @@
+// The line that an answer prints.
+use record::Answer;
+use record::Record;
+use text::put_byte;
+use text::put_bytes;
+use text::put_natural;
+use text::put_number;
+use text::line::put_numbers;
+ghost use mathlib.Core.List.{[], _∷_, map};
+ghost use Prim.Native.Nat.{_+_, _≤_};
+ghost use lib.ListN.{length, take};
+ghost use Rattle.record.specs.Kept.{Kept};
+ghost use Rattle.text.specs.Decimal.{digits, number};
+ghost use Rattle.text.specs.Line.{line};
+ghost use Rattle.call_text.specs.Answers.{FieldPut, Prints, shown};
+
+const TAB: u8 = b'\t';
+
+const LINE_FEED: u8 = b'\n';
+
+// What a line does: whether it is a call, its answer with the row of an axis call, and the record after it.
+pub struct Played {
+    pub known: bool,
+    pub answer: Answer,
+    pub row: [i64; 8],
+    pub next: Record,
+}
+
+// A line, and 0 after it.
+pub struct Printed {
+    pub bytes: [u8; 256],
+    pub len: usize,
+}
+
+fn natural_field(buf: &mut [u8], at: usize, x: u64) -> usize
+    requires { ⌜ at + 21 ≤ length (now buf) ⌝ }
+    ensures { λ r. ⌜ FieldPut (digits x) at (now (buf .entry)) (now (buf .exit)) r ⌝ }
+{
+    let start = put_byte(buf, at, TAB);
+    put_natural(buf, start, x)
+}
+
+fn number_field(buf: &mut [u8], at: usize, z: i64) -> usize
+    requires { ⌜ at + 21 ≤ length (now buf) ⌝ }
+    ensures { λ r. ⌜ FieldPut (number z) at (now (buf .entry)) (now (buf .exit)) r ⌝ }
+{
+    let start = put_byte(buf, at, TAB);
+    put_number(buf, start, z)
+}
+
+pub fn one_number(tag: u8, x: u64) -> Printed
+    ensures { λ r. ⌜ Prints (line ((tag ∷ []) ∷ digits x ∷ [])) r ⌝ }
+{
+    let mut bytes = [0u8; 256];
+    let first = put_byte(&mut bytes, 0, tag);
+    let end = natural_field(&mut bytes, first, x);
+    let len = put_byte(&mut bytes, end, LINE_FEED);
+    Printed { bytes, len }
+}
+
+fn two_numbers(tag: u8, x: u64, y: u64) -> Printed
+    ensures { λ r. ⌜ Prints (line ((tag ∷ []) ∷ digits x ∷ digits y ∷ [])) r ⌝ }
+{
+    let mut bytes = [0u8; 256];
+    let first = put_byte(&mut bytes, 0, tag);
+    let second = natural_field(&mut bytes, first, x);
+    let end = natural_field(&mut bytes, second, y);
+    let len = put_byte(&mut bytes, end, LINE_FEED);
+    Printed { bytes, len }
+}
+
+// `A` a_ii r_i and the n numbers of row i of v.
+fn axis_line(entry: i64, error: u64, row: [i64; 8], n: usize) -> Printed
+    requires { ⌜ n ≤ 8 ⌝ }
+    ensures { λ r. ⌜ Prints (line ((65 ∷ []) ∷ number entry ∷ digits error ∷ map number (take n row))) r ⌝ }
+{
+    let mut bytes = [0u8; 256];
+    let first = put_byte(&mut bytes, 0, b'A');
+    let second = number_field(&mut bytes, first, entry);
+    let third = natural_field(&mut bytes, second, error);
+    let end = put_numbers(&mut bytes, third, &row, n);
+    let len = put_byte(&mut bytes, end, LINE_FEED);
+    Printed { bytes, len }
+}
+
+fn loaded_line() -> Printed
+    ensures { λ r. ⌜ Prints (line ((76 ∷ []) ∷ [])) r ⌝ }
+{
+    let mut bytes = [0u8; 256];
+    let end = put_byte(&mut bytes, 0, b'L');
+    let len = put_byte(&mut bytes, end, LINE_FEED);
+    Printed { bytes, len }
+}
+
+fn none_line() -> Printed
+    ensures { λ r. ⌜ Prints (line ((81 ∷ []) ∷ (110 ∷ 111 ∷ 110 ∷ 101 ∷ []) ∷ [])) r ⌝ }
+{
+    let mut bytes = [0u8; 256];
+    let first = put_byte(&mut bytes, 0, b'Q');
+    let field = put_byte(&mut bytes, first, TAB);
+    let end = put_bytes(&mut bytes, field, b"none");
+    let len = put_byte(&mut bytes, end, LINE_FEED);
+    Printed { bytes, len }
+}
+
+pub fn nothing() -> Printed
+    ensures { λ r. ⌜ Prints [] r ⌝ }
+{
+    let bytes = [0u8; 256];
+    Printed { bytes, len: 0 }
+}
+
+pub fn answer_line(p: Played) -> Printed
+    requires { ⌜ Kept (p .next) ⌝ }
+    ensures { λ r. ⌜ Prints (shown (p .next) (p .answer) (p .row)) r ⌝ }
+{
+    let answer = p.answer;
+    let row = p.row;
+    let next = p.next;
+    match answer {
+        Answer::Loaded => loaded_line(),
+        Answer::Turned(made) => {
+            if made {
+                one_number(b'T', 1)
+            } else {
+                one_number(b'T', 0)
+            }
+        }
+        Answer::Swept(turns) => one_number(b'W', turns),
+        Answer::Pair { p, q } => two_numbers(b'Q', p as u64, q as u64),
+        Answer::NoPair => none_line(),
+        Answer::Axis { entry, error } => axis_line(entry, error, row, next.channels()),
+        Answer::Refused(number) => two_numbers(b'X', number as u64, next.refused_calls() as u64),
+    }
+}

@@ -1,0 +1,73 @@
+// A table from readings: the refusal, and the numbers.
+ghost use mathlib.Core.Path.{_≡_};
+ghost use lib.ListN.{length};
+ghost use Rattle.text.specs.Put.{Put};
+ghost use Rattle.text.specs.Range.{allWithin};
+ghost use Rattle.field_axes.specs.Readable.{Readable};
+ghost use Rattle.field_axes.specs.Table.{tableNumbersOf, tableRefusal};
+
+// Whether each value is from low to high.
+fn all_within(low: u32, high: u32, values: &[u32]) -> bool
+    ensures { λ r. ⌜ r ≡ allWithin low high (now (values .entry)) ⌝ }
+{
+    let mut i = 0;
+    while i < values.len() {
+        if values[i] < low {
+            return false;
+        }
+        if high < values[i] {
+            return false;
+        }
+        i += 1;
+    }
+    true
+}
+
+// The refusal's number, or 0.
+pub fn table_refusal(n: usize, dilutions: &[u32], counts: &[u32], size: usize) -> u32
+    ensures { λ r. ⌜ r ≡ tableRefusal n (now (dilutions .entry)) (now (counts .entry)) size ⌝ }
+{
+    if n < 2 {
+        return 2;
+    }
+    if 8 < n {
+        return 2;
+    }
+    if !all_within(1, 100, dilutions) {
+        return 2;
+    }
+    if !all_within(0, 65535, counts) {
+        return 2;
+    }
+    if counts.len() % n != 0 {
+        return 6;
+    }
+    if counts.len() / n != dilutions.len() {
+        return 6;
+    }
+    if dilutions.len() < 2 {
+        return 3;
+    }
+    if 256 < dilutions.len() {
+        return 3;
+    }
+    if size < 1 + 2 * (n * n) {
+        return 12;
+    }
+    0
+}
+
+// The numbers of a table that is not refused.
+pub fn put_table(n: usize, dilutions: &[u32], counts: &[u32], out: &mut [i64]) -> usize
+    requires { ⌜ Readable n (now dilutions) (now counts) (length (now out)) ⌝ }
+    ensures { λ r. ⌜ Put (tableNumbersOf n (now (dilutions .entry)) (now (counts .entry))) 0 (now (out .entry)) (now (out .exit)) r ⌝ }
+{
+    let table = scatter::table::table_of_readings(n, dilutions, counts);
+    let sums = table.scatter;
+    let entries = table.entries;
+    let head = [table.e as i64];
+    let size = n * n;
+    let mut at = text::numbers::put(out, 0, &head);
+    at = text::numbers::put(out, at, &sums[..size]);
+    text::numbers::put(out, at, &entries[..size])
+}

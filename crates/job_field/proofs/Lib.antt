@@ -1,3 +1,0 @@
-mod Bytes
-pub mod Flags
-pub mod Tags

@@ -1,5 +1,0 @@
-mod Ends
-mod Fields
-mod Lines
-mod Numeral
-pub mod Records

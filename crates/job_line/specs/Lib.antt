@@ -1,3 +1,0 @@
-pub mod Range
-pub mod Text
-pub mod Scan

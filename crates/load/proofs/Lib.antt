@@ -1,3 +1,0 @@
-mod Axes
-mod Checks
-pub mod Filled

@@ -1,0 +1,103 @@
+// What a call answers, and what the queries find in lent rows: a loose pair, and the error of an axis.
+ghost use mathlib.Core.Path.{_≡_};
+ghost use mathlib.Core.Bool.{cond};
+ghost use Prim.Native.Nat.{_<_, _≤_};
+ghost use lib.Dec.{eqb};
+ghost use lib.IntN.{natAbs};
+ghost use Rattle.ledger.specs.Axis.{errorOf};
+ghost use Rattle.ledger.specs.Call.{loosePair, axis};
+ghost use Rattle.ledger.specs.Pairs.{cyclic};
+ghost use Rattle.ledger.specs.Refusal.{refusalOf};
+ghost use Rattle.turn.specs.Size.{Small};
+ghost use Rattle.turn.specs.Turn.{at};
+ghost use Rattle.record.specs.Loose.{looseOf};
+
+// What a call answers.
+pub enum Answer {
+    Loaded,
+    Turned(bool),
+    Swept(u64),
+    Pair { p: usize, q: usize },
+    NoPair,
+    Axis { entry: i64, error: u64 },
+    Refused(u32),
+}
+
+pub fn loose_pair_refusal(n: usize, t: u64) -> u32
+    ensures { λ r. ⌜ r ≡ refusalOf n 0 (loosePair t) ⌝ }
+{
+    if n == 0 {
+        return 10;
+    }
+    if limits::TOLERANCE_LIMIT < t {
+        return 2;
+    }
+    0
+}
+
+pub fn axis_refusal(n: usize, i: usize) -> u32
+    ensures { λ r. ⌜ r ≡ refusalOf n 0 (axis i) ⌝ }
+{
+    if n == 0 {
+        return 10;
+    }
+    if i < 1 {
+        return 9;
+    }
+    if n < i {
+        return 9;
+    }
+    0
+}
+
+// |a_ij|, i and j from 0.
+fn entry_size(a: &[[i64; 8]; 8], i: usize, j: usize) -> u64
+    requires { ⌜ (i < 8) × (j < 8) ⌝ }
+    ensures { λ r. ⌜ r ≡ natAbs (at (now (a .entry)) i j) ⌝ }
+{
+    integer::magnitude(a[i][j])
+}
+
+// The first pair in row order whose entry is above t in size.
+pub fn loose_pair_of(a: &[[i64; 8]; 8], n: usize, t: u64) -> Answer
+    requires { ⌜ n ≤ 8 ⌝ }
+    ensures { λ r. ⌜ r ≡ looseOf (at (now (a .entry))) t (cyclic n) ⌝ }
+{
+    let mut p = 0;
+    while p < n {
+        let mut q = p + 1;
+        while q < n {
+            if t < entry_size(a, p, q) {
+                return Answer::Pair { p: p + 1, q: q + 1 };
+            }
+            q += 1;
+        }
+        p += 1;
+    }
+    Answer::NoPair
+}
+
+// What column j adds to the error of the axis in row i.
+fn off_diagonal(a: &[[i64; 8]; 8], i: usize, j: usize) -> u64
+    requires { ⌜ (i < 8) × (j < 8) ⌝ }
+    ensures { λ r. ⌜ r ≡ cond (eqb j i) 0 (natAbs (at (now (a .entry)) i j)) ⌝ }
+{
+    if j == i {
+        return 0;
+    }
+    entry_size(a, i, j)
+}
+
+// The error of the axis in row i, from 0.
+pub fn error_of(a: &[[i64; 8]; 8], n: usize, m: u64, i: usize) -> u64
+    requires { ⌜ (i < n) × (n ≤ 8) × (m ≤ 448) × Small (now a) ⌝ }
+    ensures { λ r. ⌜ r ≡ errorOf n (at (now (a .entry))) m i ⌝ }
+{
+    let mut sum = 0;
+    let mut j = 0;
+    while j < n {
+        sum += off_diagonal(a, i, j);
+        j += 1;
+    }
+    sum + (7 * m + 1) / 2
+}

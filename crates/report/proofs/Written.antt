@@ -1,0 +1,23 @@
+-- How long the outcome's word and the report's lines are.
+use Prim.Native.Nat.{ℕ, _+_, _≤_}
+use mathlib.Core.Path.{_≡_}
+use mathlib.Core.List.{List}
+use native.Mathlib.Omega.{arith}
+use lib.IntN.{ℤ}
+use lib.ListN.{length, length-append}
+use Rattle.run.specs.declared.Outcome.{Outcome}
+use Rattle.run.specs.declared.Outcome.the-variants.{Settled, Still, Spent}
+use Rattle.text.specs.Line.{wordLine}
+use Rattle.text.specs.Lines.{lines}
+use Rattle.text.specs.Rows.{rowLine}
+use Rattle.report.specs.Text.{textOf, outcomeWord}
+
+pub word-few : (outcome : Outcome) → length (outcomeWord outcome) ≤ 7
+unfolding outcomeWord
+word-few Settled = omega arith
+word-few Still = omega arith
+word-few Spent = omega arith
+
+pub text-size : (head : List ℤ) (outcome : Outcome) (axes : List (List ℤ)) (n : ℕ) → length (textOf head outcome axes n) ≡ length (wordLine 82 head (outcomeWord outcome)) + length (lines (rowLine 65 (n + 3) axes) n)
+unfolding textOf
+text-size head outcome axes n = length-append (wordLine 82 head (outcomeWord outcome)) (lines (rowLine 65 (n + 3) axes) n)

@@ -1,4 +1,0 @@
-pub mod Table
-pub mod Done
-pub mod Rows
-pub mod Laws

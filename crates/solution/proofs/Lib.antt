@@ -1,2 +1,0 @@
-mod RunRefusals
-mod Following

@@ -1,2 +1,0 @@
-pub mod Sweep
-mod Worked

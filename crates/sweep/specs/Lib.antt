@@ -1,4 +1,0 @@
-pub mod Work
-pub mod Kept
-pub mod Turning
-pub mod Worked

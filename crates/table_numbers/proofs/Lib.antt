@@ -1,2 +1,0 @@
-mod Within
-mod TableRefusals
