@@ -14,9 +14,10 @@ use lib.ListN.{length, drop, getD, drop-of-length-le}
 use lib.Seq.{drop-cons}
 use Rattle.turn.specs.Rotation.{signed}
 use Rattle.text.specs.Numeral.{leadingZero, valueFrom}
-use Rattle.text.specs.Range.{allWithin, both, is-within, within}
+use Rattle.text.specs.Range.{allWithin, within}
+use Rattle.text.specs.laws.Range.{both, is-within}
 use Rattle.call_text.specs.Numbers.{digitsFrom, numberOf, signedOf, positive, negative}
-use Rattle.call_text.specs.Read.{unsignedIs, signedIs}
+use Rattle.call_text.specs.inner.Read.{unsignedIs, signedIs}
 use Rattle.call_text.specs.declared.field.Unsigned.{Unsigned}
 use Rattle.call_text.specs.declared.field.Unsigned.the-variants.{Is, No}
 use Rattle.call_text.specs.declared.field.Signed.the-variants as Signed

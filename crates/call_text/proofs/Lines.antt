@@ -12,8 +12,8 @@ use Rattle.ledger.specs.Call.{Call}
 use Rattle.call_text.specs.Calls.{callBy, callOf, callOfFields, withNumbers}
 use Rattle.text.specs.Parts.{before}
 use Rattle.call_text.specs.Numbers.{numbersOf, signedOf}
-use Rattle.call_text.specs.Parts.{front}
-use Rattle.call_text.specs.Read.{signedIs}
+use Rattle.call_text.specs.inner.Parts.{front}
+use Rattle.call_text.specs.inner.Read.{signedIs}
 use Rattle.call_text.specs.declared.field.Signed.{Signed}
 use Rattle.call_text.specs.declared.field.Signed.the-variants.{Is, No}
 use Rattle.call_text.proofs.Splitting.{partsAfter, parts-end, parts-more, split-front, take-front}

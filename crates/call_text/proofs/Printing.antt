@@ -13,10 +13,12 @@ use lib.IntN.{ℤ, pos}
 use lib.ListN.{length, take, getD, replicate, length-append}
 use lib.Signed.{mag}
 use Rattle.text.specs.Decimal.{number}
-use Rattle.text.specs.Digits.{length-number}
-use Rattle.text.specs.Put.{Put, put-then, front-length}
+use Rattle.text.specs.laws.Digits.{length-number}
+use Rattle.text.specs.Put.{Put}
+use Rattle.text.specs.laws.Put.{put-then, front-length}
 use Rattle.text.specs.Line.{line, further, numbers}
-use Rattle.call_text.specs.Answers.{FieldPut, Prints, linePrinted}
+use Rattle.call_text.specs.Answers.{linePrinted}
+use Rattle.call_text.specs.inner.Answers.{FieldPut, Prints}
 
 pub put-field : {t e x y : List ℕ} {at r s : ℕ} → Put (9 ∷ []) at e x r → Put t r x y s → length t ≤ 20 → FieldPut t at e y s
 put-field p q h = record { puts = put-then p q; bounded = omega (arith, p .answer, q .answer) }

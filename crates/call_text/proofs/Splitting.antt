@@ -11,7 +11,7 @@ use lib.Dec.{eqb, ltb}
 use lib.ListN.{length, take, drop, getD, length-drop, drop-of-length-le}
 use lib.Seq.{drop-drop, drop-cons}
 use Rattle.text.specs.Parts.{split, onto}
-use Rattle.call_text.specs.Parts.{front}
+use Rattle.call_text.specs.inner.Parts.{front}
 
 -- r is where the first s from `at` on stands, or the end.
 module _ (r s : ℕ) (text : List ℕ) (at : ℕ) (q : r ≡ at + length (front s (drop at text))) where

@@ -1,6 +1,5 @@
 -- The line that a call's answer prints.
-use Prim.Native.Nat.{ℕ, _+_, _≤_}
-use mathlib.Core.Path.{_≡_}
+use Prim.Native.Nat.{ℕ}
 use mathlib.Core.Bool.{true, false}
 use mathlib.Core.List.{List, [], _∷_, _++_, map}
 use lib.IntN.{ℤ, pos}
@@ -9,7 +8,6 @@ use Rattle.ledger.specs.Call.{Call, load, turn, sweep, loosePair, axis}
 use Rattle.record.specs.Record.{afterOf, answerOf, axisOf}
 use Rattle.record.specs.declared.Record.{Record}
 use Rattle.text.specs.Decimal.{digits, number}
-use Rattle.text.specs.Put.{Put}
 use Rattle.record.specs.declared.query.Answer.{Answer}
 use Rattle.record.specs.declared.query.Answer.the-variants.{Loaded, Turned, Swept, Pair, NoPair, Axis, Refused}
 use Rattle.text.specs.Line.{line}
@@ -41,12 +39,3 @@ answerLine r call = shown (afterOf r call) (answerOf r call) (rowOf r call)
 -- a line in an array, 0 after it
 unfoldable pub linePrinted : List ℕ → Printed
 linePrinted text = record { bytes = text ++ drop (length text) (replicate 256 0); len = length text }
-
-pub record Prints (text : List ℕ) (r : Printed) : Type 0 where
-  pub is : r ≡ linePrinted text
-  pub short : r .len ≤ 256
-
--- a tab and a field, of at most 20 bytes
-pub record FieldPut (field : List ℕ) (at : ℕ) (entry exit : List ℕ) (r : ℕ) : Type 0 where
-  pub puts : Put (9 ∷ field) at entry exit r
-  pub bounded : r ≤ at + 21

@@ -1,5 +1,4 @@
 pub mod Answers
 pub mod Numbers
 pub mod Calls
-pub mod Read
-pub mod Parts
+pub mod inner

@@ -1,18 +1,19 @@
 // The line that an answer prints.
 use record::Answer;
 use record::Record;
+use text::line::put_numbers;
 use text::put_byte;
 use text::put_bytes;
 use text::put_natural;
 use text::put_number;
-use text::line::put_numbers;
 ghost use mathlib.Core.List.{[], _∷_, map};
 ghost use Prim.Native.Nat.{_+_, _≤_};
 ghost use lib.ListN.{length, take};
 ghost use Rattle.record.specs.Kept.{Kept};
 ghost use Rattle.text.specs.Decimal.{digits, number};
 ghost use Rattle.text.specs.Line.{line};
-ghost use Rattle.call_text.specs.Answers.{FieldPut, Prints, shown};
+ghost use Rattle.call_text.specs.Answers.{shown};
+ghost use Rattle.call_text.specs.inner.Answers.{FieldPut, Prints};
 
 const TAB: u8 = b'\t';
 

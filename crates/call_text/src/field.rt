@@ -5,7 +5,7 @@ ghost use Prim.Native.Nat.{_≤_};
 ghost use lib.ListN.{length};
 ghost use Rattle.text.specs.Numeral.{leadingZero};
 ghost use Rattle.call_text.specs.Numbers.{digitsFrom, numberOf, signedOf};
-ghost use Rattle.call_text.specs.Read.{unsignedIs, signedIs};
+ghost use Rattle.call_text.specs.inner.Read.{unsignedIs, signedIs};
 
 pub enum Unsigned {
     Is(u64),

@@ -1,7 +1,7 @@
 // Where a part of a text ends.
 ghost use Prim.Native.Nat.{_≤_};
 ghost use lib.ListN.{length};
-ghost use Rattle.call_text.specs.Parts.{Found};
+ghost use Rattle.call_text.specs.inner.Parts.{Found};
 
 // The first place from `from` on that has the byte, or the text's end.
 pub fn find(text: &[u8], from: usize, byte: u8) -> usize

@@ -3,7 +3,7 @@ use crate::field::Signed;
 use crate::field::number;
 use crate::find::find;
 ghost use mathlib.Core.Path.{_≡_};
-ghost use Rattle.call_text.specs.Read.{LineRead, noLine};
+ghost use Rattle.call_text.specs.inner.Read.{LineRead, noLine};
 
 // At most 101 numbers: n, and 100 of a matrix. Where it is no line, all is 0.
 pub struct Line {

@@ -8,12 +8,17 @@ use Rattle.limits.specs.Limits.{toleranceLimit}
 use Rattle.job.specs.Reply.{printedOf}
 use Rattle.report.specs.Report.{reportOf}
 use Rattle.choice.specs.Cards as choosing
+use Rattle.choice.specs.laws.Cards as choosing-laws
 use Rattle.turn.specs.Cards as turning
-use Rattle.rounding.specs.Cards.{Card2, card2}
+use Rattle.turn.specs.laws.Cards as turning-laws
+use Rattle.rounding.specs.Cards.{Card2}
+use Rattle.rounding.specs.laws.Cards.{card2}
 use Rattle.rounding.specs.Rounding.{rnd}
 use Rattle.run.specs.Cards as running
+use Rattle.run.specs.laws.Cards as running-laws
 use Rattle.run.specs.Run.{runOf}
-use Rattle.scatter.specs.Cards.{three, two, card-8, card-10, card-11}
+use Rattle.scatter.specs.Cards.{three, two}
+use Rattle.scatter.specs.laws.Cards.{card-8, card-10, card-11}
 use Rattle.sums.specs.Samples.{Sample, sumsOf}
 use Rattle.scatter.specs.Table.{largest, scatter, shift, entries}
 use Rattle.run.specs.declared.Outcome.the-variants.{Settled}
@@ -73,13 +78,13 @@ equal n k s limit t low high few =
 pub cards : BenchCards
 cards =
     record {
-      card1 = choosing.card1;
+      card1 = choosing-laws.card1;
       card2 = card2;
-      card3 = choosing.card3;
-      card4 = choosing.card4;
-      card5 = record { no-turn = choosing.card5; still = running.cards .card5 };
-      card6 = choosing.card6;
-      card7 = turning.card7;
+      card3 = choosing-laws.card3;
+      card4 = choosing-laws.card4;
+      card5 = record { no-turn = choosing-laws.card5; still = running-laws.cards .card5 };
+      card6 = choosing-laws.card6;
+      card7 = turning-laws.card7;
       card8 = record { table = card-8 .0; e = card-8 .1 };
       card9 = equal;
       card10 = λ us. record { at-the-limit = card-10 us .0; beyond-it = card-10 us .1 };

@@ -10,26 +10,28 @@ use borrow.Author.Tests.{eq-eqb}
 use lib.IntN.{ℤ, pos, +ℤ-invr, *ℤ-zero}
 use lib.ListN.{replicate, length-replicate}
 use lib.Pow.{pow-pos}
-use Rattle.integer.specs.Tabulate.{tabulate, getD-repeated}
-use Rattle.ledger.specs.Accepted.{Loads}
+use Rattle.integer.specs.Tabulate.{tabulate}
+use Rattle.integer.specs.laws.Tabulate.{getD-repeated}
+use Rattle.ledger.specs.laws.Accepted.{Loads}
 use Rattle.ledger.specs.Call.{load, loosePair}
 use Rattle.ledger.specs.Refusal.{refusalOf}
 use Rattle.limits.specs.Limits.{toleranceLimit, units}
-use Rattle.record.specs.Fill.{kept-flatOf}
+use Rattle.record.specs.laws.Fill.{kept-flatOf}
 use Rattle.record.specs.Flat.{kept}
 use Rattle.record.specs.Record.{acceptedOf, afterOf, answerOf, fresh, loadedOf, valueOf}
 use Rattle.ledger.specs.Pairs.{cyclic}
-use Rattle.rounding.specs.Nearest.{rnd-zero}
+use Rattle.rounding.specs.laws.Nearest.{rnd-zero}
 use Rattle.rounding.specs.Rounding.{rnd}
-use Rattle.record.specs.Accepted.{after-accepted, load-accepted, loose-pair-accepted}
+use Rattle.record.specs.laws.Accepted.{after-accepted, load-accepted, loose-pair-accepted}
 use Rattle.sums.specs.Samples.{Sample, z, sum, sumsOf}
-use Rattle.scatter.specs.OfSamples.{scatter-of-samples}
+use Rattle.scatter.specs.laws.OfSamples.{scatter-of-samples}
 use Rattle.scatter.specs.Table.{scatter, shift, entries}
-use Rattle.turn.specs.InUse.{inUse-inside}
+use Rattle.turn.specs.laws.InUse.{inUse-inside}
 use Rattle.run.specs.Run.{noPair, stop, runOf}
-use Rattle.run.specs.Running.{run-settled}
+use Rattle.run.specs.laws.Running.{run-settled}
 use Rattle.run.specs.declared.Outcome.the-variants.{Settled}
-use Rattle.record.specs.Loose.{PairOrNone, loose-holds, looseOf}
+use Rattle.record.specs.Loose.{looseOf}
+use Rattle.record.specs.laws.Loose.{PairOrNone, loose-holds}
 use Rattle.record.specs.declared.query.Answer.the-variants.{NoPair}
 use Rattle.integer.specs.Matrix.{matrixOf}
 

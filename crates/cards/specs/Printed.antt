@@ -15,6 +15,7 @@ use Rattle.report.specs.Report.{headOf, runFor, lineR, lineA, reportOf}
 use Rattle.job.specs.Reply.{printedBy, printedOf}
 use Rattle.rounding.specs.Rounding.{rnd}
 use Rattle.run.specs.Cards as running
+use Rattle.run.specs.laws.Cards as running-laws
 use Rattle.sums.specs.Samples.{samples, sampleAt, sumsOf, sumsAt, sum, products, z}
 use Rattle.scatter.specs.Table.{S, scatter, largest, smallest, shift, entries, padded, tableOf}
 use Rattle.text.specs.Decimal.{digits, digitsBy, number}
@@ -78,7 +79,7 @@ unfolding runFor
 ran = rw (table .1)
 
 card12 : running.Card12
-card12 = running.cards .card12
+card12 = running-laws.cards .card12
 
 first : lineR job ≡ r-line
 unfolding lineR headOf outcomeWord wordLine line further number digits digitsBy

@@ -9,8 +9,8 @@ use borrow.Author.Tests.{ne-eqb, le-ltb}
 use mir.Syntax.{w64}
 use mir.Val.{SFits, toZ, ofZ}
 use mir.Facts.{toZ-ofZ}
-use Rattle.integer.specs.Laws.{natAbs-+ℤ, natAbs-negℤ, natAbs-zero}
-use Rattle.integer.specs.Word.{held}
+use Rattle.integer.specs.laws.Laws.{natAbs-+ℤ, natAbs-negℤ, natAbs-zero}
+use Rattle.integer.specs.laws.Word.{held}
 use Rattle.choice.specs.Choice.{choose, smallest, negative, minusSign}
 use Rattle.choice.specs.Widest.{widest}
 use Rattle.choice.specs.declared.Choice.the-variants.{NoTurn}

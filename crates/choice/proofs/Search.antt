@@ -8,7 +8,8 @@ use native.Mathlib.Omega.{arith}
 use lib.Dec.{lit<}
 use borrow.Author.Tests.{le-leb, lt-leb}
 use Rattle.choice.specs.Widest.{widest}
-use Rattle.choice.specs.Threshold.{threshold, threshold-most, roundedUp, u, w}
+use Rattle.choice.specs.Threshold.{threshold, roundedUp, u, w}
+use Rattle.choice.specs.laws.Threshold.{threshold-most}
 use Rattle.choice.specs.Choice.{fits, smallest}
 use Rattle.choice.specs.declared.Choice.the-variants.{NoTurn, Turn}
 

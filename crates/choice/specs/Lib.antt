@@ -1,5 +1,5 @@
 pub mod Threshold
 pub mod Choice
-pub mod Chosen
 pub mod Widest
 pub mod Cards
+pub mod laws

@@ -1,11 +1,5 @@
 -- Document 01, 'Choosing a turn': the thresholds T_l.
-use mathlib.Core.Path.{_≡_, subst}
-use mathlib.Core.Bool.{Bool}
-use Prim.Native.Nat.{ℕ, suc, _+_, _-_, _*_, _/_, _<_, _≤_, _^_}
-use native.Mathlib.Nat.{lt-div-mul-add, div-lt-iff-lt-mul}
-use native.Mathlib.Omega.{arith}
-use lib.Dec.{T, leb, ltb, leb→le, ltb→lt}
-use Rattle.integer.specs.Range.{all, below}
+use Prim.Native.Nat.{ℕ, _+_, _-_, _*_, _/_, _^_}
 
 -- u = 2^(2l+1) − 1
 unfoldable pub u : ℕ → ℕ
@@ -22,33 +16,3 @@ roundedUp x y = (x + (y - 1)) / y
 -- T_l is 2^24 × 2uw / (u² − w²), rounded up to a whole number
 unfoldable pub threshold : ℕ → ℕ
 threshold l = roundedUp (2 ^ 24 * (2 * u l * w l)) (u l * u l - w l * w l)
-
--- The rule of the table: T_l is the least whole number that is not below 2^24 × 2uw / (u² − w²)
-pub record RoundedUp (x y t : ℕ) : Type 0 where
-  pub enough : x ≤ t * y
-  pub least : (k : ℕ) → x ≤ k * y → t ≤ k
-
-roundedUp-rule : (x y : ℕ) → 0 < y → RoundedUp x y (roundedUp x y)
-unfolding roundedUp
-roundedUp-rule x y h =
-    record {
-      enough = omega (arith, lt-div-mul-add {a = x + (y - 1)} h);
-      least = λ k e. omega (arith, div-lt-iff-lt-mul {x = x + (y - 1)} {y = suc k} h .1 (omega arith));
-    }
-
--- A test at each l from 1 to 14
-pub from-1-to-14 : (f : ℕ → Bool) → T (all (λ k. f (suc k)) 14) → (l : ℕ) → 1 ≤ l → l ≤ 14 → T (f l)
-from-1-to-14 f t l h k = subst (λ m. T (f m)) same (below (λ k. f (suc k)) 14 t (l - 1) (omega arith))
-  where
-    same : suc (l - 1) ≡ l
-    same = omega arith
-
-pub threshold-rule : (l : ℕ) → 1 ≤ l → l ≤ 14 → RoundedUp (2 ^ 24 * (2 * u l * w l)) (u l * u l - w l * w l) (threshold l)
-unfolding threshold u w
-threshold-rule l h k =
-    roundedUp-rule _ _ (ltb→lt _ _ (from-1-to-14 (λ m. ltb 0 (u m * u m - w m * w m)) tt l h k))
-
--- T_1 is the largest
-pub threshold-most : (l : ℕ) → 1 ≤ l → l ≤ 14 → threshold l ≤ threshold 1
-unfolding threshold roundedUp u w
-threshold-most l h k = leb→le _ _ (from-1-to-14 (λ m. leb (threshold m) (threshold 1)) tt l h k)

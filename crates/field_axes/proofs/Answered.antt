@@ -4,7 +4,8 @@ use mathlib.Core.Path.{_≡_, ap}
 use mathlib.Core.List.{List}
 use lib.IntN.{ℤ, pos, negℤ}
 use borrow.Author.Tests.{eq-eqb, ne-eqb}
-use Rattle.text.specs.Put.{Put, front-length}
+use Rattle.text.specs.Put.{Put}
+use Rattle.text.specs.laws.Put.{front-length}
 use Rattle.field_axes.specs.Answer.{answered, lent}
 
 module _ (refusal : ℕ) (numbers entry : List ℤ) where

@@ -8,12 +8,15 @@ use lib.IntN.{ℤ}
 use lib.ListN.{drop, getD, length, length-append, length-drop, take}
 use lib.Seq.{length-take-le}
 use Rattle.ledger.specs.Call.{axis}
-use Rattle.record.specs.AxisNumbers.{axes-row, axesNumbers, axisNumbers, two-before}
+use Rattle.record.specs.inner.AxisNumbers.{axesNumbers, axisNumbers}
+use Rattle.record.specs.laws.AxisNumbers.{axes-row, two-before}
 use Rattle.record.specs.Record.{answerOf, axisOf}
 use Rattle.record.specs.declared.Record.{Record}
-use Rattle.text.specs.Put.{Put, same-size}
+use Rattle.text.specs.Put.{Put}
+use Rattle.text.specs.laws.Put.{same-size}
 use Rattle.text.specs.Rows.{Wide}
-use Rattle.field_axes.specs.Solution.{axes, axisSolution, used}
+use Rattle.field_axes.specs.Solution.{axes, axisSolution}
+use Rattle.field_axes.specs.inner.Solution.{used}
 
 module _ (n : ℕ) (rows : List (List ℤ)) (few : n ≤ 8) (w : Wide rows) where
   pub length-row-used : (i : ℕ) → i < n → length (take (n + 2) (drop 1 (getD rows i []))) ≡ n + 2

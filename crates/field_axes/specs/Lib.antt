@@ -3,6 +3,6 @@ pub mod Report
 pub mod Calls
 pub mod Done
 pub mod Solution
-pub mod Solvable
 pub mod Table
-pub mod Readable
+pub mod inner
+pub mod laws

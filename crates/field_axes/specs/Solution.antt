@@ -4,7 +4,7 @@ use mathlib.Core.Bool.{cond, _&&_}
 use mathlib.Core.List.{List, [], _∷_, _++_}
 use lib.Dec.{eqb, leb}
 use lib.IntN.{ℤ, pos}
-use lib.ListN.{drop, getD, take}
+use lib.ListN.{take}
 use Rattle.ledger.specs.Call.{axis, load}
 use Rattle.ledger.specs.Refusal.{refusalOf, unless}
 use Rattle.limits.specs.Limits.{toleranceLimit}
@@ -33,11 +33,6 @@ axes n r (suc last) = axes n r last ++ axisSolution n r (suc last)
 unfoldable pub solution : ℕ → Ran → List ℤ
 solution n z =
     (pos (outcomeNumber (z .outcome)) ∷ pos (z .sweeps) ∷ pos (z .last .m) ∷ []) ++ axes n (z .last) n
-
--- of the first i rows of the axes' numbers those that are written: all but the axis's own number, and n of its row of v
-unfoldable pub used : ℕ → List (List ℤ) → ℕ → List ℤ
-used n rows zero = []
-used n rows (suc i) = used n rows i ++ take (n + 2) (drop 1 (getD rows i []))
 
 unfoldable pub solutionOf : ℕ → List ℤ → ℕ → ℕ → List ℤ
 solutionOf n numbers limit t = solution n (runOf n numbers limit t)

@@ -6,11 +6,18 @@ ghost use lib.IntN.{pos};
 ghost use lib.ListN.{length};
 ghost use Rattle.text.specs.Put.{Put};
 ghost use Rattle.text.specs.Rows.{Wide};
-ghost use Rattle.field_axes.specs.Solution.{outcomeNumber, solutionOf, solveRefusal, used};
-ghost use Rattle.field_axes.specs.Solvable.{Solvable};
+ghost use Rattle.field_axes.specs.Solution.{outcomeNumber, solutionOf, solveRefusal};
+ghost use Rattle.field_axes.specs.inner.Solution.{used};
+ghost use Rattle.field_axes.specs.inner.Solvable.{Solvable};
 
 // The refusal's number, or 0.
-pub fn solve_refusal(n: usize, numbers: &[i64], limit: u64, tolerance: u64, size: usize) -> u32
+pub(crate) fn solve_refusal(
+    n: usize,
+    numbers: &[i64],
+    limit: u64,
+    tolerance: u64,
+    size: usize,
+) -> u32
     ensures { λ r. ⌜ r ≡ solveRefusal n (now (numbers .entry)) limit tolerance size ⌝ }
 {
     let number = record::load::load_refusal(n, numbers);
@@ -59,7 +66,13 @@ fn put_axes(n: usize, axes: &[[i64; 11]; 8], out: &mut [i64], at: usize) -> usiz
 }
 
 // The numbers of a run that is not refused.
-pub fn put_solution(n: usize, numbers: &[i64], limit: u64, tolerance: u64, out: &mut [i64]) -> usize
+pub(crate) fn put_solution(
+    n: usize,
+    numbers: &[i64],
+    limit: u64,
+    tolerance: u64,
+    out: &mut [i64],
+) -> usize
     requires { ⌜ Solvable n (now numbers) limit tolerance (length (now out)) ⌝ }
     ensures { λ r. ⌜ Put (solutionOf n (now (numbers .entry)) limit tolerance) 0 (now (out .entry)) (now (out .exit)) r ⌝ }
 {

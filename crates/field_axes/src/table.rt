@@ -3,7 +3,7 @@ ghost use mathlib.Core.Path.{_≡_};
 ghost use lib.ListN.{length};
 ghost use Rattle.text.specs.Put.{Put};
 ghost use Rattle.text.specs.Range.{allWithin};
-ghost use Rattle.field_axes.specs.Readable.{Readable};
+ghost use Rattle.field_axes.specs.inner.Readable.{Readable};
 ghost use Rattle.field_axes.specs.Table.{tableNumbersOf, tableRefusal};
 
 // Whether each value is from low to high.
@@ -24,7 +24,7 @@ fn all_within(low: u32, high: u32, values: &[u32]) -> bool
 }
 
 // The refusal's number, or 0.
-pub fn table_refusal(n: usize, dilutions: &[u32], counts: &[u32], size: usize) -> u32
+pub(crate) fn table_refusal(n: usize, dilutions: &[u32], counts: &[u32], size: usize) -> u32
     ensures { λ r. ⌜ r ≡ tableRefusal n (now (dilutions .entry)) (now (counts .entry)) size ⌝ }
 {
     if n < 2 {
@@ -58,7 +58,7 @@ pub fn table_refusal(n: usize, dilutions: &[u32], counts: &[u32], size: usize) -
 }
 
 // The numbers of a table that is not refused.
-pub fn put_table(n: usize, dilutions: &[u32], counts: &[u32], out: &mut [i64]) -> usize
+pub(crate) fn put_table(n: usize, dilutions: &[u32], counts: &[u32], out: &mut [i64]) -> usize
     requires { ⌜ Readable n (now dilutions) (now counts) (length (now out)) ⌝ }
     ensures { λ r. ⌜ Put (tableNumbersOf n (now (dilutions .entry)) (now (counts .entry))) 0 (now (out .entry)) (now (out .exit)) r ⌝ }
 {

@@ -11,8 +11,8 @@ use lib.Signed.{ltZ, nonNeg, natAbs-le}
 use mir.Syntax.{w64}
 use mir.Val.{SFits, toZ, ofZ}
 use mir.Facts.{toZ-ofZ}
-use Rattle.integer.specs.Laws.{natAbs-negℤ, natAbs--ℤ}
-use Rattle.integer.specs.Word.{held, negated, negated-held, sign-read}
+use Rattle.integer.specs.laws.Laws.{natAbs-negℤ, natAbs--ℤ}
+use Rattle.integer.specs.laws.Word.{held, negated, negated-held, sign-read}
 
 next-size : (z : ℤ) → ltZ z (pos 0) ≡ true → natAbs (z +ℤ pos 1) + 1 ≡ natAbs z
 next-size (pos n) e = absurd (not-suc-le-zero (ltb-true n 0 e))

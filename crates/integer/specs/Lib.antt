@@ -1,13 +1,7 @@
-pub mod Laws
-pub mod Ring
 pub mod Square
 pub mod Sum
-pub mod Minkowski
-pub mod Pair
 pub mod Dot
 pub mod Matrix
 pub mod Range
-pub mod Tests
 pub mod Tabulate
-pub mod Filled
-pub mod Word
+pub mod laws

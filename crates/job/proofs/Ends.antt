@@ -6,11 +6,11 @@ use mathlib.Core.List.{List}
 use mathlib.Core.Logic.{_⊎_}
 use lib.Dec.{leb, ltb, eqb, lit<, lit≤}
 use lib.ListN.{length, set, replicate}
-use Rattle.job.specs.FieldScan.{fieldAt, taggedAt}
+use Rattle.job.specs.inner.FieldScan.{fieldAt, taggedAt}
 use Rattle.job.specs.declared.field.Field.{Field}
 use Rattle.job.specs.declared.field.Field.the-variants.{Inner, Last}
 use Rattle.job.specs.Range.{parametersInRange}
-use Rattle.job.specs.LineScan.{malformedLine, numbersAt, lineAt, parametersOf, parametersAt, endingOf, endingAt}
+use Rattle.job.specs.inner.LineScan.{malformedLine, numbersAt, lineAt, parametersOf, parametersAt, endingOf, endingAt}
 use Rattle.job.specs.declared.sample.Line.{Line}
 use Rattle.job.specs.declared.first.Parameters.the-variants as P
 use Rattle.job.specs.declared.last.Ending.the-variants as E

@@ -8,10 +8,10 @@ use native.Mathlib.Omega.{arith}
 use borrow.Author.Tests.{ne-eqb, eqb-true, eqb-false}
 use lib.Dec.{eqb}
 use lib.ListN.{length, drop}
-use Rattle.text.specs.Numeral.{isDigit}
+use Rattle.text.specs.inner.Numeral.{isDigit}
 use Rattle.text.specs.Parts.{onto, split}
 use Rattle.text.specs.Range.{within}
-use Rattle.job.specs.FieldScan.{mayFollow, digitsFrom, fieldFrom}
+use Rattle.job.specs.inner.FieldScan.{mayFollow, digitsFrom, fieldFrom}
 use Rattle.job.specs.declared.field.Field.{Field}
 use Rattle.job.specs.declared.field.Field.the-variants.{Inner, Last, Bad}
 use Rattle.job.proofs.Numeral.{more, numeral}

@@ -9,10 +9,10 @@ use borrow.Author.Tests.{lt-ltb, le-ltb}
 use native.Mathlib.Omega.{arith}
 use lib.ListN.{length, getD, set}
 use lib.Seq.{slice, slice-cons, slice-empty, sets}
-use Rattle.job.specs.LineScan.{lineAt, sampleWithin}
+use Rattle.job.specs.inner.LineScan.{lineAt, sampleWithin}
 use Rattle.job.specs.declared.sample.Line.{Line}
 use Rattle.job.specs.declared.sample.Extent.the-variants.{To, Malformed}
-use Rattle.job.specs.Scan.{refusedReading, finishedAt, kept, sampleOf, samplesAt}
+use Rattle.job.specs.inner.Scan.{refusedReading, finishedAt, kept, sampleOf, samplesAt}
 use Rattle.job.specs.declared.Job.{Job}
 use Rattle.job.specs.declared.Reading.{Reading}
 

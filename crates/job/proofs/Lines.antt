@@ -9,10 +9,10 @@ use mathlib.Core.Logic.{_⊎_, ⊎-elim}
 use lib.ListN.{length, getD, set}
 use lib.Seq.{slice, slice-cons, slice-empty}
 use Rattle.text.specs.Range.{within, allWithin}
-use Rattle.job.specs.FieldScan.{fieldAt}
+use Rattle.job.specs.inner.FieldScan.{fieldAt}
 use Rattle.job.specs.declared.field.Field.{Field}
 use Rattle.job.specs.declared.field.Field.the-variants.{Inner, Last, Bad}
-use Rattle.job.specs.LineScan.{malformedLine, lastNumber, innerNumber, numbersAt}
+use Rattle.job.specs.inner.LineScan.{malformedLine, lastNumber, innerNumber, numbersAt}
 use Rattle.job.specs.declared.sample.Line.{Line}
 use Rattle.job.specs.declared.sample.Extent.the-variants.{To}
 use denote.Enum.Declared.{tagOf, declared}

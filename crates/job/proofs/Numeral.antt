@@ -9,9 +9,11 @@ use native.Mathlib.Omega.{arith}
 use borrow.Author.Tests.{le-ltb, lt-ltb, eqb-true, eqb-false}
 use lib.Dec.{leb, ltb, eqb, leb·zero, leb·suc-zero, leb·suc-suc, lit<}
 use lib.ListN.{length}
-use Rattle.text.specs.Numeral.{isDigit, leadingZero, valueFrom}
-use Rattle.text.specs.Range.{allWithin, is-within}
-use Rattle.job.specs.FieldScan.{mayFollow}
+use Rattle.text.specs.Numeral.{leadingZero, valueFrom}
+use Rattle.text.specs.inner.Numeral.{isDigit}
+use Rattle.text.specs.Range.{allWithin}
+use Rattle.text.specs.laws.Range.{is-within}
+use Rattle.job.specs.inner.FieldScan.{mayFollow}
 use Rattle.job.specs.Text.{numberOf}
 
 unfoldable pub more : ℕ → List ℕ → Option ℕ

@@ -10,16 +10,17 @@ use borrow.Author.Tests.{ne-eqb, eqb-true}
 use lib.Dec.{eqb}
 use lib.ListN.{length, drop, set, replicate}
 use lib.Seq.{sets, drop-drop}
-use Rattle.integer.specs.Tests.{cond-same}
+use Rattle.integer.specs.laws.Tests.{cond-same}
 use Rattle.text.specs.Parts.{onto, split, before}
-use Rattle.text.specs.Range.{both}
-use Rattle.job.specs.FieldScan.{fieldAt, taggedFrom, taggedAt}
+use Rattle.text.specs.laws.Range.{both}
+use Rattle.job.specs.inner.FieldScan.{fieldAt, taggedFrom, taggedAt}
 use Rattle.job.specs.Text.{numberOf, numbersOf, isTag, recordOf, lineOf}
-use Rattle.job.specs.LineScan.{malformedLine, lastNumber, innerNumber, numbersAt, lineAt}
+use Rattle.job.specs.inner.LineScan.{malformedLine, lastNumber, innerNumber, numbersAt, lineAt}
 use Rattle.job.specs.declared.sample.Line.{Line}
 use Rattle.job.specs.declared.sample.Extent.the-variants.{To}
 use Rattle.job.proofs.Numeral.{number-is}
-use Rattle.job.proofs.Fields.{End, tab, feed, over, Cut, at-tab, at-feed, at-over, past, cut-of, ended, field-cut, drop-cut, split-tab, split-feed, split-over}
+use Rattle.job.proofs.Fields.{End, tab, feed, over, Cut, at-tab, at-feed, at-over, past, cut-of, ended, field-cut, drop-cut, split-tab}
+use Rattle.job.proofs.Fields.{split-feed, split-over}
 
 -- The first of the lines, read as one with this tag: it has to have a line feed, so another part follows it.
 unfoldable pub lineIn : ℕ → ℕ → List (List ℕ) → Option (List ℕ)

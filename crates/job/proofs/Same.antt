@@ -11,9 +11,10 @@ use native.Mathlib.Nat.{zero-mul}
 use lib.ListN.{length, getD, drop, set, replicate, length-drop, length-append, List·getD-append}
 use lib.Seq.{sets, sets-eq, slice, take-at}
 use Rattle.text.specs.Parts.{onto, split}
-use Rattle.text.specs.Range.{within, both, is-within}
+use Rattle.text.specs.Range.{within}
+use Rattle.text.specs.laws.Range.{both, is-within}
 use Rattle.job.specs.Range.{parametersInRange, sampleInRange}
-use Rattle.job.specs.LineScan.{lineAt, sampleWithin, parametersOf, parametersAt, endingOf, endingAt}
+use Rattle.job.specs.inner.LineScan.{lineAt, sampleWithin, parametersOf, parametersAt, endingOf, endingAt}
 use Rattle.job.specs.declared.sample.Line.{Line}
 use Rattle.job.specs.declared.sample.Extent.{Extent}
 use Rattle.job.specs.declared.sample.Extent.the-variants.{To, Malformed}
@@ -22,7 +23,8 @@ use Rattle.job.specs.declared.last.Ending.the-variants as Last
 use Rattle.job.proofs.Records.{lineIn, Reads, bad, good, Cons, split-cons, line-read}
 use Rattle.job.specs.Job.{Job, Answer, refused, accepted, withSample, nextLine, nothing, ended, judged, after, begun, jobOfLines, jobOf}
 use Rattle.job.specs.Reading.{padded, inArrays, readingOf}
-use Rattle.job.specs.Scan.{newJob, refusedReading, finishedBy, finishedAt, kept, sampleOf, samplesAt, readingBy, readingAt}
+use Rattle.job.specs.inner.Scan.{newJob, refusedReading, finishedBy, finishedAt, kept, sampleOf, samplesAt}
+use Rattle.job.specs.laws.Scan.{readingBy, readingAt}
 use Rattle.job.specs.declared.Reading.{Reading}
 use Rattle.job.proofs.Keeping.{kept-within}
 use Rattle.job.proofs.Padding.{padded-more}

@@ -9,7 +9,7 @@ use borrow.Author.Tests.{eq-eqb, ne-eqb}
 use lib.Dec.{eqb}
 use lib.ListN.{length, getD, drop, length-drop}
 use lib.Seq.{drop-cons}
-use Rattle.job.specs.FieldScan.{taggedFrom, taggedAt}
+use Rattle.job.specs.inner.FieldScan.{taggedFrom, taggedAt}
 
 short : (tag : ℕ) (bs : List ℕ) → length bs ≤ 1 → false ≡ taggedFrom tag bs
 unfolding taggedFrom

@@ -1,11 +1,8 @@
 pub mod Job
 pub mod Values
 pub mod Reading
-pub mod Scan
-pub mod Examples
 pub mod Reply
-pub mod Replying
-pub mod FieldScan
 pub mod Range
 pub mod Text
-pub mod LineScan
+pub mod inner
+pub mod laws

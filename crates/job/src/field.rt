@@ -1,16 +1,16 @@
 // A field of a line of job text: a tag, or a number and what ends it. Document 01, "Job text and report".
 ghost use mathlib.Core.Path.{_≡_};
 ghost use Rattle.text.specs.Range.{within};
-ghost use Rattle.job.specs.FieldScan.{taggedAt, mayFollow, digitsAt, fieldAt};
+ghost use Rattle.job.specs.inner.FieldScan.{taggedAt, mayFollow, digitsAt, fieldAt};
 
-pub fn is_within(low: u32, high: u32, x: u32) -> bool
+pub(crate) fn is_within(low: u32, high: u32, x: u32) -> bool
     ensures { λ r. ⌜ r ≡ within low high x ⌝ }
 {
     if x < low { false } else { x <= high }
 }
 
 // Whether the tag and a tab stand at a place of the text.
-pub fn tagged(text: &[u8], at: usize, tag: u8) -> bool
+pub(crate) fn tagged(text: &[u8], at: usize, tag: u8) -> bool
     ensures { λ r. ⌜ r ≡ taggedAt (now (text .entry)) at tag ⌝ }
 {
     if text.len() <= at {
@@ -79,7 +79,7 @@ fn digits(text: &[u8], from: usize, start: u32) -> Field
 }
 
 // The field that starts at a place of the text.
-pub fn number(text: &[u8], at: usize) -> Field
+pub(crate) fn number(text: &[u8], at: usize) -> Field
     ensures { λ r. ⌜ r ≡ fieldAt (now (text .entry)) at ⌝ }
 {
     if text.len() <= at {

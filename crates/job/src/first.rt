@@ -1,10 +1,10 @@
 // The line `P`.
-use crate::ranges::parameters_within;
 use crate::field::Field;
 use crate::field::number;
 use crate::field::tagged;
+use crate::ranges::parameters_within;
 ghost use mathlib.Core.Path.{_≡_};
-ghost use Rattle.job.specs.LineScan.{parametersAt};
+ghost use Rattle.job.specs.inner.LineScan.{parametersAt};
 
 pub enum Parameters {
     // The refusal's number.
@@ -17,7 +17,7 @@ pub enum Parameters {
     },
 }
 
-pub fn first_line(text: &[u8]) -> Parameters
+pub(crate) fn first_line(text: &[u8]) -> Parameters
     ensures { λ r. ⌜ r ≡ parametersAt (now (text .entry)) ⌝ }
 {
     if !tagged(text, 0, b'P') {

@@ -3,7 +3,7 @@ use crate::field::Field;
 use crate::field::number;
 use crate::field::tagged;
 ghost use mathlib.Core.Path.{_≡_};
-ghost use Rattle.job.specs.LineScan.{endingAt};
+ghost use Rattle.job.specs.inner.LineScan.{endingAt};
 
 pub enum Ending {
     Accepted,
@@ -12,7 +12,7 @@ pub enum Ending {
 }
 
 // The line that starts at a place of the text, as the last of a job of k samples.
-pub fn last_line(text: &[u8], at: usize, k: usize) -> Ending
+pub(crate) fn last_line(text: &[u8], at: usize, k: usize) -> Ending
     ensures { λ r. ⌜ r ≡ endingAt (now (text .entry)) at k ⌝ }
 {
     if !tagged(text, at, b'E') {

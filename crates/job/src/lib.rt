@@ -13,7 +13,7 @@ use samples::samples;
 ghost use mathlib.Core.Path.{_≡_};
 ghost use Rattle.job.specs.Job.{jobOf};
 ghost use Rattle.job.specs.Reading.{readingOf};
-ghost use Rattle.job.specs.Scan.{newJob, refusedReading};
+ghost use Rattle.job.specs.inner.Scan.{newJob, refusedReading};
 
 // A job: the first k dilutions and the first k × n counts, n to a sample, are those of its samples, and the others are 0.
 pub struct Job {

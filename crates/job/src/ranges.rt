@@ -5,10 +5,10 @@ ghost use Prim.Native.Nat.{_+_, _≤_};
 ghost use lib.Seq.{slice};
 ghost use Rattle.text.specs.Range.{allWithin};
 ghost use Rattle.job.specs.Range.{parametersInRange};
-ghost use Rattle.job.specs.LineScan.{sampleWithin};
+ghost use Rattle.job.specs.inner.LineScan.{sampleWithin};
 
 // "`P` n (2..8), sweep limit (1..16), tolerance t in units (0..1,048,576)."
-pub fn parameters_within(n: u32, limit: u32, tolerance: u32) -> bool
+pub(crate) fn parameters_within(n: u32, limit: u32, tolerance: u32) -> bool
     ensures { λ r. ⌜ r ≡ parametersInRange n limit tolerance ⌝ }
 {
     if !is_within(2, 8, n) {
@@ -36,7 +36,7 @@ fn counts_within(numbers: [u32; 9], n: usize) -> bool
 }
 
 // "dilution (1..100) and n counts (0..65,535)"
-pub fn sample_within(numbers: [u32; 9], n: usize) -> bool
+pub(crate) fn sample_within(numbers: [u32; 9], n: usize) -> bool
     requires { ⌜ n ≤ 8 ⌝ }
     ensures { λ r. ⌜ r ≡ sampleWithin n numbers ⌝ }
 {

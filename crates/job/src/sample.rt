@@ -5,7 +5,7 @@ use crate::field::tagged;
 ghost use mathlib.Core.Path.{_≡_};
 ghost use Prim.Native.Nat.{_≤_};
 ghost use lib.ListN.{replicate};
-ghost use Rattle.job.specs.LineScan.{malformedLine, numbersAt, lineAt};
+ghost use Rattle.job.specs.inner.LineScan.{malformedLine, numbersAt, lineAt};
 
 pub enum Extent {
     // The place after the line feed that ends the line.
@@ -55,7 +55,7 @@ fn numbers_at(text: &[u8], from: usize, inner: usize) -> Line
 }
 
 // The line that starts at a place of the text, as a sample of n counts.
-pub fn sample_line(text: &[u8], at: usize, n: usize) -> Line
+pub(crate) fn sample_line(text: &[u8], at: usize, n: usize) -> Line
     requires { ⌜ n ≤ 8 ⌝ }
     ensures { λ r. ⌜ r ≡ lineAt (now (text .entry)) at 83 n ⌝ }
 {

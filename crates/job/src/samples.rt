@@ -2,16 +2,16 @@
 use crate::Job;
 use crate::Outcome;
 use crate::Reading;
-use crate::refused;
 use crate::last::Ending;
 use crate::last::last_line;
 use crate::ranges::sample_within;
+use crate::refused;
 use crate::sample::Extent;
 use crate::sample::sample_line;
 ghost use mathlib.Core.Path.{_≡_};
 ghost use Prim.Native.Nat.{_+_, _-_, _≤_};
 ghost use lib.Seq.{slice, sets};
-ghost use Rattle.job.specs.Scan.{finishedAt, samplesAt};
+ghost use Rattle.job.specs.inner.Scan.{finishedAt, samplesAt};
 
 // The n counts of a sample are kept from a place on.
 fn keep(counts: &mut [u32; 2048], numbers: [u32; 9], from: usize, n: usize)
@@ -44,7 +44,7 @@ fn finish(text: &[u8], at: usize, job: Job) -> Reading
 }
 
 // The lines from a place of the text on, after the samples of a job.
-pub fn samples(text: &[u8], from: usize, start: Job) -> Reading
+pub(crate) fn samples(text: &[u8], from: usize, start: Job) -> Reading
     requires { ⌜ (start .k ≤ 256) × (start .n ≤ 8) ⌝ }
     ensures { λ r. ⌜ r ≡ samplesAt (257 - start .k) (now (text .entry)) from start ⌝ }
 {

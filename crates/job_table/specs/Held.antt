@@ -1,11 +1,9 @@
 -- A job and its table: the job that arrays hold, and the table of its samples.
-use Prim.Native.Nat.{ℕ, _*_, _≤_}
-use mathlib.Core.List.{List}
+use Prim.Native.Nat.{_*_, _≤_}
 use lib.ListN.{length, take}
 use Rattle.job.specs.Job.{Job}
 use Rattle.job.specs.Values.{Proper}
 use Rattle.job.specs.declared.Job as arrays
-use Rattle.sums.specs.Ranges.{Readings}
 use Rattle.sums.specs.Samples.{samples, sumsOf}
 use Rattle.scatter.specs.Table.{tableOf}
 use Rattle.sums.specs.declared.Sums.{Sums}
@@ -27,13 +25,6 @@ pub record Held (a : arrays.Job) : Type 0 where
   pub proper : Proper (jobIn a)
   pub dilutions : a .k ≤ length (a .dilutions)
   pub counts : a .k * a .n ≤ length (a .counts)
-
--- The same of k samples of n counts in two arrays
-pub record Within (n k : ℕ) (dilutions counts : List ℕ) : Type 0 where
-  pub readings : Readings n (take k dilutions) (take (k * n) counts)
-  pub some : k ≤ length dilutions
-  pub counted : k * n ≤ length counts
-  pub few : k * n ≤ 2048
 
 unfoldable pub sumsFor : Job → Sums
 sumsFor j = sumsOf (samples (j .n) (j .dilutions) (j .counts))

@@ -1,6 +1,4 @@
 pub mod Held
-pub mod Laws
 pub mod Table
-pub mod Done
-pub mod Rows
-pub mod TextLaws
+pub mod inner
+pub mod laws

@@ -9,7 +9,8 @@ ghost use lib.ListN.{take};
 ghost use Prim.Native.Nat.{_*_};
 ghost use Rattle.sums.specs.Samples.{samples, sumsOf};
 ghost use Rattle.scatter.specs.Table.{tableOf};
-ghost use Rattle.job_table.specs.Held.{Held, Within, jobIn, tableFor};
+ghost use Rattle.job_table.specs.Held.{Held, jobIn, tableFor};
+ghost use Rattle.job_table.specs.inner.Held.{Within};
 
 // That of the first k dilutions and the first k × n counts. The arrays are lent, since a copy of them costs more than a small table.
 fn table_in<'a>(n: usize, k: usize, dilutions: &'a [u32], counts: &'a [u32]) -> Table

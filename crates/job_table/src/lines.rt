@@ -9,7 +9,7 @@ ghost use Rattle.job.specs.Reply.{Answers, Replies, printedOf};
 ghost use Rattle.job_table.specs.Held.{Held, jobIn};
 ghost use Rattle.text.specs.Put.{Put, Sized};
 ghost use Rattle.text.specs.Rows.{Wide};
-ghost use Rattle.job_table.specs.Done.{textOf};
+ghost use Rattle.job_table.specs.inner.Done.{textOf};
 ghost use Rattle.job_table.specs.Table.{tableText};
 
 fn text_length(head: &[i64; 3], n: usize, rows: &[[i64; 11]; 8]) -> usize

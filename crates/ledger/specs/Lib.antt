@@ -1,14 +1,7 @@
 pub mod Call
 pub mod Refusal
 pub mod Pairs
-pub mod Order
 pub mod Ledger
 pub mod Axis
-pub mod Accepted
-pub mod Cyclic
-pub mod Near
 pub mod Sound
-pub mod Loaded
-pub mod Turned
-pub mod Rows
-pub mod Invariant
+pub mod laws

@@ -11,9 +11,11 @@ use lib.Seq.{length-take-le}
 use Rattle.text.specs.Parts.{split}
 use Rattle.record.specs.Kept.{Kept}
 use Rattle.record.specs.declared.Record.{Record}
-use Rattle.text.specs.Put.{Put, fitted, front-length, put-then, same-size}
+use Rattle.text.specs.Put.{Put, fitted}
+use Rattle.text.specs.laws.Put.{front-length, put-then, same-size}
 use Rattle.play.specs.Buffer.{PlaysAll, bufferOf, outputOf}
-use Rattle.play.specs.Steps.{Reached, printedBy, stepped}
+use Rattle.play.specs.Steps.{Reached, stepped}
+use Rattle.play.specs.laws.Steps.{printedBy}
 use Rattle.play.specs.Text.{played, playedFrom}
 use Rattle.play.specs.declared.Output.the-variants.{Written, TooShort}
 use Rattle.play.specs.declared.Stepped.{Stepped}

@@ -18,12 +18,12 @@ use Rattle.record.specs.declared.Step.{Step}
 use Rattle.call_text.specs.Answers.{rowOf}
 use Rattle.call_text.specs.declared.answer.Played.{Played}
 use Rattle.call_text.specs.Calls.{callBy, loadOf, oneOf, sweepOf, turnOf}
-use Rattle.call_text.specs.Read.{found, unsignedIs}
+use Rattle.call_text.specs.inner.Read.{found, unsignedIs}
 use Rattle.call_text.specs.declared.field.Unsigned.{Unsigned}
 use Rattle.call_text.specs.declared.field.Unsigned.the-variants.{Is, No}
 use Rattle.call_text.specs.declared.line.Line.{Line}
 use Rattle.call_text.proofs.Digits.{read-some, read-none}
-use Rattle.play.specs.Played.{Plays, doneOf, playedBy, wholeOf}
+use Rattle.play.specs.inner.Played.{Plays, doneOf, playedBy, wholeOf}
 
 pub plays-as : {r : Record} {z : Played} (o p : Option Call) → o ≡ p → Plays r p z → Plays r o z
 plays-as o p e h = rw e h

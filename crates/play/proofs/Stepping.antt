@@ -14,9 +14,9 @@ use Rattle.call_text.specs.Answers.{answerLine, linePrinted, shown}
 use Rattle.call_text.specs.declared.answer.Played.{Played}
 use Rattle.call_text.specs.declared.answer.Printed.{Printed}
 use Rattle.call_text.specs.Calls.{callOf}
-use Rattle.call_text.specs.Parts.{front}
+use Rattle.call_text.specs.inner.Parts.{front}
 use Rattle.call_text.proofs.Splitting.{partsAfter, parts-end, parts-more, split-front, take-front}
-use Rattle.play.specs.Played.{playedBy}
+use Rattle.play.specs.inner.Played.{playedBy}
 use Rattle.play.specs.Steps.{onward, stepped, stopped}
 use Rattle.play.specs.Text.{unknownLine}
 

@@ -15,9 +15,10 @@ use Rattle.record.specs.Kept.{Kept}
 use Rattle.record.specs.declared.Record.{Record}
 use Rattle.call_text.specs.Answers.{linePrinted}
 use Rattle.call_text.specs.Calls.{callOf}
-use Rattle.call_text.specs.Parts.{front}
+use Rattle.call_text.specs.inner.Parts.{front}
 use Rattle.call_text.proofs.Splitting.{partsAfter, parts-end, parts-more, split-front}
-use Rattle.play.specs.Steps.{Reached, onward, printedBy, stepped, stopped}
+use Rattle.play.specs.Steps.{Reached, onward, stepped, stopped}
+use Rattle.play.specs.laws.Steps.{printedBy}
 use Rattle.play.specs.Text.{answered, playedFrom, unknownLine}
 use Rattle.play.specs.declared.Stepped.{Stepped}
 

@@ -5,11 +5,11 @@ use mathlib.Core.Bool.{true, false, cond}
 use mathlib.Core.List.{List, [], _∷_, _++_}
 use mathlib.Core.Option.{Option, none, some}
 use lib.Dec.{eqb}
-use lib.ListN.{drop, length, take}
+use lib.ListN.{drop, length}
 use Rattle.text.specs.Parts.{split}
 use Rattle.ledger.specs.Call.{Call}
 use Rattle.record.specs.Kept.{Kept}
-use Rattle.record.specs.Record.{afterOf, fresh}
+use Rattle.record.specs.Record.{afterOf}
 use Rattle.record.specs.declared.Record.{Record}
 use Rattle.call_text.specs.Answers.{answerLine, linePrinted}
 use Rattle.call_text.specs.Calls.{callOf}
@@ -30,21 +30,12 @@ stepped r k at [] = stopped r at []
 stepped r k at (part ∷ []) = cond (eqb (length part) 0) (stopped r at []) (stopped r at (unknownLine k))
 stepped r k at (line ∷ part ∷ parts) = onward r k at (length line) (callOf line)
 
--- the bytes that a step prints
-unfoldable pub printedBy : Stepped → List ℕ
-printedBy z = take (z .line .len) (z .line .bytes)
-
 -- A place of a text that the lines before it lead to, with the record that they leave: what they have printed, and then what the lines
 -- from this one on, which is line k, print on that record, is what the text prints.
 pub record Reached (text : List ℕ) (r : Record) (at k : ℕ) : Type 0 where
   pub before : List ℕ
   pub is : played text ≡ before ++ playedFrom r k (split 10 (drop at text))
   pub keeps : Kept r
-
--- the text's start, with a fresh record
-unfoldable pub start : (text : List ℕ) {r : Record} → r ≡ fresh → Kept r → Reached text r 0 1
-unfolding played
-start text e keeps = record { before = []; is = rw e; keeps = keeps }
 
 -- what a step ensures: line k, at a place of the text
 pub record Steps (r : Record) (text : List ℕ) (at k : ℕ) (z : Stepped) : Type 0 where

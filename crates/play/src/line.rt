@@ -11,10 +11,10 @@ ghost use Prim.Native.Nat.{_≤_, _<_};
 ghost use lib.IntN.{pos};
 ghost use lib.ListN.{getD, length, take};
 ghost use Rattle.call_text.specs.Calls.{loadOf, oneOf, sweepOf, turnOf};
-ghost use Rattle.call_text.specs.Read.{found, unsignedIs};
+ghost use Rattle.call_text.specs.inner.Read.{found, unsignedIs};
 ghost use Rattle.ledger.specs.Call.{axis, loosePair};
 ghost use Rattle.record.specs.Kept.{Kept};
-ghost use Rattle.play.specs.Played.{Plays, doneOf, wholeOf};
+ghost use Rattle.play.specs.inner.Played.{Plays, doneOf, wholeOf};
 
 // A line that is no call leaves the record as it was.
 fn unknown(r: Record) -> Played
@@ -131,7 +131,7 @@ fn axis(r: Record, numbers: &[i64], count: usize) -> Played
     }
 }
 
-pub fn play_line(r: Record, line: Line) -> Played
+pub(crate) fn play_line(r: Record, line: Line) -> Played
     requires { ⌜ (line .count ≤ 101) × Kept r ⌝ }
     ensures { λ z. ⌜ Plays r (found line) z ⌝ }
 {

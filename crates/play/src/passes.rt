@@ -10,7 +10,7 @@ ghost use Rattle.play.specs.Text.{played};
 ghost use Rattle.text.specs.Put.{Put};
 
 // It stops at the line that is too long, so that no sum is above `most`.
-pub fn fits(text: &[u8], most: usize) -> bool
+pub(crate) fn fits(text: &[u8], most: usize) -> bool
     ensures { λ r. ⌜ r ≡ leb (length (played (now (text .entry)))) most ⌝ }
 {
     let mut r = Record::new();
@@ -35,7 +35,7 @@ pub fn fits(text: &[u8], most: usize) -> bool
     }
 }
 
-pub fn put_played(text: &[u8], buf: &mut [u8]) -> usize
+pub(crate) fn put_played(text: &[u8], buf: &mut [u8]) -> usize
     requires { ⌜ length (played (now text)) ≤ length (now buf) ⌝ }
     ensures { λ r. ⌜ Put (played (now (text .entry))) 0 (now (buf .entry)) (now (buf .exit)) r ⌝ }
 {

@@ -7,11 +7,13 @@ use native.Mathlib.Omega.{arith}
 use lib.IntN.{ℤ, pos}
 use lib.ListN.{getD, set}
 use borrow.Author.Tests.{le-ltb}
-use Rattle.integer.specs.Matrix.{diagonal, diagonal-same, diagonal-other}
-use Rattle.turn.specs.Eight.{square-cong}
-use Rattle.turn.specs.Stored.{store, stored, stored-column, stored-here, stored-row}
+use Rattle.integer.specs.Matrix.{diagonal}
+use Rattle.integer.specs.laws.Matrix.{diagonal-same, diagonal-other}
+use Rattle.turn.specs.laws.Eight.{square-cong}
+use Rattle.turn.specs.laws.Stored.{store, stored, stored-column, stored-here, stored-row}
 use Rattle.turn.specs.Turn.{square}
-use Rattle.turn.specs.InUse.{inUse, Use, inside, outside, use-of, inUse-inside, inUse-outside}
+use Rattle.turn.specs.InUse.{inUse}
+use Rattle.turn.specs.laws.InUse.{Use, inside, outside, use-of, inUse-inside, inUse-outside}
 
 module _ (k : ℤ) where
   off-diagonal : (n i j : ℕ) → (i ≡ j → ⊥) → inUse n (diagonal k) i j ≡ pos 0

@@ -12,8 +12,9 @@ use lib.ListN.{length, getD, drop}
 use lib.Seq.{drop-cons}
 use lib.Signed.{ltZ, leZ}
 use borrow.Author.Tests.{ltb-true, ltb-false, le-leb, lt-leb, eq-eqb}
-use Rattle.integer.specs.Range.{all, below, from-each}
-use Rattle.ledger.specs.Accepted.{equal-of, equal-same}
+use Rattle.integer.specs.Range.{all}
+use Rattle.integer.specs.laws.Range.{below, from-each}
+use Rattle.ledger.specs.laws.Accepted.{equal-of, equal-same}
 use Rattle.ledger.specs.Call.{load}
 use Rattle.limits.specs.Limits.{entryLimit}
 use Rattle.ledger.specs.Refusal.{equal, refusalOf, symmetric, unless, within}

@@ -10,9 +10,9 @@ use lib.IntN.{pos}
 use lib.ListN.{getD, set}
 use borrow.Author.Tests.{eq-eqb, le-ltb, lt-ltb, ne-eqb}
 use Rattle.integer.specs.Matrix.{Matrix}
-use Rattle.integer.specs.Tests.{cond-same, next-test}
-use Rattle.turn.specs.Eight.{square-cong}
-use Rattle.turn.specs.Stored.{store, stored, stored-column, stored-here, stored-row}
+use Rattle.integer.specs.laws.Tests.{cond-same, next-test}
+use Rattle.turn.specs.laws.Eight.{square-cong}
+use Rattle.turn.specs.laws.Stored.{store, stored, stored-column, stored-here, stored-row}
 use Rattle.turn.specs.Turn.{eight, square}
 use Rattle.turn.specs.InUse.{inUse}
 use Rattle.record.specs.Blank.{blank}

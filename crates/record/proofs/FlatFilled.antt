@@ -8,9 +8,10 @@ use lib.IntN.{ℤ, pos}
 use lib.ListN.{getD, length-set, replicate, set}
 use lib.Seq.{ext-getD, getD-set-other, getD-set-same}
 use Rattle.integer.specs.Matrix.{Matrix}
-use Rattle.integer.specs.Tabulate.{getD-tabulate, length-tabulate, tabulate}
-use Rattle.turn.specs.Eight.{at-eight}
-use Rattle.turn.specs.Stored.{stored, stored-column, stored-here, stored-row}
+use Rattle.integer.specs.Tabulate.{tabulate}
+use Rattle.integer.specs.laws.Tabulate.{getD-tabulate, length-tabulate}
+use Rattle.turn.specs.laws.Eight.{at-eight}
+use Rattle.turn.specs.laws.Stored.{stored, stored-column, stored-here, stored-row}
 use Rattle.turn.specs.InUse.{inUse}
 use Rattle.turn.specs.Turn.{at, square}
 use Rattle.record.proofs.Filled.{all, filledTo, one, row}

@@ -15,7 +15,8 @@ use ghost.Atoms.{Atoms, sem}
 use contract.Lifetimes.{Lfts, Shares, toks}
 use contract.Monad.{fact}
 use contract.Running.{GhostRules, Running, givenOf, tables, tablesOf}
-use types.Kit.{Given, ‵, raw, _⊛_, some, later, _$_, _∵_, !, qed, by, move, drop, use0, use1, split, join, pick, fsplit, fsplit3, fjoin, fjoin3, feqI, rewrite, suffices, frame, show, await, updating, now as at-once, done}
+use types.Kit.{Given, ‵, raw, _⊛_, some, later, _$_, _∵_, !, qed, by, move, drop, use0, use1, split, join, pick, fsplit, fsplit3, fjoin, fjoin3, feqI}
+use types.Kit.{rewrite, suffices, frame, show, await, updating, now as at-once, done}
 use types.SemTy.{Body}
 use sound.WpLaws.{FmC, fmOf, WpFn-mono}
 use denote.RattleType.{RattleType, Denots, owns, flat}
@@ -35,7 +36,8 @@ use denote.Triple.Walked.{says, needs, Stays, stay-ref, walkOf, goes-ref, ends-a
 use Rattle.record.specs.Kept.{Kept}
 use Rattle.record.specs.declared.Record.{Record}
 use Rattle.record.proofs.Record as Rec
-use Rattle.record.proofs.Handed.{Handed, Args, own-slots, callee-slots, own-kept, callee-kept, dropped, dropped-go, spells, tellss, machine, callee-args, callee-machine, owned-alike, ends, fit, none-had, passed, values-alike}
+use Rattle.record.proofs.Handed.{Handed, Args, own-slots, callee-slots, own-kept, callee-kept, dropped, dropped-go, spells, tellss, machine}
+use Rattle.record.proofs.Handed.{callee-args, callee-machine, owned-alike, ends, fit, none-had, passed, values-alike}
 use Rattle.record.proofs.LentCall.{StepLaws, record-value, lent-code, lent-walk}
 use Rattle.record.proofs.Parameters.{values}
 

@@ -9,18 +9,18 @@ use borrow.Author.Tests.{eq-eqb, ne-eqb}
 use Rattle.ledger.specs.Call.{Call}
 use Rattle.ledger.specs.Refusal.{refusalOf}
 use Rattle.turn.specs.Size.{Small}
-use Rattle.record.specs.Turning.{matrix-small}
+use Rattle.record.specs.laws.Turning.{matrix-small}
 use Rattle.record.specs.Worked.{Ready, workAt}
 use Rattle.record.specs.declared.query.Answer.{Answer}
 use Rattle.record.specs.declared.query.Answer.the-variants.{Refused}
-use Rattle.record.specs.After.{after-kept}
+use Rattle.record.specs.laws.After.{after-kept}
 use Rattle.record.specs.Done.{Done}
 use Rattle.record.specs.Flat.{rowsOf}
 use Rattle.record.specs.Kept.{Kept}
 use Rattle.record.specs.Record.{acceptedOf, afterOf, answerOf, refusedOf, valueOf, workOf}
 use Rattle.record.specs.declared.Record.{Record}
 use Rattle.record.specs.declared.Step.{Step}
-use Rattle.record.specs.Fill.{shaped-rows}
+use Rattle.record.specs.laws.Fill.{shaped-rows}
 
 module _ (r : Record) (call : Call) (k : Kept r) (number : ℕ) (e : number ≡ refusalOf (r .n) (r .m) call) where
   pub refused : (next : Record) → (number ≡ 0 → ⊥) → next ≡ refusedOf r → Done r call (Refused number) next

@@ -5,15 +5,15 @@ use Prim.Native.Nat.{ℕ, _+_, _≤_, _<_}
 use native.Mathlib.Omega.{arith}
 use lib.Dec.{leb, leb→le}
 use lib.ListN.{length}
-use Rattle.integer.specs.Range.{below}
+use Rattle.integer.specs.laws.Range.{below}
 use Rattle.ledger.specs.Pairs.{Pair, cyclic, row, rowsFrom}
-use Rattle.turn.specs.Eight.{shaped-square}
+use Rattle.turn.specs.laws.Eight.{shaped-square}
 use Rattle.turn.specs.Shape.{Shaped}
 use Rattle.turn.specs.Turn.{array, turnAxes, turnMatrix}
 use Rattle.choice.specs.declared.Choice.{Choice}
 use Rattle.choice.specs.declared.Choice.the-variants.{NoTurn, Turn}
 use Rattle.record.specs.KeptWork.{KeptWork}
-use Rattle.record.specs.Turning.{work-grows, work-keeps}
+use Rattle.record.specs.laws.Turning.{work-grows, work-keeps}
 use Rattle.record.specs.Work.{Work, chosen, workBy, workPair, workPairs}
 
 -- after a turn the rows have their shape, as before it

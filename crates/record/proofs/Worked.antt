@@ -4,7 +4,7 @@ use mathlib.Core.Bool.{Bool}
 use Prim.Native.Nat.{ℕ, _≤_}
 use native.Mathlib.Omega.{arith}
 use Rattle.ledger.specs.Pairs.{Pair}
-use Rattle.choice.specs.Chosen.{chosen-from}
+use Rattle.choice.specs.laws.Chosen.{chosen-from}
 use Rattle.choice.specs.declared.Choice.the-variants.{NoTurn, Turn}
 use Rattle.record.specs.Work.{Work, chosen, workBy, workPair}
 

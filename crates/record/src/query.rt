@@ -23,7 +23,7 @@ pub enum Answer {
     Refused(u32),
 }
 
-pub fn loose_pair_refusal(n: usize, t: u64) -> u32
+pub(crate) fn loose_pair_refusal(n: usize, t: u64) -> u32
     ensures { λ r. ⌜ r ≡ refusalOf n 0 (loosePair t) ⌝ }
 {
     if n == 0 {
@@ -35,7 +35,7 @@ pub fn loose_pair_refusal(n: usize, t: u64) -> u32
     0
 }
 
-pub fn axis_refusal(n: usize, i: usize) -> u32
+pub(crate) fn axis_refusal(n: usize, i: usize) -> u32
     ensures { λ r. ⌜ r ≡ refusalOf n 0 (axis i) ⌝ }
 {
     if n == 0 {

@@ -18,7 +18,7 @@ pub fn row(a: &[i64; 64], i: usize) -> [i64; 8]
     row
 }
 
-pub fn unpacked(a: &[i64; 64]) -> [[i64; 8]; 8]
+pub(crate) fn unpacked(a: &[i64; 64]) -> [[i64; 8]; 8]
     ensures { λ r. ⌜ r ≡ rowsOf (now (a .entry)) ⌝ }
 {
     [
@@ -33,7 +33,7 @@ pub fn unpacked(a: &[i64; 64]) -> [[i64; 8]; 8]
     ]
 }
 
-pub fn packed(b: [[i64; 8]; 8]) -> [i64; 64]
+pub(crate) fn packed(b: [[i64; 8]; 8]) -> [i64; 64]
     ensures { λ r. ⌜ r ≡ flatOf (at b) ⌝ }
 {
     let mut a = [0i64; 64];

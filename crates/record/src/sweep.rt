@@ -12,7 +12,7 @@ ghost use Rattle.record.specs.Work.{workPair, workPairs};
 use choice::Choice;
 use turn::pair::Rotation;
 
-pub fn turn_refusal(n: usize, m: u64, p: usize, q: usize) -> u32
+pub(crate) fn turn_refusal(n: usize, m: u64, p: usize, q: usize) -> u32
     ensures { λ r. ⌜ r ≡ refusalOf n m (turn p q) ⌝ }
 {
     if n == 0 {
@@ -33,7 +33,7 @@ pub fn turn_refusal(n: usize, m: u64, p: usize, q: usize) -> u32
     0
 }
 
-pub fn sweep_refusal(n: usize, m: u64) -> u32
+pub(crate) fn sweep_refusal(n: usize, m: u64) -> u32
     requires { ⌜ (n ≤ 8) × (m ≤ 448) ⌝ }
     ensures { λ r. ⌜ r ≡ refusalOf n m sweep ⌝ }
 {
@@ -55,7 +55,7 @@ fn choice_at(a: &[[i64; 8]; 8], p: usize, q: usize) -> Choice
 }
 
 // The pair p < q chosen, and turned if a turn was chosen, in lent rows. The answer is m after it.
-pub fn work_pair(
+pub(crate) fn work_pair(
     matrix: &mut [[i64; 8]; 8],
     axes: &mut [[i64; 8]; 8],
     n: usize,

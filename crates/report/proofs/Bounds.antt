@@ -6,11 +6,12 @@ use lib.ListN.{take}
 use Rattle.job.specs.Job.{Job}
 use Rattle.job.specs.Values.{Proper}
 use Rattle.job_table.specs.Held.{sumsFor, tableFor}
-use Rattle.job_table.specs.Laws.{channels, limit-most, tolerance-most}
+use Rattle.job_table.specs.laws.Laws.{channels, limit-most, tolerance-most}
 use Rattle.limits.specs.Limits.{turnLimit}
-use Rattle.run.specs.Calls.{Allowed, AsCalls, run-calls}
-use Rattle.run.specs.Course.{run-ends, run-kept}
-use Rattle.run.specs.Table.{table-allowed}
+use Rattle.run.specs.inner.Calls.{Allowed}
+use Rattle.run.specs.laws.Calls.{AsCalls, run-calls}
+use Rattle.run.specs.laws.Course.{run-ends, run-kept}
+use Rattle.run.specs.laws.Table.{table-allowed}
 use Rattle.report.specs.Certified.{loadedFor}
 use Rattle.report.specs.Report.{runFor}
 

@@ -10,7 +10,7 @@ use Rattle.job.proofs.Accepted.{accepted-proper}
 use Rattle.job.specs.Job.{Job, accepted}
 use Rattle.job.specs.Values.{Proper}
 use Rattle.ledger.specs.Call.{load, loosePair, sweep}
-use Rattle.ledger.specs.Invariant.{turnPairs-continues}
+use Rattle.ledger.specs.laws.Invariant.{turnPairs-continues}
 use Rattle.ledger.specs.Ledger as book
 use Rattle.ledger.specs.Ledger.{Ledger, State, empty, loaded, ledger, ledgerFrom, ledgerStep, sizeOf, turnsOf}
 use Rattle.ledger.specs.Pairs.{cyclic}
@@ -18,7 +18,7 @@ use Rattle.ledger.specs.Refusal.{refusalOf}
 use Rattle.record.specs.AxisNumbers.{axisValues}
 use Rattle.record.specs.Demand3 as three
 use Rattle.record.specs.Demand3.{AxisNear, Certifies}
-use Rattle.record.specs.Demand3proof.{demand-3}
+use Rattle.record.specs.laws.Demand3proof.{demand-3}
 use Rattle.run.specs.Calls.{callsOf, rounds}
 use Rattle.integer.specs.Matrix.{Matrix, matrixOf}
 use Rattle.report.specs.Certified.{AxisCertified, Certified, JobCertified, loadedFor}

@@ -7,13 +7,14 @@ use lib.IntN.{ℤ, pos}
 use Rattle.job.specs.Job.{Job}
 use Rattle.job.specs.Values.{Proper}
 use Rattle.ledger.specs.Call.{axis}
-use Rattle.record.specs.AxisNumbers.{axes-row, axesNumbers, axisNumbers, length-axes-row, two-before}
+use Rattle.record.specs.inner.AxisNumbers.{axesNumbers, axisNumbers}
+use Rattle.record.specs.laws.AxisNumbers.{axes-row, length-axes-row, two-before}
 use Rattle.record.specs.Record.{answerOf, axisOf}
 use Rattle.record.specs.declared.Record.{Record}
 use Rattle.text.specs.Line.{numberLine}
-use Rattle.text.specs.Lines.{lines-same}
+use Rattle.text.specs.laws.Lines.{lines-same}
 use Rattle.text.specs.Rows.{Wide, rowLine}
-use Rattle.report.specs.Text.{textOf}
+use Rattle.report.specs.inner.Text.{textOf}
 use Rattle.report.specs.Report.{headOf, lineA, lineR, reportOf, runFor}
 use Rattle.report.proofs.Bounds.{run-channels}
 

@@ -10,7 +10,8 @@ use Rattle.run.specs.declared.Outcome.the-variants.{Settled, Still, Spent}
 use Rattle.text.specs.Line.{wordLine}
 use Rattle.text.specs.Lines.{lines}
 use Rattle.text.specs.Rows.{rowLine}
-use Rattle.report.specs.Text.{textOf, outcomeWord}
+use Rattle.report.specs.Text.{outcomeWord}
+use Rattle.report.specs.inner.Text.{textOf}
 
 pub word-few : (outcome : Outcome) → length (outcomeWord outcome) ≤ 7
 unfolding outcomeWord

@@ -1,4 +1,4 @@
 pub mod Report
-pub mod Done
 pub mod Certified
 pub mod Text
+pub mod inner

@@ -1,18 +1,11 @@
 -- The report's lines from their values, as the writer gets them: the numbers of the R line, the outcome, and eleven numbers for each A line.
-use Prim.Native.Nat.{ℕ, _+_}
-use mathlib.Core.List.{List, [], _∷_, _++_}
-use lib.IntN.{ℤ}
+use Prim.Native.Nat.{ℕ}
+use mathlib.Core.List.{List, [], _∷_}
 use Rattle.run.specs.declared.Outcome.{Outcome}
 use Rattle.run.specs.declared.Outcome.the-variants.{Settled, Still, Spent}
-use Rattle.text.specs.Line.{wordLine}
-use Rattle.text.specs.Lines.{lines}
-use Rattle.text.specs.Rows.{rowLine}
 
 -- The bytes of settled, still and spent
 unfoldable pub outcomeWord : Outcome → List ℕ
 outcomeWord Settled = 115 ∷ 101 ∷ 116 ∷ 116 ∷ 108 ∷ 101 ∷ 100 ∷ []
 outcomeWord Still = 115 ∷ 116 ∷ 105 ∷ 108 ∷ 108 ∷ []
 outcomeWord Spent = 115 ∷ 112 ∷ 101 ∷ 110 ∷ 116 ∷ []
-
-unfoldable pub textOf : List ℤ → Outcome → List (List ℤ) → ℕ → List ℕ
-textOf head outcome axes n = wordLine 82 head (outcomeWord outcome) ++ lines (rowLine 65 (n + 3) axes) n

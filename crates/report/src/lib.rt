@@ -8,7 +8,7 @@ ghost use Rattle.job.specs.Job.{accepted};
 ghost use Rattle.job.specs.Reply.{Answers, Replies, printedOf};
 ghost use Rattle.job_table.specs.Held.{Held, jobIn};
 ghost use Rattle.text.specs.Put.{Put};
-ghost use Rattle.report.specs.Done.{Solves};
+ghost use Rattle.report.specs.inner.Done.{Solves};
 ghost use Rattle.report.specs.Report.{reportOf};
 
 // The table's shift, and how the run on the table ends.

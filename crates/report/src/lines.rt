@@ -6,7 +6,8 @@ ghost use lib.ListN.{length};
 ghost use Rattle.text.specs.Put.{Put, Sized};
 ghost use Rattle.text.specs.Line.{wordLine};
 ghost use Rattle.text.specs.Rows.{Wide};
-ghost use Rattle.report.specs.Text.{textOf, outcomeWord};
+ghost use Rattle.report.specs.Text.{outcomeWord};
+ghost use Rattle.report.specs.inner.Text.{textOf};
 
 fn word_length(outcome: Outcome) -> usize
     ensures { λ r. ⌜ r ≡ length (outcomeWord outcome) ⌝ }
@@ -18,7 +19,7 @@ fn word_length(outcome: Outcome) -> usize
     }
 }
 
-pub fn text_length(head: &[i64], outcome: Outcome, axes: &[[i64; 11]; 8], n: usize) -> usize
+pub(crate) fn text_length(head: &[i64], outcome: Outcome, axes: &[[i64; 11]; 8], n: usize) -> usize
     requires { ⌜ (length (now head) ≡ 5) × (n ≤ 8) × Wide (now axes) ⌝ }
     ensures { λ r. ⌜ Sized (textOf (now (head .entry)) outcome (now (axes .entry)) n) 2048 r ⌝ }
 {
@@ -38,7 +39,7 @@ fn put_head(buf: &mut [u8], head: &[i64], outcome: Outcome) -> usize
 }
 
 // The A lines are written after the R line.
-pub fn put_text(
+pub(crate) fn put_text(
     buf: &mut [u8],
     head: &[i64],
     outcome: Outcome,

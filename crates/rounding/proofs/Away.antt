@@ -8,10 +8,11 @@ use lib.Signed.{shrZ, quotZ}
 use mir.Syntax.{w64}
 use mir.Val.{SFits, toZ, ofZ}
 use mir.Facts.{toZ-ofZ, toZ-pos, sfits-lit}
-use Rattle.integer.specs.Laws.{natAbs-negℤ}
-use Rattle.integer.specs.Word.{held}
-use Rattle.rounding.specs.Nearest.{rnd-size}
-use Rattle.rounding.specs.Rounding.{rnd, sign}
+use Rattle.integer.specs.laws.Laws.{natAbs-negℤ}
+use Rattle.integer.specs.laws.Word.{held}
+use Rattle.rounding.specs.laws.Nearest.{rnd-size}
+use Rattle.rounding.specs.Rounding.{rnd}
+use Rattle.rounding.specs.inner.Rounding.{sign}
 
 -- 0 for a number that is not negative, −1 for a negative one
 abbrev pub signBit : ℤ → ℤ

@@ -1,5 +1,5 @@
 -- Document 01, 'Bench cards', card 2: a theorem about the definition of rnd.
-use mathlib.Core.Path.{_≡_, refl}
+use mathlib.Core.Path.{_≡_}
 use lib.IntN.{pos, negsuc}
 use Rattle.rounding.specs.Rounding.{rnd}
 
@@ -10,14 +10,3 @@ pub record Card2 : Type 0 where
   pub eight-fifths : rnd (pos 8) 5 ≡ pos 2
   pub three-halves : rnd (pos 3) 2 ≡ pos 2
   pub minus-three-halves : rnd (negsuc 2) 2 ≡ negsuc 1
-
-pub card2 : Card2
-unfolding rnd
-card2 =
-    record {
-      seven-fifths = refl;
-      minus-seven-fifths = refl;
-      eight-fifths = refl;
-      three-halves = refl;
-      minus-three-halves = refl;
-    }

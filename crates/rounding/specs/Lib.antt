@@ -1,3 +1,4 @@
 pub mod Rounding
-pub mod Nearest
 pub mod Cards
+pub mod inner
+pub mod laws

@@ -6,8 +6,3 @@ use lib.IntN.{ℤ, pos, negsuc, negℤ}
 unfoldable pub rnd : ℤ → ℕ → ℤ
 rnd (pos u) w = pos ((u + w / 2) / w)
 rnd (negsuc u) w = negℤ (pos ((suc u + w / 2) / w))
-
--- −1 for a negative number, 1 for any other
-unfoldable pub sign : ℤ → ℤ
-sign (pos u) = pos 1
-sign (negsuc u) = negsuc 0

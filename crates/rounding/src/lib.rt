@@ -2,7 +2,8 @@
 ghost use mathlib.Core.Path.{_≡_};
 ghost use Prim.Native.Nat.{_+_, _/_, _<_, _^_};
 ghost use lib.IntN.{natAbs};
-ghost use Rattle.rounding.specs.Rounding.{rnd, sign};
+ghost use Rattle.rounding.specs.Rounding.{rnd};
+ghost use Rattle.rounding.specs.inner.Rounding.{sign};
 
 // −1 for a negative u, and 1 for any other.
 fn sign_of(u: i64) -> i64

@@ -11,29 +11,29 @@ use lib.Dec.{eqb}
 use lib.IntN.{ℤ}
 use borrow.Author.Tests.{eq-eqb, ne-eqb}
 use Rattle.ledger.specs.Call.{loosePair, sweep}
-use Rattle.ledger.specs.Cyclic.{cyclic-length, cyclic-pairs}
+use Rattle.ledger.specs.laws.Cyclic.{cyclic-length, cyclic-pairs}
 use Rattle.ledger.specs.Pairs.{Pair, cyclic}
 use Rattle.ledger.specs.Refusal.{refusalOf}
-use Rattle.turn.specs.Eight.{square-cong, square-of}
+use Rattle.turn.specs.laws.Eight.{square-cong, square-of}
 use Rattle.turn.specs.Shape.{Shaped}
 use Rattle.turn.specs.Size.{Small}
 use Rattle.turn.specs.Turn.{at}
 use Rattle.limits.specs.Limits.{toleranceLimit}
-use Rattle.record.specs.Accepted.{loose-pair-accepted, sweep-accepted, turns-suffice}
-use Rattle.record.specs.After.{after-kept}
-use Rattle.record.specs.Fill.{kept-flatOf}
+use Rattle.record.specs.laws.Accepted.{loose-pair-accepted, sweep-accepted, turns-suffice}
+use Rattle.record.specs.laws.After.{after-kept}
+use Rattle.record.specs.laws.Fill.{kept-flatOf}
 use Rattle.record.specs.Flat.{entriesOf, flatOf, rowsOf}
 use Rattle.record.specs.Record.{acceptedOf, afterOf, answerOf, sweptOf, valueOf, workOf, workedOf}
 use Rattle.record.specs.declared.Record.{Record}
-use Rattle.record.specs.Turning.{matrix-small, works-grow, works-least}
+use Rattle.record.specs.laws.Turning.{matrix-small, works-grow, works-least}
 use Rattle.record.specs.Work.{Work, workPair, workPairs}
 use Rattle.record.specs.Worked.{Ready, workAt}
 use Rattle.record.proofs.Sweeping.{pair-shaped}
 use Rattle.record.specs.Loose.{looseOf}
 use Rattle.record.proofs.Search.{same-loose}
-use Rattle.run.specs.Rows.{Holds, heldOf}
+use Rattle.run.specs.inner.Rows.{Holds, heldOf}
 use Rattle.run.specs.Run.{Ran, noPair, noTurn, runFrom, stop}
-use Rattle.run.specs.Running.{run-settled, run-still, run-spent, run-sweeps}
+use Rattle.run.specs.laws.Running.{run-settled, run-still, run-spent, run-sweeps}
 use Rattle.run.specs.declared.Outcome.the-variants.{Settled, Still, Spent}
 
 rows-flat : (a : List (List ℤ)) → Shaped a → rowsOf (flatOf (at a)) ≡ a

@@ -7,15 +7,15 @@ use borrow.Author.Tests.{eq-eqb}
 use Rattle.ledger.specs.Call.{load}
 use Rattle.ledger.specs.Refusal.{refusalOf}
 use Rattle.limits.specs.Limits.{units, whole}
-use Rattle.turn.specs.Eight.{shaped-square}
+use Rattle.turn.specs.laws.Eight.{shaped-square}
 use Rattle.turn.specs.Turn.{square}
-use Rattle.record.specs.After.{after-kept, fresh-kept}
+use Rattle.record.specs.laws.After.{after-kept, fresh-kept}
 use Rattle.record.specs.Kept.{Kept}
 use Rattle.record.specs.Record.{acceptedOf, afterOf, fresh, loadedOf}
 use Rattle.record.proofs.FlatFilled.{flat-square}
 use Rattle.turn.specs.InUse.{inUse}
 use Rattle.integer.specs.Matrix.{diagonal, matrixOf}
-use Rattle.run.specs.Rows.{Holds, heldOf}
+use Rattle.run.specs.inner.Rows.{Holds, heldOf}
 
 module _ (n : ℕ) (numbers : List ℤ) (e : refusalOf 0 0 (load n numbers) ≡ 0) (a v : List (List ℤ))
     (matrix : a ≡ square (inUse n (λ i j. pos units *ℤ matrixOf n numbers i j))) (axes : v ≡ square (inUse n (diagonal (pos whole)))) where

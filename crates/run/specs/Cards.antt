@@ -1,29 +1,12 @@
 -- Document 01, 'Bench cards', what cards 5, 9 and 12 say of a run: theorems about the definitions of the record and the run.
-use mathlib.Core.Path.{_≡_, refl}
-use mathlib.Core.Bool.{false}
+use mathlib.Core.Path.{_≡_}
 use mathlib.Core.List.{List, [], _∷_}
 use Prim.Native.Nat.{ℕ}
 use lib.IntN.{ℤ, pos, negsuc}
-use Rattle.integer.specs.Sum.{sumℕ}
-use Rattle.ledger.specs.Axis.{errorOf}
 use Rattle.ledger.specs.Call.{axis, load}
-use Rattle.ledger.specs.Pairs.{cyclic, row, rowsFrom}
-use Rattle.ledger.specs.Refusal.{equal, refusalOf, symmetric, within}
-use Rattle.integer.specs.Tabulate.{tabulate}
-use Rattle.record.specs.Flat.{entriesOf, flatOf, kept, rowsOf}
-use Rattle.record.specs.Record.{acceptedOf, afterOf, answerOf, axisOf, fresh, loadedOf, sweptOf, valueOf, workOf, workedOf}
-use Rattle.turn.specs.Rotation.{first, rotationOf, second, signed}
-use Rattle.turn.specs.Turn.{array, at, atPair, eight, hpp, hpq, hqp, hqq, newp, newpp, newpq, newq, newqq, turnAxes, turnMatrix, turned, turnedAxes}
-use Rattle.rounding.specs.Rounding.{rnd}
-use Rattle.turn.specs.InUse.{inUse}
-use Rattle.record.specs.Work.{chosen, workBy, workPair, workPairs}
-use Rattle.record.specs.Loose.{looseOf}
+use Rattle.record.specs.Record.{afterOf, answerOf, axisOf, fresh}
 use Rattle.record.specs.declared.query.Answer.the-variants.{Axis}
-use Rattle.choice.specs.Choice.{choose, fits, minusSign, negative, smallest}
-use Rattle.choice.specs.Threshold.{roundedUp, threshold, u, w}
-use Rattle.integer.specs.Matrix.{diagonal, matrixOf}
-use Rattle.run.specs.Run.{Ran, noPair, noTurn, runFrom, stop, tried, runOf}
-use Rattle.run.specs.Running.{run-settled}
+use Rattle.run.specs.Run.{Ran, stop, runOf}
 use Rattle.run.specs.declared.Outcome.the-variants.{Settled, Spent, Still}
 
 -- a matrix of two channels
@@ -56,12 +39,3 @@ pub record Cards : Type 0 where
   pub card5 : Card5
   pub card9 : Card9
   pub card12 : Card12
-
-pub cards : Cards
-unfolding runOf runFrom tried noPair noTurn answerOf valueOf afterOf acceptedOf axisOf fresh loadedOf inUse sweptOf workOf workedOf looseOf tabulate kept entriesOf rowsOf flatOf chosen workBy workPair workPairs errorOf cyclic rowsFrom row matrixOf equal symmetric within refusalOf diagonal sumℕ choose smallest fits threshold roundedUp u w minusSign negative rotationOf signed first second turnMatrix turnAxes turnedAxes array eight at turned newp newq newpp newpq newqq hpp hpq hqp hqq atPair rnd
-cards =
-    record {
-      card5 = record { outcome = refl; sweeps = refl };
-      card9 = λ limit. run-settled limit 0 0 false _ refl;
-      card12 = record { outcome = refl; sweeps = refl; turns = refl; axis-1 = refl; row-1 = refl; axis-2 = refl; row-2 = refl };
-    }

@@ -1,8 +1,5 @@
 pub mod Run
-pub mod Running
-pub mod Rows
-pub mod Done
-pub mod Course
 pub mod Calls
-pub mod Table
 pub mod Cards
+pub mod inner
+pub mod laws

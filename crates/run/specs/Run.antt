@@ -9,7 +9,6 @@ use Rattle.record.specs.Record.{afterOf, answerOf, fresh}
 use Rattle.record.specs.declared.Record.{Record}
 use Rattle.record.specs.declared.query.Answer.{Answer}
 use Rattle.record.specs.declared.query.Answer.the-variants.{Loaded, Turned, Swept, Pair, NoPair, Axis, Refused}
-use Rattle.run.specs.declared.Ended.{Ended}
 use Rattle.run.specs.declared.Outcome.{Outcome}
 use Rattle.run.specs.declared.Outcome.the-variants.{Settled, Still, Spent}
 
@@ -56,7 +55,3 @@ runFrom (suc left) sweeps idle t r =
 -- before the first sweep there is no last sweep that made no turn
 unfoldable pub runOf : ℕ → List ℤ → ℕ → ℕ → Ran
 runOf n numbers limit t = runFrom limit 0 false t (afterOf fresh (load n numbers))
-
--- how a run ends, without its matrix and axes
-unfoldable pub endOf : Ran → Ended
-endOf z = record { outcome = z .outcome; sweeps = z .sweeps; m = z .last .m }

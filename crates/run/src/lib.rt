@@ -1,8 +1,8 @@
 // A run of document 01: a fresh record of its own, a load, and the sweeps. The record is kept as rows while it runs.
 mod rows;
 
-ghost use Rattle.run.specs.Calls.{Allowed};
-ghost use Rattle.run.specs.Done.{RunDone};
+ghost use Rattle.run.specs.inner.Calls.{Allowed};
+ghost use Rattle.run.specs.inner.Done.{RunDone};
 
 // How a run ends.
 pub enum Outcome {

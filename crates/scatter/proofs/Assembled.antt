@@ -5,17 +5,19 @@ use Prim.Native.Nat.{ℕ, _-_, _*_, _^_, _<_, _≤_}
 use native.Mathlib.Omega.{arith}
 use lib.IntN.{ℤ, pos}
 use lib.ListN.{length, getD}
-use Rattle.integer.specs.Tabulate.{tabulate, tabulate-ext, getD-repeated}
-use Rattle.limits.specs.Channels.{places}
+use Rattle.integer.specs.Tabulate.{tabulate}
+use Rattle.integer.specs.laws.Tabulate.{tabulate-ext, getD-repeated}
+use Rattle.limits.specs.laws.Channels.{places}
 use Rattle.rounding.specs.Rounding.{rnd}
 use Rattle.sums.specs.declared.Sums.{Sums}
 use Rattle.scatter.specs.declared.table.Table.{Table}
 use Rattle.scatter.specs.Table.{scatter, largest, shift, entries, padded, tableOf}
-use Rattle.scatter.specs.Entries.{entry-at, padded-at, length-scatter, largest-padded}
+use Rattle.scatter.specs.laws.Entries.{entry-at, padded-at, length-scatter, largest-padded}
 use Rattle.sums.specs.Ranges.{Bounded}
-use Rattle.scatter.specs.Ranges.{Small, ZeroFrom}
-use Rattle.scatter.specs.Bounds.{padded-small}
-use Rattle.scatter.specs.Shift.{Smallest, shift-is, shift-small, largest-least}
+use Rattle.scatter.specs.inner.Ranges.{Small, ZeroFrom}
+use Rattle.scatter.specs.laws.Bounds.{padded-small}
+use Rattle.scatter.specs.inner.Shift.{Smallest}
+use Rattle.scatter.specs.laws.Shift.{shift-is, shift-small, largest-least}
 use Rattle.scatter.proofs.Places.{no-entry}
 
 rounded-all : (us : List ℤ) → tabulate 64 (λ p. rnd (getD (padded us) p (pos 0)) (2 ^ shift us)) ≡ padded (entries us)

@@ -10,18 +10,19 @@ use lib.ListN.{getD, replicate, List·getD-eq-default}
 use lib.Pow.{pow-pos, pow-mono}
 use mir.Syntax.{w64}
 use mir.Val.{toZ, ofZ}
-use Rattle.integer.specs.Word.{read-back, shifted-one}
-use Rattle.integer.specs.Tabulate.{tabulate, getD-tabulate, getD-repeated}
-use Rattle.limits.specs.Channels.{place-below, places}
+use Rattle.integer.specs.laws.Word.{read-back, shifted-one}
+use Rattle.integer.specs.Tabulate.{tabulate}
+use Rattle.integer.specs.laws.Tabulate.{getD-tabulate, getD-repeated}
+use Rattle.limits.specs.laws.Channels.{place-below, places}
 use Rattle.rounding.specs.Rounding.{rnd}
-use Rattle.rounding.specs.Nearest.{rnd-bound, rnd-zero}
+use Rattle.rounding.specs.laws.Nearest.{rnd-bound, rnd-zero}
 use Rattle.sums.specs.declared.Sums.{Sums}
 use Rattle.sums.specs.Ranges.{Bounded}
-use Rattle.integer.specs.Filled.{Filled, filled-skip, filled-all}
+use Rattle.integer.specs.laws.Filled.{Filled, filled-skip, filled-all}
 use Rattle.scatter.specs.Table.{S, scatter, padded}
-use Rattle.scatter.specs.Entries.{padded-at, scatter-at, length-scatter, length-padded}
-use Rattle.scatter.specs.Ranges.{Small}
-use Rattle.scatter.specs.Bounds.{S-small}
+use Rattle.scatter.specs.laws.Entries.{padded-at, scatter-at, length-scatter, length-padded}
+use Rattle.scatter.specs.inner.Ranges.{Small}
+use Rattle.scatter.specs.laws.Bounds.{S-small}
 
 abbrev pub zeros : List ℤ
 zeros = replicate 64 (pos 0)

@@ -1,7 +1,4 @@
 pub mod Table
-pub mod Ranges
-pub mod OfSamples
-pub mod Shift
-pub mod Bounds
-pub mod Entries
 pub mod Cards
+pub mod inner
+pub mod laws

@@ -9,8 +9,8 @@ ghost use Rattle.rounding.specs.Rounding.{rnd};
 ghost use Rattle.sums.specs.Samples.{samples, sumsOf};
 ghost use Rattle.scatter.specs.Table.{scatter, largest, padded, tableOf};
 ghost use Rattle.sums.specs.Ranges.{Readings, Bounded};
-ghost use Rattle.scatter.specs.Ranges.{Small, ZeroFrom};
-ghost use Rattle.scatter.specs.Shift.{Smallest};
+ghost use Rattle.scatter.specs.inner.Ranges.{Small, ZeroFrom};
+ghost use Rattle.scatter.specs.inner.Shift.{Smallest};
 
 // n × n numbers, row after row, and zeros after them: the entries, and the exact S_ij that they are rounded from.
 pub struct Table {

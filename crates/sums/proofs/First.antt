@@ -6,12 +6,15 @@ use native.Mathlib.Nat.{le-trans, mul-le-mul-right, mul-le-mul-left, mul-suc}
 use native.Mathlib.Numerals.{add-one}
 use native.Mathlib.Omega.{arith}
 use lib.ListN.{length, getD, take, drop}
-use Rattle.integer.specs.Tabulate.{tabulate, length-tabulate, tabulate-suc}
-use Rattle.sums.specs.Samples.{Sample, sample, sampleAt, samples, sumsAt, sumsOf, raised, z, products}
+use Rattle.integer.specs.Tabulate.{tabulate}
+use Rattle.integer.specs.laws.Tabulate.{length-tabulate, tabulate-suc}
+use Rattle.sums.specs.Samples.{Sample, sample, sampleAt, samples, sumsAt, sumsOf, z, products}
+use Rattle.sums.specs.inner.Samples.{raised}
 use Rattle.sums.specs.declared.Sums.{Sums}
-use Rattle.sums.specs.Sums.{sumsAt-more}
-use Rattle.sums.specs.Ranges.{Readings, InRange, Room}
-use Rattle.sums.specs.Bounds.{sample-in-range, all-in-range, sumsAt-bound}
+use Rattle.sums.specs.laws.Sums.{sumsAt-more}
+use Rattle.sums.specs.Ranges.{Readings}
+use Rattle.sums.specs.inner.Ranges.{InRange, Room}
+use Rattle.sums.specs.laws.Bounds.{sample-in-range, all-in-range, sumsAt-bound}
 
 module _ (n : ℕ) (dilutions counts : List ℕ) (r : Readings n dilutions counts) (s start : ℕ) (more : s < length dilutions) (e : start ≡ n * s) where
   pub next-start : start + n ≡ n * (s + 1)

@@ -9,10 +9,11 @@ use borrow.Author.Tests.{lt-leb}
 use lib.Dec.{leb}
 use native.Mathlib.Omega.{arith}
 use lib.ListN.{length, getD, set, List·getD-eq-default}
-use Rattle.integer.specs.Tabulate.{length-tabulate, getD-tabulate}
-use Rattle.integer.specs.Filled.{Filled, filled-more, filled-skip, filled-all}
-use Rattle.sums.specs.Samples.{Sample, z, raised, products}
-use Rattle.sums.specs.Sums.{products-at}
+use Rattle.integer.specs.laws.Tabulate.{length-tabulate, getD-tabulate}
+use Rattle.integer.specs.laws.Filled.{Filled, filled-more, filled-skip, filled-all}
+use Rattle.sums.specs.Samples.{Sample, z, products}
+use Rattle.sums.specs.inner.Samples.{raised}
+use Rattle.sums.specs.laws.Sums.{products-at}
 
 module _ (m : ℕ) (f : ℕ → ℕ) (start : List ℕ) (size : length start ≡ m) where
   at-place : (p : ℕ) → p < m → getD (raised m f start) p 0 ≡ getD start p 0 + f p

@@ -1,4 +1,4 @@
 pub mod Samples
 pub mod Ranges
-pub mod Sums
-pub mod Bounds
+pub mod inner
+pub mod laws

@@ -1,10 +1,9 @@
 -- The ranges of readings, and what sums of readings within them keep to.
 use mathlib.Core.Path.{_≡_}
-use mathlib.Core.List.{List, []}
+use mathlib.Core.List.{List}
 use Prim.Native.Nat.{ℕ, _*_, _≤_}
 use lib.ListN.{length, getD}
 use Rattle.sums.specs.declared.Sums.{Sums}
-use Rattle.sums.specs.Samples.{Sample}
 
 -- A dilution for each sample and n counts to a sample, each within its range. Document 01 has 2 to 8 channels and 2 to 256 samples; fewer do no harm to sums and tables.
 pub record Readings (n : ℕ) (dilutions counts : List ℕ) : Type 0 where
@@ -13,19 +12,6 @@ pub record Readings (n : ℕ) (dilutions counts : List ℕ) : Type 0 where
   pub counted : length counts ≡ n * length dilutions
   pub dilution : (s : ℕ) → getD dilutions s 0 ≤ 100
   pub count : (p : ℕ) → getD counts p 0 ≤ 65_535
-
--- The same of one sample
-pub record InRange (s : Sample) : Type 0 where
-  pub channels : length (s .counts) ≤ 8
-  pub dilution : s .dilution ≤ 100
-  pub count : (i : ℕ) → getD (s .counts) i 0 ≤ 65_535
-
-unfoldable pub noSample : Sample
-noSample = record { dilution = 0; counts = [] }
-
--- and of every sample of a list
-abbrev pub AllInRange : List Sample → Type 0
-AllInRange ss = (s : ℕ) → InRange (getD ss s noSample)
 
 -- The greatest value z: 65,535 × 100
 abbrev pub zLimit : ℕ
@@ -36,8 +22,3 @@ pub record Bounded (t : Sums) : Type 0 where
   pub number : t .k ≤ 256
   pub channel : (i : ℕ) → getD (t .channel) i 0 ≤ t .k * zLimit
   pub cross : (p : ℕ) → getD (t .cross) p 0 ≤ t .k * (zLimit * zLimit)
-
--- m places, none above b
-pub record Room (m b : ℕ) (xs : List ℕ) : Type 0 where
-  pub size : length xs ≡ m
-  pub most : (p : ℕ) → getD xs p 0 ≤ b

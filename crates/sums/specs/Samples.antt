@@ -42,7 +42,3 @@ sumsAt m v ss = tabulate m (λ p. sum (λ s. v s p) ss)
 -- The number of samples, their channel sums and their cross sums
 unfoldable pub sumsOf : List Sample → Sums
 sumsOf ss = record { k = length ss; channel = sumsAt 8 z ss; cross = sumsAt 64 products ss }
-
--- Each of m places raised by f's value there
-unfoldable pub raised : ℕ → (ℕ → ℕ) → List ℕ → List ℕ
-raised m f xs = tabulate m (λ p. getD xs p 0 + f p)

@@ -6,9 +6,10 @@ use native.Mathlib.Decide.{ℕ-discrete}
 use native.Mathlib.Omega.{arith}
 use lib.ListN.{getD, set, take, replicate, length-replicate, length-set}
 use lib.Seq.{length-take-le, getD-set-same, getD-set-other}
-use Rattle.integer.specs.Tabulate.{getD-repeated}
-use Rattle.sums.specs.Ranges.{Room, Readings}
-use Rattle.sums.specs.Bounds.{take-bound}
+use Rattle.integer.specs.laws.Tabulate.{getD-repeated}
+use Rattle.sums.specs.Ranges.{Readings}
+use Rattle.sums.specs.inner.Ranges.{Room}
+use Rattle.sums.specs.laws.Bounds.{take-bound}
 
 module _ {m b : ℕ} where
   pub room-zeros : Room m b (replicate m 0)

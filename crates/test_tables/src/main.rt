@@ -16,7 +16,7 @@
 use libc::STDOUT_FILENO;
 use scatter::table::Table;
 ghost use Prim.Native.Nat.{_^_, _<_, _≤_};
-ghost use Rattle.sums.specs.Ranges.{Room};
+ghost use Rattle.sums.specs.inner.Ranges.{Room};
 ghost use Rattle.test_tables.specs.Limit.{limitOf};
 
 fn draw(a: u64) -> u64

@@ -7,13 +7,15 @@ use native.Mathlib.Decide.{decLt}
 use native.Mathlib.Omega.{arith}
 use lib.Dec.{eqb, ltb, ltb→lt}
 use lib.IntN.{ℤ, pos, natAbs}
-use Rattle.integer.specs.Tests.{cond-≤}
-use Rattle.integer.specs.Laws.{natAbs-negℤ}
+use Rattle.integer.specs.laws.Tests.{cond-≤}
+use Rattle.integer.specs.laws.Laws.{natAbs-negℤ}
 use Rattle.turn.specs.Rotation.{signed}
 use Rattle.turn.specs.Turn.{at, square}
-use Rattle.turn.specs.Eight.{at-eight, at-outside}
-use Rattle.turn.specs.Size.{Small, Symmetric}
-use Rattle.choice.specs.Threshold.{threshold, roundedUp, u, w, from-1-to-14}
+use Rattle.turn.specs.laws.Eight.{at-eight, at-outside}
+use Rattle.turn.specs.Size.{Small}
+use Rattle.turn.specs.inner.Size.{Symmetric}
+use Rattle.choice.specs.Threshold.{threshold, roundedUp, u, w}
+use Rattle.choice.specs.laws.Threshold.{from-1-to-14}
 use Rattle.choice.specs.Widest.{widest}
 use Rattle.test_turns.specs.Generator.{sizeFrom, valueOf, offset, rowOf, matrixOf, axesOf}
 

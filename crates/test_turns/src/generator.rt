@@ -3,7 +3,8 @@ ghost use mathlib.Core.Path.{_≡_};
 ghost use Prim.Native.Nat.{_+_, _*_, _<_, _≤_, _^_};
 ghost use lib.IntN.{natAbs};
 ghost use Rattle.turn.specs.Rotation.{signed};
-ghost use Rattle.turn.specs.Size.{Small, Symmetric};
+ghost use Rattle.turn.specs.Size.{Small};
+ghost use Rattle.turn.specs.inner.Size.{Symmetric};
 ghost use Rattle.test_turns.specs.Generator.{axesOf, drawOf, matrixOf, minusOf, rowOf, sizeFrom, sizeOf, valueOf};
 use turn::pair;
 

@@ -9,7 +9,7 @@ use lib.Signed.{ltZ}
 use mir.Syntax.{w64}
 use mir.Val.{SFits, toZ, ofZ}
 use mir.Facts.{toZ-ofZ}
-use Rattle.integer.specs.Word.{sign-read}
+use Rattle.integer.specs.laws.Word.{sign-read}
 use Rattle.text.specs.Decimal.{digits, number}
 
 pub negative-text : (z : ℤ) → SFits w64 z → ltZ (toZ w64 (ofZ w64 z)) (pos 0) ≡ true → number z ≡ 45 ∷ digits (natAbs (toZ w64 (ofZ w64 z)))

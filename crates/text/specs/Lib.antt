@@ -3,10 +3,8 @@ pub mod Parts
 pub mod Numeral
 pub mod Decimal
 pub mod Put
-pub mod Digits
-pub mod Examples
 pub mod Line
 pub mod Lines
 pub mod Rows
-pub mod Numbers
-pub mod LineExamples
+pub mod inner
+pub mod laws

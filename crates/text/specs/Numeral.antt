@@ -4,10 +4,6 @@ use mathlib.Core.Bool.{Bool, false, _&&_}
 use mathlib.Core.List.{List, [], _∷_}
 use lib.Dec.{eqb, ltb}
 use lib.ListN.{length}
-use Rattle.text.specs.Range.{within}
-
-abbrev pub isDigit : ℕ → Bool
-isDigit b = within 48 57 b
 
 unfoldable pub leadingZero : List ℕ → Bool
 leadingZero [] = false

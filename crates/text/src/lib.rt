@@ -12,7 +12,7 @@ ghost use Rattle.text.specs.Put.{Put, Sized};
 const MINUS: u8 = b'-';
 
 // How many digits x has.
-pub fn natural_length(x: u64) -> usize
+pub(crate) fn natural_length(x: u64) -> usize
     ensures { λ r. ⌜ Sized (digits x) 20 r ⌝ }
 {
     let mut rest = x;
@@ -25,7 +25,7 @@ pub fn natural_length(x: u64) -> usize
 }
 
 // How many bytes z's text has, its minus counted.
-pub fn number_length(z: i64) -> usize
+pub(crate) fn number_length(z: i64) -> usize
     ensures { λ r. ⌜ Sized (number z) 20 r ⌝ }
 {
     let n = natural_length(integer::magnitude(z));

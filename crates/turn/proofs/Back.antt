@@ -2,11 +2,12 @@
 use mathlib.Core.Path.{_≡_, ap}
 use Prim.Native.Nat.{ℕ}
 use lib.IntN.{ℤ, negℤ, _*ℤ_, +ℤ-comm}
-use Rattle.integer.specs.Laws.{natAbs-negℤ}
+use Rattle.integer.specs.laws.Laws.{natAbs-negℤ}
 use Rattle.rounding.specs.Rounding.{rnd}
 use Rattle.choice.specs.Widest.{widest}
-use Rattle.turn.specs.Rotation.{first, second, inverse}
-use Rattle.turn.specs.Size.{Turns, passed}
+use Rattle.turn.specs.Rotation.{first, second}
+use Rattle.turn.specs.inner.Rotation.{inverse}
+use Rattle.turn.specs.inner.Size.{Turns, passed}
 use Rattle.turn.specs.declared.pair.Rotation.{Rotation}
 
 pub inverse-first : (r : Rotation) (x y : ℤ) → first (inverse r) y x ≡ second r x y

@@ -9,15 +9,16 @@ use lib.Dec.{ltb}
 use lib.IntN.{ℤ}
 use lib.ListN.{getD, set}
 use borrow.Author.Tests.{lt-ltb, le-ltb}
-use Rattle.integer.specs.Tests.{cond-same, next-test}
-use Rattle.turn.specs.Eight.{at-eight, shaped-square, square-cong, square-of}
-use Rattle.turn.specs.Place.{Place, at-p, at-q, neither, place, atPair-p, atPair-q, atPair-neither}
-use Rattle.turn.specs.Rotation.{first, second, inverse}
+use Rattle.integer.specs.laws.Tests.{cond-same, next-test}
+use Rattle.turn.specs.laws.Eight.{at-eight, shaped-square, square-cong, square-of}
+use Rattle.turn.specs.laws.Place.{Place, at-p, at-q, neither, place, atPair-p, atPair-q, atPair-neither}
+use Rattle.turn.specs.Rotation.{first, second}
+use Rattle.turn.specs.inner.Rotation.{inverse}
 use Rattle.turn.specs.Shape.{Shaped}
 use Rattle.turn.specs.Turn.{array, at, square, turnAxes, turnedAxes}
 use Rattle.turn.specs.declared.pair.Rotation.{Rotation}
 use Rattle.turn.proofs.Back.{inverse-first}
-use Rattle.turn.specs.Stored.{store, stored, stored-column, stored-here, stored-row}
+use Rattle.turn.specs.laws.Stored.{store, stored, stored-column, stored-here, stored-row}
 
 module _ (r : Rotation) (p q : ℕ) (v : List (List ℤ)) where
   -- the first k columns turned

@@ -6,8 +6,8 @@ use lib.IntN.{ℤ, natAbs, _+ℤ_, _*ℤ_}
 use mir.Syntax.{w64}
 use mir.Val.{SFits, toZ, ofZ}
 use mir.Facts.{toZ-ofZ}
-use Rattle.integer.specs.Laws.{natAbs-*ℤ, natAbs-+ℤ}
-use Rattle.integer.specs.Word.{held}
+use Rattle.integer.specs.laws.Laws.{natAbs-*ℤ, natAbs-+ℤ}
+use Rattle.integer.specs.laws.Word.{held}
 
 pub product : (a x : ℤ) → SFits w64 a → SFits w64 x → toZ w64 (ofZ w64 a) *ℤ toZ w64 (ofZ w64 x) ≡ a *ℤ x
 product a x f g = rw (toZ-ofZ f, toZ-ofZ g)

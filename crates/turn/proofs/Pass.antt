@@ -3,9 +3,9 @@ use Prim.Native.Nat.{ℕ, _+_, _*_, _<_, _≤_, _^_}
 use native.Mathlib.Nat.{mul-le-mul-left, le-trans, le-div-iff-mul-le, div-mul-le-self}
 use native.Mathlib.Omega.{arith}
 use lib.IntN.{ℤ, natAbs}
-use Rattle.rounding.specs.Nearest.{rnd-size}
+use Rattle.rounding.specs.laws.Nearest.{rnd-size}
 use Rattle.turn.specs.Rotation.{first}
-use Rattle.turn.specs.Size.{weight, passed}
+use Rattle.turn.specs.inner.Size.{weight, passed}
 use Rattle.turn.specs.declared.pair.Rotation.{Rotation}
 use Rattle.turn.proofs.Combination.{sum-size}
 

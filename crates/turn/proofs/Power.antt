@@ -4,8 +4,9 @@ use mathlib.Core.Bool.{Bool}
 use Prim.Native.Nat.{ℕ, _+_, _*_, _%_, _<_, _≤_, _^_, suc-le-suc}
 use native.Mathlib.Omega.{arith}
 use lib.Dec.{T, eqb, ltb, eqb→eq, ltb→lt}
-use Rattle.integer.specs.Range.{all, below}
-use Rattle.integer.specs.Word.{shifted-one}
+use Rattle.integer.specs.Range.{all}
+use Rattle.integer.specs.laws.Range.{below}
+use Rattle.integer.specs.laws.Word.{shifted-one}
 
 -- a test at every l up to 14
 upTo14 : (f : ℕ → Bool) → T (all f 15) → (l : ℕ) → l ≤ 14 → T (f l)

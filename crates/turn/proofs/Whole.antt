@@ -9,17 +9,20 @@ use lib.Dec.{ltb}
 use lib.IntN.{ℤ, natAbs}
 use lib.ListN.{getD, set}
 use borrow.Author.Tests.{lt-ltb, le-ltb}
-use Rattle.integer.specs.Tests.{cond-same, next-test}
+use Rattle.integer.specs.laws.Tests.{cond-same, next-test}
 use Rattle.choice.specs.Widest.{widest}
-use Rattle.turn.specs.Eight.{at-eight, square-cong, square-of}
-use Rattle.turn.specs.InPlace.{Passed, blockOf, mirrorOf, withBlock}
-use Rattle.turn.specs.Place.{Place, at-p, at-q, neither, place, atPair-p, atPair-q, atPair-neither}
-use Rattle.turn.specs.Rotation.{first, second, inverse}
+use Rattle.turn.specs.laws.Eight.{at-eight, square-cong, square-of}
+use Rattle.turn.specs.inner.InPlace.{Passed, blockOf, mirrorOf, withBlock}
+use Rattle.turn.specs.laws.Place.{Place, at-p, at-q, neither, place, atPair-p, atPair-q, atPair-neither}
+use Rattle.turn.specs.Rotation.{first, second}
+use Rattle.turn.specs.inner.Rotation.{inverse}
 use Rattle.turn.specs.Shape.{Shaped}
-use Rattle.turn.specs.Size.{Small, Symmetric, Turns, passed}
-use Rattle.turn.specs.Turn.{array, at, atPair, hpp, hpq, hqp, hqq, newp, newpp, newpq, newq, newqq, square, turnAxes, turnMatrix, turned, turnedAxes}
+use Rattle.turn.specs.Size.{Small}
+use Rattle.turn.specs.inner.Size.{Symmetric, Turns, passed}
+use Rattle.turn.specs.Turn.{array, at, atPair, hpp, hpq, hqp, hqq, newp, newpp, newpq, newq, newqq, square, turnAxes, turnMatrix, turned}
+use Rattle.turn.specs.Turn.{turnedAxes}
 use Rattle.turn.specs.declared.pair.Rotation.{Rotation}
-use Rattle.turn.specs.Stored.{store, stored, stored-column, stored-here, stored-row}
+use Rattle.turn.specs.laws.Stored.{store, stored, stored-column, stored-here, stored-row}
 use Rattle.turn.proofs.Back.{back-of, inverse-first}
 use Rattle.turn.proofs.Pass.{first-size}
 

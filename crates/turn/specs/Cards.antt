@@ -1,14 +1,12 @@
 -- Document 01, 'Bench cards', card 7: a theorem about the definitions of the choice and the turn.
-use mathlib.Core.Path.{_≡_, refl}
+use mathlib.Core.Path.{_≡_}
 use mathlib.Core.Bool.{true}
 use mathlib.Core.List.{List, [], _∷_}
 use lib.IntN.{ℤ, pos, negsuc}
-use Rattle.rounding.specs.Rounding.{rnd}
-use Rattle.choice.specs.Threshold.{threshold, roundedUp, u, w}
-use Rattle.choice.specs.Choice.{choose, smallest, fits, minusSign, negative}
+use Rattle.choice.specs.Choice.{choose}
 use Rattle.choice.specs.declared.Choice.the-variants.{Turn}
-use Rattle.turn.specs.Rotation.{rotationOf, signed, first, second}
-use Rattle.turn.specs.Turn.{turnMatrix, array, eight, at, turned, newp, newq, newpp, newpq, newqq, hpp, hpq, hqp, hqq, atPair}
+use Rattle.turn.specs.Rotation.{rotationOf}
+use Rattle.turn.specs.Turn.{turnMatrix, array}
 
 -- A matrix of two channels: a_pp, a_pq = a_qp and a_qq in the corner of the array of 8 by 8
 abbrev pub block : ℤ → ℤ → ℤ → List (List ℤ)
@@ -24,7 +22,3 @@ block pp pq qq = row pp pq ∷ row pq qq ∷ rest ∷ rest ∷ rest ∷ rest ∷
 pub record Card7 : Type 0 where
   pub chosen : choose (pos 50) (pos 50) (pos 25) ≡ Turn 1 true
   pub turns : turnMatrix 2 (rotationOf 1 true) 0 1 (block (pos 50) (pos 25) (pos 50)) ≡ block (pos 26) (negsuc 6) (pos 74)
-
-pub card7 : Card7
-unfolding choose smallest fits threshold roundedUp u w minusSign negative turnMatrix array eight at turned newp newq newpp newpq newqq hpp hpq hqp hqq atPair rotationOf signed first second rnd
-card7 = record { chosen = refl; turns = refl }

@@ -22,7 +22,3 @@ first r x y = rnd (r .c *ℤ x +ℤ r .s *ℤ y) (r .n)
 -- rnd((−s×x + c×y)/N)
 unfoldable pub second : Rotation → ℤ → ℤ → ℤ
 second r x y = rnd (negℤ (r .s) *ℤ x +ℤ r .c *ℤ y) (r .n)
-
--- the rotation back, in which −s stands for s
-unfoldable pub inverse : Rotation → Rotation
-inverse r = record { c = r .c; s = negℤ (r .s); n = r .n }

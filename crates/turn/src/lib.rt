@@ -3,9 +3,10 @@ pub mod pair;
 
 ghost use mathlib.Core.Path.{_≡_};
 ghost use Prim.Native.Nat.{_<_, _≤_};
-ghost use Rattle.turn.specs.InPlace.{Passed, blockOf, mirrorOf, withBlock};
+ghost use Rattle.turn.specs.inner.InPlace.{Passed, blockOf, mirrorOf, withBlock};
 ghost use Rattle.turn.specs.Shape.{Shaped};
-ghost use Rattle.turn.specs.Size.{Small, Symmetric, Turns};
+ghost use Rattle.turn.specs.Size.{Small};
+ghost use Rattle.turn.specs.inner.Size.{Symmetric, Turns};
 ghost use Rattle.turn.specs.Turn.{at, square, turnAxes, turnMatrix};
 use pair::Rotation;
 

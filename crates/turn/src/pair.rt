@@ -2,7 +2,8 @@
 ghost use mathlib.Core.Path.{_≡_};
 ghost use Prim.Native.Nat.{_+_, _*_, _<_, _≤_, _^_};
 ghost use lib.IntN.{natAbs};
-ghost use Rattle.turn.specs.Rotation.{first, inverse, rotationOf, signed};
+ghost use Rattle.turn.specs.Rotation.{first, rotationOf, signed};
+ghost use Rattle.turn.specs.inner.Rotation.{inverse};
 
 // c, s and N of a turn.
 pub struct Rotation {
@@ -34,7 +35,7 @@ impl Rotation {
     }
 
     // The rotation back.
-    pub fn inverse(self) -> Self
+    pub(crate) fn inverse(self) -> Self
         requires { ⌜ natAbs (self .s) < 2 ^ 63 ⌝ }
         ensures { λ r. ⌜ r ≡ inverse self ⌝ }
     {
@@ -47,7 +48,7 @@ impl Rotation {
 }
 
 // rnd((c×x + s×y)/N). The other entry of the pair, rnd((−s×x + c×y)/N), is the inverse rotation's of y and x.
-pub fn turned(r: Rotation, x: i64, y: i64) -> i64
+pub(crate) fn turned(r: Rotation, x: i64, y: i64) -> i64
     requires { ⌜ (0 < r .n) × (natAbs (r .c) * natAbs x + natAbs (r .s) * natAbs y + r .n < 2 ^ 63) ⌝ }
     ensures { λ z. ⌜ z ≡ first r x y ⌝ }
 {

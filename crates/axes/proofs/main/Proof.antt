@@ -3,7 +3,7 @@ use mathlib.Core.Path.{sym}
 use native.Mathlib.Omega.{arith}
 use borrow.Author.Needs.{needs}
 use lib.Seq.{length-take-le}
-use Rattle.text.specs.Put.{same-size}
+use Rattle.text.specs.laws.Put.{same-size}
 use Rattle.axes.proofs.main.Statement.{statement}
 use Rattle.axes.proofs.main.Tie as tie
 

@@ -5,7 +5,8 @@ use lib.ListN.{length}
 use borrow.Author.Needs.{needs}
 use borrow.Author.Tests.{not-false}
 use native.Mathlib.Omega.{arith}
-use Rattle.play.specs.Steps.{Reached, start}
+use Rattle.play.specs.Steps.{Reached}
+use Rattle.play.specs.laws.Steps.{start}
 use Rattle.calls.proofs.play_all.Statement.{statement}
 use Rattle.calls.proofs.play_all.Tie as tie
 

@@ -5,7 +5,7 @@ use borrow.Author.Needs.{needs}
 use mir.Syntax.{w64}
 use mir.Val.{ofZ}
 use mir.Facts.{toZ-ofZ}
-use Rattle.integer.specs.Word.{zero-bits}
+use Rattle.integer.specs.laws.Word.{zero-bits}
 use Rattle.choice.proofs.Chosen.{difference, difference-back, difference-held, difference-size, none, some}
 use Rattle.choice.proofs.choose_turn.Statement.{statement}
 use Rattle.choice.proofs.choose_turn.Tie as tie

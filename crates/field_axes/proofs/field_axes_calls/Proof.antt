@@ -5,7 +5,7 @@ use lib.IntN.{pos}
 use mir.Syntax.{w64}
 use mir.Facts.{toZ-pos}
 use borrow.Author.Needs.{needs}
-use Rattle.integer.specs.Word.{held}
+use Rattle.integer.specs.laws.Word.{held}
 use Rattle.field_axes.specs.Calls.{lengthOrShort}
 use Rattle.field_axes.proofs.Playing.{as-number, fits}
 use Rattle.field_axes.proofs.field_axes_calls.Statement.{statement}

@@ -6,7 +6,7 @@ use mir.Syntax.{w64}
 use mir.Val.{SFits}
 use mir.Facts.{toZ-ofZ, toZ-pos}
 use borrow.Author.Needs.{needs}
-use Rattle.integer.specs.Word.{held}
+use Rattle.integer.specs.laws.Word.{held}
 use Rattle.field_axes.specs.Report.{lengthOrNumber, refusedLine}
 use Rattle.field_axes.proofs.Reporting.{as-numbers, short}
 use Rattle.field_axes.proofs.field_axes_report.Statement.{statement}

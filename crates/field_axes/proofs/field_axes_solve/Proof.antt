@@ -8,9 +8,9 @@ use mir.Facts.{toZ-ofZ, toZ-pos}
 use borrow.Author.Needs.{needs}
 use lib.IntN.{pos}
 use lib.ListN.{length}
-use Rattle.integer.specs.Word.{held}
+use Rattle.integer.specs.laws.Word.{held}
 use Rattle.field_axes.specs.Solution.{solutionOf, solveRefusal}
-use Rattle.field_axes.specs.Solvable.{length-small, solvable}
+use Rattle.field_axes.specs.laws.Solvable.{length-small, solvable}
 use Rattle.field_axes.proofs.Answered.{refused-answer, refused-buffer, written-answer, written-buffer}
 use Rattle.field_axes.proofs.field_axes_solve.Statement.{statement}
 use Rattle.field_axes.proofs.field_axes_solve.Tie as tie

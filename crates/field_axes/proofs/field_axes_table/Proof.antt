@@ -7,8 +7,8 @@ use mir.Syntax.{w64}
 use mir.Val.{SFits}
 use mir.Facts.{toZ-ofZ, toZ-pos}
 use borrow.Author.Needs.{needs}
-use Rattle.limits.specs.Channels.{places}
-use Rattle.field_axes.specs.Readable.{length-table, readable}
+use Rattle.limits.specs.laws.Channels.{places}
+use Rattle.field_axes.specs.laws.Readable.{length-table, readable}
 use Rattle.field_axes.specs.Table.{tableNumbersOf, tableRefusal}
 use Rattle.field_axes.proofs.Answered.{refused-answer, refused-buffer, written-answer, written-buffer}
 use Rattle.field_axes.proofs.field_axes_table.Statement.{statement}

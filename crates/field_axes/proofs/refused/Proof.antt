@@ -5,7 +5,7 @@ use lib.IntN.{pos}
 use mir.Syntax.{w64}
 use mir.Facts.{toZ-pos}
 use borrow.Author.Needs.{needs}
-use Rattle.integer.specs.Word.{negated, negated-held}
+use Rattle.integer.specs.laws.Word.{negated, negated-held}
 use Rattle.field_axes.proofs.refused.Statement.{statement}
 use Rattle.field_axes.proofs.refused.Tie as tie
 

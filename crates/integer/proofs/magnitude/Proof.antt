@@ -2,7 +2,7 @@
 use native.Mathlib.Omega.{arith}
 use borrow.Author.Needs.{needs}
 use lib.Signed.{natAbs-le}
-use Rattle.integer.specs.Word.{unsigned}
+use Rattle.integer.specs.laws.Word.{unsigned}
 use Rattle.integer.proofs.Negative.{next-held, negation-held, not-negative, less-one}
 use Rattle.integer.proofs.magnitude.Statement.{statement}
 use Rattle.integer.proofs.magnitude.Tie as tie

@@ -1,6 +1,6 @@
 -- `new_job` meets its contract.
 use mathlib.Core.Path.{refl}
-use Rattle.job.specs.Scan.{newJob}
+use Rattle.job.specs.inner.Scan.{newJob}
 use Rattle.job.proofs.new_job.Statement.{statement}
 use Rattle.job.proofs.new_job.Tie as tie
 

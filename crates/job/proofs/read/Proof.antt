@@ -2,7 +2,8 @@
 use mathlib.Core.Path.{_∙_, sym}
 use borrow.Author.Needs.{needs}
 use lib.Dec.{lit≤}
-use Rattle.job.specs.Scan.{newJob, readingBy, readingAt}
+use Rattle.job.specs.inner.Scan.{newJob}
+use Rattle.job.specs.laws.Scan.{readingBy, readingAt}
 use Rattle.job.proofs.Same.{parameters-few, read-same}
 use Rattle.job.proofs.read.Statement.{statement}
 use Rattle.job.proofs.read.Tie as tie

@@ -1,6 +1,6 @@
 -- `refused` meets its contract.
 use borrow.Author.Needs.{needs}
-use Rattle.job.specs.Scan.{refusedReading}
+use Rattle.job.specs.inner.Scan.{refusedReading}
 use Rattle.job.proofs.refused.Statement.{statement}
 use Rattle.job.proofs.refused.Tie as tie
 

@@ -1,6 +1,6 @@
 -- `job_table::table_of` meets its contract: the readings of a held job are within their ranges.
 use Rattle.job_table.specs.Held.{jobIn, sumsFor, tableFor}
-use Rattle.job_table.specs.Laws.{counts-few, readings}
+use Rattle.job_table.specs.laws.Laws.{counts-few, readings}
 use Rattle.job_table.proofs.table_of.Statement.{statement}
 use Rattle.job_table.proofs.table_of.Tie as tie
 

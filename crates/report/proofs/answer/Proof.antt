@@ -5,7 +5,7 @@ use native.Mathlib.Omega.{arith}
 use lib.ListN.{length}
 use borrow.Author.Needs.{needs}
 use Rattle.job.specs.Reply.{printedOf}
-use Rattle.job.specs.Replying.{refused-printed, written-printed}
+use Rattle.job.specs.laws.Replying.{refused-printed, written-printed}
 use Rattle.text.specs.Line.{lineX}
 use Rattle.report.specs.Report.{reportOf}
 use Rattle.report.proofs.answer.Statement.{statement}

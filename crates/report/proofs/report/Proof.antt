@@ -1,7 +1,7 @@
 -- `report::report` meets its contract: what the text was read as picks the branch.
 use borrow.Author.Needs.{needs}
-use Rattle.job_table.specs.Laws.{Read, accepted-read}
-use Rattle.job.specs.Replying.{replies-answered, replies-refused}
+use Rattle.job_table.specs.laws.Laws.{Read, accepted-read}
+use Rattle.job.specs.laws.Replying.{replies-answered, replies-refused}
 use Rattle.report.proofs.report.Statement.{statement}
 use Rattle.report.proofs.report.Tie as tie
 

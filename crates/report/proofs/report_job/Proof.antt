@@ -10,15 +10,15 @@ use mir.Val.{toZ, SFits}
 use mir.Facts.{toZ-ofZ}
 use borrow.Author.Needs.{needs}
 use Rattle.job.specs.Job.{Job}
-use Rattle.job.specs.Replying.{put-whole, too-short}
+use Rattle.job.specs.laws.Replying.{put-whole, too-short}
 use Rattle.job_table.specs.Held.{jobIn}
-use Rattle.job_table.specs.Laws.{channels-held, samples-few, samples-held}
-use Rattle.record.specs.AxisNumbers.{axesNumbers}
+use Rattle.job_table.specs.laws.Laws.{channels-held, samples-few, samples-held}
+use Rattle.record.specs.inner.AxisNumbers.{axesNumbers}
 use Rattle.text.specs.Put.{Sized}
-use Rattle.run.specs.Run.{endOf}
+use Rattle.run.specs.inner.Run.{endOf}
 use Rattle.run.specs.declared.Ended.{Ended}
 use Rattle.text.specs.Rows.{Wide}
-use Rattle.report.specs.Text.{textOf}
+use Rattle.report.specs.inner.Text.{textOf}
 use Rattle.report.specs.Report.{headOf, reportOf, runFor}
 use Rattle.report.proofs.Bounds.{sweeps-most, turns-most}
 use Rattle.report.proofs.Same.{axes-wide, text-same}

@@ -6,10 +6,10 @@ use lib.ListN.{length}
 use lib.Seq.{length-take-le}
 use borrow.Author.Needs.{needs}
 use Rattle.job_table.specs.Held.{jobIn, tableFor}
-use Rattle.limits.specs.Channels.{places}
-use Rattle.job_table.specs.Laws.{channels-held}
+use Rattle.limits.specs.laws.Channels.{places}
+use Rattle.job_table.specs.laws.Laws.{channels-held}
 use Rattle.scatter.specs.declared.table.Table.{Table}
-use Rattle.scatter.specs.Entries.{length-padded}
+use Rattle.scatter.specs.laws.Entries.{length-padded}
 use Rattle.scatter.specs.Table.{tableOf}
 use Rattle.report.specs.Certified.{loadedFor}
 use Rattle.report.specs.Report.{runFor}

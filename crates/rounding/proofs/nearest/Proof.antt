@@ -7,7 +7,7 @@ use lib.IntN.{pos, _+ℤ_, _*ℤ_}
 use mir.Syntax.{w64}
 use mir.Val.{toZ, ofZ}
 use mir.Facts.{toZ-ofZ, toZ-pos}
-use Rattle.rounding.specs.Rounding.{sign}
+use Rattle.rounding.specs.inner.Rounding.{sign}
 use Rattle.rounding.proofs.Away.{away, product, total, step-fits, away-fits, quotient, rnd-fits}
 use Rattle.rounding.proofs.nearest.Statement.{statement}
 use Rattle.rounding.proofs.nearest.Tie as tie

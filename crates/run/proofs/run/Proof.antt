@@ -2,10 +2,11 @@
 use mathlib.Core.Path.{refl, ap, _∙_}
 use mathlib.Core.Bool.{false}
 use native.Mathlib.Omega.{arith}
-use Rattle.ledger.specs.Accepted.{load-accepted}
-use Rattle.record.specs.AxisNumbers.{axesNumbers}
+use Rattle.ledger.specs.laws.Accepted.{load-accepted}
+use Rattle.record.specs.inner.AxisNumbers.{axesNumbers}
 use Rattle.record.specs.Blank.{blank}
-use Rattle.run.specs.Run.{Ran, endOf, runFrom, runOf}
+use Rattle.run.specs.Run.{Ran, runFrom, runOf}
+use Rattle.run.specs.inner.Run.{endOf}
 use Rattle.run.proofs.run.Statement.{statement}
 use Rattle.run.proofs.run.Tie as tie
 

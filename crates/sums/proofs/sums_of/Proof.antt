@@ -8,7 +8,7 @@ use lib.ListN.{length}
 use Rattle.integer.specs.Tabulate.{tabulate}
 use Rattle.sums.specs.Samples.{sampleAt, sumsAt, sum, z, products}
 use Rattle.sums.specs.Ranges.{zLimit}
-use Rattle.sums.specs.Bounds.{z-bound, products-bound}
+use Rattle.sums.specs.laws.Bounds.{z-bound, products-bound}
 use Rattle.sums.proofs.First.{next-start, part-fits, in-range, sums-next, sums-room, all-samples}
 use Rattle.sums.proofs.sums_of.Statement.{statement}
 use Rattle.sums.proofs.sums_of.Tie as tie

@@ -3,7 +3,7 @@ use mathlib.Core.Path.{sym}
 use native.Mathlib.Omega.{arith}
 use borrow.Author.Needs.{needs}
 use lib.Seq.{length-take-le}
-use Rattle.job.specs.Replying.{written-printed}
+use Rattle.job.specs.laws.Replying.{written-printed}
 use Rattle.test_jobs.proofs.printed.Statement.{statement}
 use Rattle.test_jobs.proofs.printed.Tie as tie
 

@@ -1,7 +1,7 @@
 -- `scatter_vectors::print_table` is safe: there are at most 64 entries.
 use native.Mathlib.Omega.{arith}
 use borrow.Author.Needs.{needs}
-use Rattle.limits.specs.Channels.{places}
+use Rattle.limits.specs.laws.Channels.{places}
 use Rattle.test_tables.proofs.print_table.Statement.{statement}
 use Rattle.test_tables.proofs.print_table.Tie as tie
 

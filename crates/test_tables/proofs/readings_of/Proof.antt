@@ -1,7 +1,7 @@
 -- `scatter_vectors::readings_of` meets its contract: each write is within the range.
 use Prim.Native.Nat.{_-_, _≤_}
 use borrow.Author.Needs.{needs}
-use Rattle.sums.specs.Ranges.{Room}
+use Rattle.sums.specs.inner.Ranges.{Room}
 use Rattle.test_tables.specs.Limit.{limitOf}
 use Rattle.test_tables.proofs.Rooms.{room-zeros, room-set}
 use Rattle.test_tables.proofs.readings_of.Statement.{statement}

@@ -4,7 +4,7 @@ use lib.Seq.{length-take-le}
 use mathlib.Core.Path.{sym}
 use borrow.Author.Needs.{needs}
 use Rattle.text.specs.Decimal.{digitsBy, digits, number}
-use Rattle.text.specs.Put.{same-size}
+use Rattle.text.specs.laws.Put.{same-size}
 use Rattle.text.specs.Line.{further, line, numberLine, wordLine}
 use Rattle.test_text.proofs.main.Statement.{statement}
 use Rattle.test_text.proofs.main.Tie as tie

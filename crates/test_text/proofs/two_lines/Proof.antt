@@ -2,7 +2,7 @@
 use lib.ListN.{length-append}
 use native.Mathlib.Omega.{arith}
 use borrow.Author.Needs.{needs}
-use Rattle.text.specs.Put.{put-part, part-size}
+use Rattle.text.specs.laws.Put.{put-part, part-size}
 use Rattle.test_text.proofs.two_lines.Statement.{statement}
 use Rattle.test_text.proofs.two_lines.Tie as tie
 

@@ -4,8 +4,8 @@ use native.Mathlib.Omega.{arith}
 use borrow.Author.Needs.{needs}
 use borrow.Fn.Kinds.{In}
 use borrow.Fn.PlainCycle.{Measures, is, falls, and}
-use Rattle.text.specs.Digits.{one-digit, more-digits, more-length}
-use Rattle.text.specs.Put.{put-then}
+use Rattle.text.specs.laws.Digits.{one-digit, more-digits, more-length}
+use Rattle.text.specs.laws.Put.{put-then}
 use Rattle.text.proofs.put_natural.Reads as put-natural
 use Rattle.text.proofs.put_natural.Kinds as put-natural-kinds
 use Rattle.text.proofs.+put_natural.Lts-put_natural as lts

@@ -5,7 +5,7 @@ use lib.ListN.{length}
 use native.Mathlib.Omega.{arith}
 use borrow.Author.Needs.{needs}
 use Rattle.text.specs.Decimal.{digits}
-use Rattle.text.specs.Digits.{more-length, one-digit, length-natural}
+use Rattle.text.specs.laws.Digits.{more-length, one-digit, length-natural}
 use Rattle.text.proofs.natural_length.Statement.{statement}
 use Rattle.text.proofs.natural_length.Tie as tie
 

@@ -5,7 +5,7 @@ use lib.ListN.{length}
 use native.Mathlib.Omega.{arith}
 use borrow.Author.Needs.{needs}
 use Rattle.text.specs.Decimal.{number}
-use Rattle.text.specs.Digits.{length-number}
+use Rattle.text.specs.laws.Digits.{length-number}
 use Rattle.text.proofs.Sign.{negative-text, natural-text}
 use Rattle.text.proofs.number_length.Statement.{statement}
 use Rattle.text.proofs.number_length.Tie as tie

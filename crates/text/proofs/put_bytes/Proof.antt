@@ -5,7 +5,7 @@ use lib.ListN.{length, length-set}
 use lib.Seq.{paste, paste-zero}
 use native.Mathlib.Omega.{arith}
 use borrow.Author.Needs.{needs}
-use Rattle.text.specs.Put.{all-put, one-more}
+use Rattle.text.specs.laws.Put.{all-put, one-more}
 use Rattle.text.proofs.put_bytes.Statement.{statement}
 use Rattle.text.proofs.put_bytes.Tie as tie
 

@@ -4,7 +4,7 @@ use borrow.Author.Needs.{needs}
 use mathlib.Core.Path.{_≡_, _∙_}
 use mathlib.Core.List.{_∷_}
 use Rattle.text.specs.Decimal.{digits, number}
-use Rattle.text.specs.Put.{put-then}
+use Rattle.text.specs.laws.Put.{put-then}
 use Rattle.text.proofs.Sign.{negative-text, natural-text}
 use Rattle.text.proofs.put_number.Statement.{statement}
 use Rattle.text.proofs.put_number.Tie as tie

@@ -8,7 +8,7 @@ use lib.ListN.{getD}
 use mir.Syntax.{w64}
 use mir.Val.{SFits}
 use borrow.Author.Needs.{needs}
-use Rattle.integer.specs.Word.{word}
+use Rattle.integer.specs.laws.Word.{word}
 use Rattle.turn.specs.Turn.{at}
 use Rattle.turn.proofs.Whole.{Mirrored, no-row, first-read, second-read, rows-more}
 use Rattle.turn.proofs.mirror.Statement.{statement}

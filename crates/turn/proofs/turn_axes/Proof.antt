@@ -1,6 +1,6 @@
 -- `turn::turn_axes` meets its contract.
 use borrow.Author.Needs.{needs}
-use Rattle.turn.specs.Shape.{shaped}
+use Rattle.turn.specs.laws.Shape.{shaped}
 use Rattle.turn.proofs.turn_axes.Statement.{statement}
 use Rattle.turn.proofs.turn_axes.Tie as tie
 

@@ -7,7 +7,7 @@ use lib.IntN.{ℤ}
 use mir.Syntax.{w64}
 use mir.Val.{SFits, toZ, ofZ}
 use borrow.Author.Needs.{needs}
-use Rattle.integer.specs.Word.{read-back, word}
+use Rattle.integer.specs.laws.Word.{read-back, word}
 use Rattle.choice.specs.Widest.{widest}
 use Rattle.turn.specs.Rotation.{first}
 use Rattle.turn.specs.Turn.{at}

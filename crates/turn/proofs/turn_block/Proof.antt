@@ -6,11 +6,12 @@ use mir.Syntax.{w64}
 use mir.Val.{SFits}
 use mir.Facts.{toZ-ofZ}
 use borrow.Author.Needs.{needs}
-use Rattle.integer.specs.Word.{word}
+use Rattle.integer.specs.laws.Word.{word}
 use Rattle.choice.specs.Widest.{widest}
-use Rattle.turn.specs.InPlace.{blockOf}
-use Rattle.turn.specs.Rotation.{first, inverse, second}
-use Rattle.turn.specs.Size.{passed}
+use Rattle.turn.specs.inner.InPlace.{blockOf}
+use Rattle.turn.specs.Rotation.{first, second}
+use Rattle.turn.specs.inner.Rotation.{inverse}
+use Rattle.turn.specs.inner.Size.{passed}
 use Rattle.turn.specs.Turn.{at}
 use Rattle.turn.specs.declared.pair.Rotation.{Rotation}
 use Rattle.turn.proofs.Back.{Back, back-of, inverse-first}

@@ -1,6 +1,6 @@
 -- `turn::turn_matrix` meets its contract.
 use borrow.Author.Needs.{needs}
-use Rattle.turn.specs.Shape.{shaped}
+use Rattle.turn.specs.laws.Shape.{shaped}
 use Rattle.turn.proofs.turn_matrix.Statement.{statement}
 use Rattle.turn.proofs.turn_matrix.Tie as tie
 

@@ -2,7 +2,7 @@
 use mathlib.Core.Path.{_∙_}
 use native.Mathlib.Omega.{arith}
 use borrow.Author.Needs.{needs}
-use Rattle.turn.specs.Eight.{shaped-square}
+use Rattle.turn.specs.laws.Eight.{shaped-square}
 use Rattle.turn.proofs.Columns.{shaped-axes-of}
 use Rattle.turn.proofs.Whole.{cross, matrix, pass}
 use Rattle.turn.proofs.turn_matrix_in_place.Statement.{statement}

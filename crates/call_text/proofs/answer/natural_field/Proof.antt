@@ -1,7 +1,7 @@
 -- `natural_field` meets its contract: a tab, and the digits where it ended.
 use borrow.Author.Needs.{needs}
 use native.Mathlib.Omega.{arith}
-use Rattle.text.specs.Digits.{length-natural}
+use Rattle.text.specs.laws.Digits.{length-natural}
 use Rattle.call_text.proofs.Printing.{put-field}
 use Rattle.call_text.proofs.answer.natural_field.Statement.{statement}
 use Rattle.call_text.proofs.answer.natural_field.Tie as tie

@@ -2,7 +2,7 @@
 use borrow.Author.Needs.{needs}
 use native.Mathlib.Omega.{arith}
 use mir.Facts.{toZ-ofZ}
-use Rattle.text.specs.Digits.{length-number}
+use Rattle.text.specs.laws.Digits.{length-number}
 use Rattle.call_text.proofs.Printing.{put-field}
 use Rattle.call_text.proofs.answer.number_field.Statement.{statement}
 use Rattle.call_text.proofs.answer.number_field.Tie as tie

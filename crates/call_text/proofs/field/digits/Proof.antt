@@ -5,7 +5,7 @@ use lib.ListN.{length, drop}
 use borrow.Author.Needs.{needs}
 use native.Mathlib.Omega.{arith}
 use Rattle.call_text.specs.Numbers.{digitsFrom}
-use Rattle.call_text.specs.Read.{unsignedIs}
+use Rattle.call_text.specs.inner.Read.{unsignedIs}
 use Rattle.call_text.proofs.Digits.{digits-end, digits-low, digits-high, digits-more, one-more, nine-digits}
 use Rattle.call_text.proofs.field.digits.Statement.{statement}
 use Rattle.call_text.proofs.field.digits.Tie as tie

@@ -4,7 +4,7 @@ use mir.Syntax.{w64}
 use mir.Val.{SFits}
 use mir.Facts.{toZ-ofZ}
 use borrow.Author.Needs.{needs}
-use Rattle.text.specs.Put.{rest-all}
+use Rattle.text.specs.laws.Put.{rest-all}
 use Rattle.call_text.proofs.Digits.{reads-below, signed-empty, minus-none, minus-zero, minus-some, plain-none, plain-some}
 use Rattle.call_text.proofs.field.number.Statement.{statement}
 use Rattle.call_text.proofs.field.number.Tie as tie

@@ -3,7 +3,7 @@ use Prim.Native.Nat.{_+_, _-_, _≤_}
 use mathlib.Core.Path.{_≡_}
 use lib.ListN.{length, drop}
 use borrow.Author.Needs.{needs}
-use Rattle.call_text.specs.Parts.{front}
+use Rattle.call_text.specs.inner.Parts.{front}
 use Rattle.call_text.proofs.Splitting.{found-end, found-here, found-past}
 use Rattle.call_text.proofs.find.find.Statement.{statement}
 use Rattle.call_text.proofs.find.find.Tie as tie

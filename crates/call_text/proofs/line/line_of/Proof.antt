@@ -8,7 +8,7 @@ use mir.Facts.{toZ-ofZ}
 use borrow.Author.Needs.{needs}
 use native.Mathlib.Omega.{arith}
 use Rattle.call_text.specs.Calls.{callOf}
-use Rattle.call_text.specs.Read.{found}
+use Rattle.call_text.specs.inner.Read.{found}
 use Rattle.call_text.proofs.Lines.{callFrom, line-untagged, line-tagged, line-end, line-full, line-bad, line-more}
 use Rattle.call_text.proofs.line.line_of.Statement.{statement}
 use Rattle.call_text.proofs.line.line_of.Tie as tie

@@ -4,8 +4,9 @@ use mathlib.Core.Path.{_≡_}
 use native.Mathlib.Numerals.{add-one}
 use native.Mathlib.Omega.{arith}
 use borrow.Author.Needs.{needs}
-use Rattle.text.specs.Put.{Put, put-nothing, put-then, same-size}
-use Rattle.field_axes.specs.Solution.{used}
+use Rattle.text.specs.Put.{Put}
+use Rattle.text.specs.laws.Put.{put-nothing, put-then, same-size}
+use Rattle.field_axes.specs.inner.Solution.{used}
 use Rattle.field_axes.proofs.Following.{length-row-used, room}
 use Rattle.field_axes.proofs.solve.put_axes.Statement.{statement}
 use Rattle.field_axes.proofs.solve.put_axes.Tie as tie

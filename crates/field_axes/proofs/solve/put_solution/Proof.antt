@@ -6,14 +6,15 @@ use mir.Syntax.{w64}
 use mir.Val.{SFits}
 use mir.Facts.{toZ-ofZ, toZ-pos}
 use borrow.Author.Needs.{needs}
-use Rattle.integer.specs.Word.{held}
-use Rattle.record.specs.AxisNumbers.{length-axes-row}
-use Rattle.run.specs.Calls.{run-calls}
-use Rattle.run.specs.Course.{run-ends, run-kept}
-use Rattle.text.specs.Put.{put-then, same-size}
-use Rattle.run.specs.Run.{endOf, runOf}
+use Rattle.integer.specs.laws.Word.{held}
+use Rattle.record.specs.laws.AxisNumbers.{length-axes-row}
+use Rattle.run.specs.laws.Calls.{run-calls}
+use Rattle.run.specs.laws.Course.{run-ends, run-kept}
+use Rattle.text.specs.laws.Put.{put-then, same-size}
+use Rattle.run.specs.Run.{runOf}
+use Rattle.run.specs.inner.Run.{endOf}
 use Rattle.field_axes.specs.Solution.{solution, solutionOf}
-use Rattle.field_axes.specs.Solvable.{channels}
+use Rattle.field_axes.specs.laws.Solvable.{channels}
 use Rattle.field_axes.proofs.Following.{used-axes}
 use Rattle.field_axes.proofs.solve.put_solution.Statement.{statement}
 use Rattle.field_axes.proofs.solve.put_solution.Tie as tie

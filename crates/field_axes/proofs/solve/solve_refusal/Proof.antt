@@ -3,10 +3,10 @@ use mathlib.Core.Path.{_≡_, sym, _∙_}
 use Prim.Native.Nat.{_+_, _*_, _≤_}
 use native.Mathlib.Omega.{arith}
 use borrow.Author.Needs.{needs}
-use Rattle.ledger.specs.Accepted.{load-accepted}
+use Rattle.ledger.specs.laws.Accepted.{load-accepted}
 use Rattle.ledger.specs.Call.{load}
 use Rattle.ledger.specs.Refusal.{refusalOf}
-use Rattle.field_axes.specs.Solvable.{numbers-few}
+use Rattle.field_axes.specs.laws.Solvable.{numbers-few}
 use Rattle.field_axes.proofs.RunRefusals.{buffer-short, limit-high, limit-low, load-refused, none-refused, tolerance-high}
 use Rattle.field_axes.proofs.solve.solve_refusal.Statement.{statement}
 use Rattle.field_axes.proofs.solve.solve_refusal.Tie as tie

@@ -6,9 +6,9 @@ use lib.ListN.{length, take}
 use mir.Syntax.{w64}
 use mir.Facts.{toZ-pos}
 use borrow.Author.Needs.{needs}
-use Rattle.limits.specs.Channels.{places}
-use Rattle.text.specs.Put.{put-then, same-size}
-use Rattle.field_axes.specs.Readable.{entries-used, length-entries, length-scatter, scatter-used}
+use Rattle.limits.specs.laws.Channels.{places}
+use Rattle.text.specs.laws.Put.{put-then, same-size}
+use Rattle.field_axes.specs.laws.Readable.{entries-used, length-entries, length-scatter, scatter-used}
 use Rattle.field_axes.specs.Table.{tableNumbers, tableNumbersOf}
 use Rattle.field_axes.proofs.table.put_table.Statement.{statement}
 use Rattle.field_axes.proofs.table.put_table.Tie as tie

@@ -4,7 +4,7 @@ use mathlib.Core.Path.{_≡_}
 use lib.ListN.{length}
 use borrow.Author.Needs.{needs}
 use native.Mathlib.Omega.{arith}
-use Rattle.job.specs.FieldScan.{digitsAt}
+use Rattle.job.specs.inner.FieldScan.{digitsAt}
 use Rattle.job.proofs.Bytes.{digits-end, digits-tab, digits-feed, digits-bad, digits-more, may-follow}
 use Rattle.job.proofs.Flags.{denied, granted}
 use Rattle.job.proofs.field.digits.Statement.{statement}

@@ -1,7 +1,7 @@
 -- `job_field::may_follow` meets its contract: each test that led to a return picks the same branch of `mayFollow`.
 use borrow.Author.Needs.{needs}
 use borrow.Author.Tests.{le-ltb, lt-ltb}
-use Rattle.job.specs.FieldScan.{mayFollow}
+use Rattle.job.specs.inner.FieldScan.{mayFollow}
 use Rattle.job.proofs.field.may_follow.Statement.{statement}
 use Rattle.job.proofs.field.may_follow.Tie as tie
 

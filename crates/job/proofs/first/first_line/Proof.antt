@@ -3,7 +3,7 @@ use mathlib.Core.Path.{_≡_, _∙_, sym}
 use mathlib.Core.Bool.{cond}
 use denote.Ref.{now}
 use Rattle.job.specs.Range.{parametersInRange}
-use Rattle.job.specs.LineScan.{parametersAt}
+use Rattle.job.specs.inner.LineScan.{parametersAt}
 use Rattle.job.specs.declared.first.Parameters.the-variants.{Read, Refused}
 use borrow.Author.Needs.{needs}
 use Rattle.job.proofs.Flags.{denied, granted}

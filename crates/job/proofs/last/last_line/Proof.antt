@@ -4,7 +4,7 @@ use mathlib.Core.Bool.{cond, _&&_}
 use denote.Ref.{now}
 use lib.Dec.{leb, ltb, eqb}
 use lib.ListN.{length}
-use Rattle.job.specs.LineScan.{endingAt}
+use Rattle.job.specs.inner.LineScan.{endingAt}
 use Rattle.job.specs.declared.last.Ending.the-variants.{Accepted, Refused}
 use borrow.Author.Needs.{needs}
 use borrow.Author.Tests.{lt-ltb, le-ltb, le-leb, lt-leb, eq-eqb, ne-eqb}

@@ -1,7 +1,7 @@
 -- `job_line::ranges::sample_within` meets its contract.
 use borrow.Author.Needs.{needs}
 use Rattle.job.proofs.Flags.{denied, granted}
-use Rattle.job.specs.LineScan.{sampleWithin}
+use Rattle.job.specs.inner.LineScan.{sampleWithin}
 use Rattle.job.proofs.ranges.sample_within.Statement.{statement}
 use Rattle.job.proofs.ranges.sample_within.Tie as tie
 

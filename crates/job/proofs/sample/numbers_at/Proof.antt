@@ -4,7 +4,7 @@ use mathlib.Core.Path.{_≡_, _∙_}
 use lib.ListN.{length, replicate}
 use borrow.Author.Needs.{needs}
 use native.Mathlib.Omega.{arith}
-use Rattle.job.specs.LineScan.{numbersAt}
+use Rattle.job.specs.inner.LineScan.{numbersAt}
 use Rattle.job.proofs.Lines.{numbers-more, numbers-broken, numbers-unended, numbers-last}
 use Rattle.job.proofs.sample.numbers_at.Statement.{statement}
 use Rattle.job.proofs.sample.numbers_at.Tie as tie

@@ -3,7 +3,7 @@ use mathlib.Core.Path.{_∙_, sym}
 use borrow.Author.Needs.{needs}
 use native.Mathlib.Omega.{arith}
 use Rattle.job.proofs.Tags.{tagged-room}
-use Rattle.job.specs.LineScan.{lineAt}
+use Rattle.job.specs.inner.LineScan.{lineAt}
 use Rattle.job.proofs.sample.sample_line.Statement.{statement}
 use Rattle.job.proofs.sample.sample_line.Tie as tie
 

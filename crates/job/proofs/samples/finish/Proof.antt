@@ -1,6 +1,6 @@
 -- `samples::finish` meets its contract: what the last line came to picks the same branch of `finishedBy`.
 use borrow.Author.Needs.{needs}
-use Rattle.job.specs.Scan.{finishedAt, finishedBy}
+use Rattle.job.specs.inner.Scan.{finishedAt, finishedBy}
 use Rattle.job.proofs.samples.finish.Statement.{statement}
 use Rattle.job.proofs.samples.finish.Tie as tie
 

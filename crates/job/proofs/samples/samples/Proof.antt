@@ -5,7 +5,7 @@ use lib.ListN.{length}
 use borrow.Author.Needs.{needs}
 use native.Mathlib.Omega.{arith}
 use Rattle.job.proofs.Flags.{denied, granted}
-use Rattle.job.specs.Scan.{samplesAt, kept}
+use Rattle.job.specs.inner.Scan.{samplesAt, kept}
 use Rattle.job.proofs.Keeping.{kept-within, samples-end, samples-beyond, samples-full, samples-more}
 use Rattle.job.proofs.samples.samples.Statement.{statement}
 use Rattle.job.proofs.samples.samples.Tie as tie

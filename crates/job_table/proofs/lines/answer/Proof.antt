@@ -5,7 +5,7 @@ use native.Mathlib.Omega.{arith}
 use borrow.Author.Needs.{needs}
 use lib.ListN.{length}
 use Rattle.job.specs.Reply.{printedOf}
-use Rattle.job.specs.Replying.{refused-printed, written-printed}
+use Rattle.job.specs.laws.Replying.{refused-printed, written-printed}
 use Rattle.text.specs.Line.{lineX}
 use Rattle.job_table.specs.Table.{tableText}
 use Rattle.job_table.proofs.lines.answer.Statement.{statement}

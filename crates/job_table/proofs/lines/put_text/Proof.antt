@@ -3,11 +3,11 @@ use Prim.Native.Nat.{_+_, _≤_}
 use native.Mathlib.Omega.{arith}
 use borrow.Author.Needs.{needs}
 use lib.ListN.{length, take, length-append}
-use Rattle.text.specs.Put.{put-then}
+use Rattle.text.specs.laws.Put.{put-then}
 use Rattle.text.specs.Line.{numberLine}
 use Rattle.text.specs.Lines.{lines}
 use Rattle.text.specs.Rows.{rowLine}
-use Rattle.job_table.specs.Done.{textOf}
+use Rattle.job_table.specs.inner.Done.{textOf}
 use Rattle.job_table.proofs.lines.put_text.Statement.{statement}
 use Rattle.job_table.proofs.lines.put_text.Tie as tie
 

@@ -9,15 +9,15 @@ use mir.Syntax.{w64}
 use mir.Val.{toZ}
 use mir.Facts.{toZ-pos}
 use Rattle.job.specs.declared.Job as arrays
-use Rattle.job.specs.Replying.{put-whole, too-short}
+use Rattle.job.specs.laws.Replying.{put-whole, too-short}
 use Rattle.job_table.specs.Held.{jobIn}
-use Rattle.job_table.specs.Laws.{channels-held, samples-few, shift-few}
+use Rattle.job_table.specs.laws.Laws.{channels-held, samples-few, shift-few}
 use Rattle.scatter.specs.declared.table.Table.{Table}
 use Rattle.text.specs.Put.{Sized}
 use Rattle.text.specs.Rows.{Wide}
-use Rattle.job_table.specs.Done.{textOf}
-use Rattle.job_table.specs.TextLaws.{text-of-arrays}
-use Rattle.job_table.specs.Rows.{rows-wide}
+use Rattle.job_table.specs.inner.Done.{textOf}
+use Rattle.job_table.specs.laws.TextLaws.{text-of-arrays}
+use Rattle.job_table.specs.laws.Rows.{rows-wide}
 use Rattle.job_table.specs.Table.{tableText}
 use Rattle.job_table.proofs.lines.table_job.Statement.{statement}
 use Rattle.job_table.proofs.lines.table_job.Tie as tie

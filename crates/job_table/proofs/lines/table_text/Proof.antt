@@ -1,7 +1,7 @@
 -- `scatter_text::table_text` meets its contract: the job's refusal is the answer, or the table of the job that was read.
 use borrow.Author.Needs.{needs}
-use Rattle.job_table.specs.Laws.{Read, accepted-read}
-use Rattle.job.specs.Replying.{replies-answered, replies-refused}
+use Rattle.job_table.specs.laws.Laws.{Read, accepted-read}
+use Rattle.job.specs.laws.Replying.{replies-answered, replies-refused}
 use Rattle.job_table.proofs.lines.table_text.Statement.{statement}
 use Rattle.job_table.proofs.lines.table_text.Tie as tie
 

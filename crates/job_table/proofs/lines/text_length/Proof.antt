@@ -2,8 +2,8 @@
 use native.Mathlib.Omega.{arith}
 use borrow.Author.Needs.{needs}
 use lib.ListN.{length-append}
-use Rattle.text.specs.Numbers.{length-number-line}
-use Rattle.job_table.specs.Done.{textOf}
+use Rattle.text.specs.laws.Numbers.{length-number-line}
+use Rattle.job_table.specs.inner.Done.{textOf}
 use Rattle.job_table.proofs.lines.text_length.Statement.{statement}
 use Rattle.job_table.proofs.lines.text_length.Tie as tie
 

@@ -11,8 +11,9 @@ use lib.ListN.{List·getD-append, getD, replicate}
 use mir.Syntax.{w64}
 use mir.Val.{SFits}
 use mir.Facts.{toZ-pos, toZ-ofZ}
-use Rattle.integer.specs.Filled.{Filled, filled-all, filled-more, filled-none, filled-skip}
-use Rattle.integer.specs.Tabulate.{getD-tabulate, length-tabulate, tabulate}
+use Rattle.integer.specs.laws.Filled.{Filled, filled-all, filled-more, filled-none, filled-skip}
+use Rattle.integer.specs.Tabulate.{tabulate}
+use Rattle.integer.specs.laws.Tabulate.{getD-tabulate, length-tabulate}
 use Rattle.job_table.proofs.rows.row_from.Statement.{statement}
 use Rattle.job_table.proofs.rows.row_from.Tie as tie
 

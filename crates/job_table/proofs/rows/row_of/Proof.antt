@@ -4,7 +4,7 @@ use native.Mathlib.Nat.{mul-le-mul}
 use native.Mathlib.Omega.{arith}
 use borrow.Author.Needs.{needs}
 use Rattle.integer.specs.Matrix.{matrixOf}
-use Rattle.job_table.specs.Rows.{rowOf}
+use Rattle.job_table.specs.inner.Rows.{rowOf}
 use Rattle.job_table.proofs.rows.row_of.Statement.{statement}
 use Rattle.job_table.proofs.rows.row_of.Tie as tie
 

@@ -2,7 +2,7 @@
 use mathlib.Core.List.{[], _∷_}
 use borrow.Author.Needs.{needs}
 use Rattle.integer.specs.Tabulate.{tabulate}
-use Rattle.job_table.specs.Rows.{rowsOf}
+use Rattle.job_table.specs.inner.Rows.{rowsOf}
 use Rattle.job_table.proofs.rows.rows_of.Statement.{statement}
 use Rattle.job_table.proofs.rows.rows_of.Tie as tie
 

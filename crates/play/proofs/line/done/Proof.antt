@@ -1,6 +1,6 @@
 -- `played::done` meets its contract.
 use mathlib.Core.Path.{refl}
-use Rattle.play.specs.Played.{doneOf}
+use Rattle.play.specs.inner.Played.{doneOf}
 use Rattle.play.proofs.line.done.Statement.{statement}
 use Rattle.play.proofs.line.done.Tie as tie
 

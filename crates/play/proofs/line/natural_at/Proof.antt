@@ -5,7 +5,7 @@ use mir.Syntax.{w64}
 use mir.Val.{SFits}
 use mir.Facts.{toZ-ofZ}
 use borrow.Author.Needs.{needs}
-use Rattle.integer.specs.Word.{unsigned}
+use Rattle.integer.specs.laws.Word.{unsigned}
 use Rattle.play.proofs.Playing.{negative-no, whole-is}
 use Rattle.play.proofs.line.natural_at.Statement.{statement}
 use Rattle.play.proofs.line.natural_at.Tie as tie

@@ -1,6 +1,6 @@
 -- `played::unknown` meets its contract.
 use mathlib.Core.Path.{refl}
-use Rattle.play.specs.Played.{playedBy}
+use Rattle.play.specs.inner.Played.{playedBy}
 use Rattle.play.proofs.line.unknown.Statement.{statement}
 use Rattle.play.proofs.line.unknown.Tie as tie
 

@@ -7,7 +7,8 @@ use lib.ListN.{length}
 use borrow.Author.Needs.{needs}
 use borrow.Author.Tests.{not-false, not-true}
 use native.Mathlib.Omega.{arith}
-use Rattle.play.specs.Steps.{Reached, start}
+use Rattle.play.specs.Steps.{Reached}
+use Rattle.play.specs.laws.Steps.{start}
 use Rattle.play.specs.Text.{played}
 use Rattle.play.proofs.Passing.{rest, fits-not, fits-all, fits-on}
 use Rattle.play.proofs.passes.fits.Statement.{statement}

@@ -7,8 +7,8 @@ use lib.Seq.{length-take-le}
 use borrow.Author.Needs.{needs}
 use borrow.Author.Tests.{not-false, not-true}
 use native.Mathlib.Omega.{arith}
-use Rattle.text.specs.Put.{put-nothing, same-size}
-use Rattle.play.specs.Steps.{start}
+use Rattle.text.specs.laws.Put.{put-nothing, same-size}
+use Rattle.play.specs.laws.Steps.{start}
 use Rattle.play.proofs.Passing.{Before, room, written-last, written-more}
 use Rattle.play.proofs.passes.put_played.Statement.{statement}
 use Rattle.play.proofs.passes.put_played.Tie as tie

@@ -9,14 +9,15 @@ use mir.Syntax.{w64}
 use mir.Val.{SFits}
 use borrow.Author.Needs.{needs}
 use borrow.Author.Tests.{eq-eqb, ne-eqb}
-use Rattle.integer.specs.Word.{word}
-use Rattle.ledger.specs.Accepted.{Names, axis-accepted}
-use Rattle.ledger.specs.Axis.{errorOf, same-error}
+use Rattle.integer.specs.laws.Word.{word}
+use Rattle.ledger.specs.laws.Accepted.{Names, axis-accepted}
+use Rattle.ledger.specs.Axis.{errorOf}
+use Rattle.ledger.specs.laws.Axis.{same-error}
 use Rattle.ledger.specs.Call.{axis}
 use Rattle.ledger.specs.Refusal.{refusalOf}
 use Rattle.turn.specs.Turn.{at}
 use Rattle.record.specs.declared.query.Answer.the-variants.{Axis}
-use Rattle.record.specs.Fill.{at-rowsOf}
+use Rattle.record.specs.laws.Fill.{at-rowsOf}
 use Rattle.record.specs.Flat.{kept}
 use Rattle.record.specs.Record.{acceptedOf, axisOf, valueOf}
 use Rattle.record.proofs.Outcome.{accepted, kept-small, refused}

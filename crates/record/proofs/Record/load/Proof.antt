@@ -1,10 +1,10 @@
 -- `record::Record::load` meets its contract.
 use mathlib.Core.Path.{refl, sym, _∙_}
 use borrow.Author.Needs.{needs}
-use Rattle.ledger.specs.Accepted.{Loads, load-accepted}
+use Rattle.ledger.specs.laws.Accepted.{Loads, load-accepted}
 use Rattle.ledger.specs.Call.{load}
 use Rattle.record.specs.Blank.{blank}
-use Rattle.record.specs.Loading.{load-refusal-alone, loads-within}
+use Rattle.record.specs.laws.Loading.{load-refusal-alone, loads-within}
 use Rattle.record.specs.Record.{acceptedOf, loadedOf, valueOf}
 use Rattle.record.proofs.FlatFilled.{flat-square}
 use Rattle.record.proofs.Outcome.{accepted, refuses}

@@ -3,11 +3,11 @@ use mathlib.Core.Path.{refl, _∙_}
 use native.Mathlib.Omega.{arith}
 use borrow.Author.Needs.{needs}
 use Rattle.ledger.specs.Call.{loosePair}
-use Rattle.ledger.specs.Cyclic.{cyclic-pairs}
+use Rattle.ledger.specs.laws.Cyclic.{cyclic-pairs}
 use Rattle.ledger.specs.Pairs.{cyclic}
 use Rattle.ledger.specs.Refusal.{refusalOf}
 use Rattle.record.proofs.Search.{same-loose}
-use Rattle.record.specs.Fill.{at-rowsOf}
+use Rattle.record.specs.laws.Fill.{at-rowsOf}
 use Rattle.record.specs.Record.{acceptedOf, valueOf}
 use Rattle.record.proofs.Outcome.{accepted, refuses}
 use Rattle.record.proofs.Record.loose_pair.Statement.{statement}

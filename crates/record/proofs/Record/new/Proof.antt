@@ -1,6 +1,6 @@
 -- `record::Record::new` meets its contract.
 use mathlib.Core.Path.{refl}
-use Rattle.record.specs.After.{fresh-kept}
+use Rattle.record.specs.laws.After.{fresh-kept}
 use Rattle.record.specs.Record.{fresh}
 use Rattle.record.proofs.Record.new.Statement.{statement}
 use Rattle.record.proofs.Record.new.Tie as tie

@@ -4,7 +4,7 @@ use Prim.Native.Nat.{_-_}
 use borrow.Author.Needs.{needs}
 use Rattle.ledger.specs.Call.{sweep}
 use Rattle.ledger.specs.Pairs.{cyclic}
-use Rattle.record.specs.Turning.{works-least}
+use Rattle.record.specs.laws.Turning.{works-least}
 use Rattle.record.specs.Work.{Work, workPairs}
 use Rattle.record.specs.Worked.{Ready, workAt}
 use Rattle.record.specs.declared.query.Answer.the-variants.{Swept}

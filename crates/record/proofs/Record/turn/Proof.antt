@@ -4,10 +4,10 @@ use Prim.Native.Nat.{_-_}
 use native.Mathlib.Omega.{arith}
 use lib.Dec.{ltb}
 use borrow.Author.Needs.{needs}
-use Rattle.ledger.specs.Accepted.{Turns, turn-accepted}
+use Rattle.ledger.specs.laws.Accepted.{Turns, turn-accepted}
 use Rattle.ledger.specs.Call.{turn}
 use Rattle.ledger.specs.Pairs.{Pair}
-use Rattle.record.specs.Turning.{work-turned}
+use Rattle.record.specs.laws.Turning.{work-turned}
 use Rattle.record.specs.Work.{Work, workPair}
 use Rattle.record.specs.Worked.{Ready, workAt}
 use Rattle.record.specs.declared.query.Answer.the-variants.{Turned}

@@ -6,7 +6,7 @@ use lib.ListN.{length}
 use borrow.Author.Needs.{needs}
 use borrow.Author.Tests.{le-leb, lt-leb, ne-eqb, not-true, not-false}
 use Rattle.ledger.specs.Refusal.{refusalOf}
-use Rattle.limits.specs.Channels.{places}
+use Rattle.limits.specs.laws.Channels.{places}
 use Rattle.record.proofs.Checks.{sized}
 use Rattle.record.proofs.load.load_refusal.Statement.{statement}
 use Rattle.record.proofs.load.load_refusal.Tie as tie

@@ -9,10 +9,10 @@ use mir.Syntax.{w64}
 use mir.Val.{SFits, toZ, ofZ}
 use mir.Facts.{toZ-ofZ}
 use borrow.Author.Needs.{needs}
-use Rattle.integer.specs.Laws.{natAbs-*ℤ}
-use Rattle.integer.specs.Word.{held}
-use Rattle.ledger.specs.Accepted.{within-small}
-use Rattle.limits.specs.Channels.{places}
+use Rattle.integer.specs.laws.Laws.{natAbs-*ℤ}
+use Rattle.integer.specs.laws.Word.{held}
+use Rattle.ledger.specs.laws.Accepted.{within-small}
+use Rattle.limits.specs.laws.Channels.{places}
 use Rattle.limits.specs.Limits.{units}
 use Rattle.integer.specs.Matrix.{matrixOf}
 use Rattle.record.proofs.load.loaded_entry.Statement.{statement}

@@ -10,8 +10,8 @@ use mir.Syntax.{w64}
 use mir.Val.{SFits, ofZ}
 use borrow.Author.Needs.{needs}
 use Rattle.integer.specs.Range.{all}
-use Rattle.integer.specs.Word.{same-bits}
-use Rattle.limits.specs.Channels.{places}
+use Rattle.integer.specs.laws.Word.{same-bits}
+use Rattle.limits.specs.laws.Channels.{places}
 use Rattle.integer.specs.Matrix.{matrixOf}
 use Rattle.record.proofs.Checks.{all-more, all-fails, equal-yes, equal-no, mirrored}
 use Rattle.record.proofs.load.row_mirrored.Statement.{statement}

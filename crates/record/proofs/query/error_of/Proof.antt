@@ -7,7 +7,7 @@ use native.Mathlib.Omega.{arith}
 use lib.Dec.{eqb}
 use lib.IntN.{natAbs}
 use Rattle.integer.specs.Sum.{sumℕ}
-use Rattle.integer.specs.Tests.{cond-≤}
+use Rattle.integer.specs.laws.Tests.{cond-≤}
 use Rattle.ledger.specs.Axis.{errorOf}
 use Rattle.turn.specs.Turn.{at}
 use Rattle.choice.specs.Widest.{widest}

@@ -7,7 +7,7 @@ use native.Mathlib.Omega.{arith}
 use borrow.Author.Needs.{needs}
 use Rattle.ledger.specs.Pairs.{cyclic}
 use Rattle.turn.specs.Turn.{at}
-use Rattle.ledger.specs.Order.{all-left, none-left, pair-next, pairsLeft, row-begins, row-ends, rowsLeft}
+use Rattle.ledger.specs.laws.Order.{all-left, none-left, pair-next, pairsLeft, row-begins, row-ends, rowsLeft}
 use Rattle.record.specs.Loose.{looseOf}
 use Rattle.record.proofs.Search.{found, passed}
 use Rattle.record.proofs.query.loose_pair_of.Statement.{statement}

@@ -10,7 +10,7 @@ use mir.Val.{SFits}
 use mir.Facts.{toZ-ofZ}
 use borrow.Author.Needs.{needs}
 use Rattle.turn.specs.Turn.{at}
-use Rattle.turn.specs.InUse.{inUse-inside}
+use Rattle.turn.specs.laws.InUse.{inUse-inside}
 use Rattle.record.proofs.Filled.{filledTo}
 use Rattle.record.specs.Flat.{flatOf}
 use Rattle.record.proofs.FlatFilled.{flat-all, flat-cong, flat-none, flat-one, flat-row}

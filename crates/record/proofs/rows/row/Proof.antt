@@ -9,7 +9,8 @@ use mir.Val.{SFits}
 use mir.Facts.{toZ-ofZ}
 use borrow.Author.Needs.{needs}
 use borrow.Author.Tests.{lt-ltb}
-use Rattle.turn.specs.Eight.{eight-cong, front, front-more}
+use Rattle.turn.specs.inner.Eight.{front}
+use Rattle.turn.specs.laws.Eight.{eight-cong, front-more}
 use Rattle.turn.specs.Turn.{eight}
 use Rattle.record.specs.Flat.{entriesOf, kept}
 use Rattle.record.proofs.rows.row.Statement.{statement}

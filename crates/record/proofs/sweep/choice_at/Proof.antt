@@ -1,6 +1,6 @@
 -- `sweep::choice_at` meets its contract.
 use borrow.Author.Needs.{needs}
-use Rattle.turn.specs.Size.{entry-back}
+use Rattle.turn.specs.laws.Size.{entry-back}
 use Rattle.turn.specs.Turn.{at}
 use Rattle.record.proofs.sweep.choice_at.Statement.{statement}
 use Rattle.record.proofs.sweep.choice_at.Tie as tie

@@ -3,7 +3,7 @@ use native.Mathlib.Omega.{arith}
 use borrow.Author.Needs.{needs}
 use borrow.Author.Tests.{le-leb, le-ltb, lt-leb, lt-ltb}
 use Rattle.ledger.specs.Refusal.{refusalOf}
-use Rattle.limits.specs.Channels.{pairs-twice}
+use Rattle.limits.specs.laws.Channels.{pairs-twice}
 use Rattle.record.proofs.sweep.sweep_refusal.Statement.{statement}
 use Rattle.record.proofs.sweep.sweep_refusal.Tie as tie
 

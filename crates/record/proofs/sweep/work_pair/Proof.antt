@@ -4,8 +4,8 @@ use native.Mathlib.Numerals.{add-one}
 use native.Mathlib.Omega.{arith}
 use borrow.Author.Needs.{needs}
 use Rattle.ledger.specs.Pairs.{Pair}
-use Rattle.turn.specs.Size.{rotationOf-turns}
-use Rattle.record.specs.Turning.{axes-small, matrix-small, matrix-symmetric}
+use Rattle.turn.specs.laws.Size.{rotationOf-turns}
+use Rattle.record.specs.laws.Turning.{axes-small, matrix-small, matrix-symmetric}
 use Rattle.record.specs.Work.{Work, chosen, workBy}
 use Rattle.record.specs.Worked.{workAt}
 use Rattle.record.proofs.Worked.{l-range, not-turned, turned-by}

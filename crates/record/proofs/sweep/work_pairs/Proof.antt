@@ -5,7 +5,7 @@ use native.Mathlib.Omega.{arith}
 use lib.ListN.{length}
 use borrow.Author.Needs.{needs}
 use Rattle.ledger.specs.Pairs.{cyclic}
-use Rattle.ledger.specs.Order.{all-left, none-left, pair-next, pairsLeft, row-begins, row-ends, rowsLeft}
+use Rattle.ledger.specs.laws.Order.{all-left, none-left, pair-next, pairsLeft, row-begins, row-ends, rowsLeft}
 use Rattle.record.specs.Worked.{workAt}
 use Rattle.record.proofs.Sweeping.{Sweeping, cyclic-few, ended, one-more, started, then}
 use Rattle.record.proofs.sweep.work_pairs.Statement.{statement}

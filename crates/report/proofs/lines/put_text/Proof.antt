@@ -3,11 +3,12 @@ use Prim.Native.Nat.{_+_, _≤_}
 use lib.ListN.{length}
 use native.Mathlib.Omega.{arith}
 use borrow.Author.Needs.{needs}
-use Rattle.text.specs.Put.{put-then}
+use Rattle.text.specs.laws.Put.{put-then}
 use Rattle.text.specs.Line.{wordLine}
 use Rattle.text.specs.Lines.{lines}
 use Rattle.text.specs.Rows.{rowLine}
-use Rattle.report.specs.Text.{textOf, outcomeWord}
+use Rattle.report.specs.Text.{outcomeWord}
+use Rattle.report.specs.inner.Text.{textOf}
 use Rattle.report.proofs.Written.{text-size}
 use Rattle.report.proofs.lines.put_text.Statement.{statement}
 use Rattle.report.proofs.lines.put_text.Tie as tie

@@ -6,7 +6,7 @@ use lib.Seq.{take-length}
 use native.Mathlib.Omega.{arith}
 use borrow.Author.Needs.{needs}
 use Rattle.text.specs.Line.{wordLine}
-use Rattle.text.specs.Numbers.{length-word-line}
+use Rattle.text.specs.laws.Numbers.{length-word-line}
 use Rattle.report.specs.Text.{outcomeWord}
 use Rattle.report.proofs.Written.{word-few, text-size}
 use Rattle.report.proofs.lines.text_length.Statement.{statement}

@@ -10,11 +10,14 @@ use mir.Syntax.{w64}
 use mir.Val.{SFits}
 use mir.Facts.{toZ-ofZ, toZ-pos}
 use borrow.Author.Needs.{needs}
-use Rattle.integer.specs.Word.{held}
-use Rattle.turn.specs.Eight.{front, front-more}
+use Rattle.integer.specs.laws.Word.{held}
+use Rattle.turn.specs.inner.Eight.{front}
+use Rattle.turn.specs.laws.Eight.{front-more}
 use Rattle.turn.specs.Turn.{at, eight}
-use Rattle.record.specs.AxisNumbers.{axesNumbers, axisNumbers, error-small}
-use Rattle.run.specs.Rows.{error-held, heldOf, numbers-held}
+use Rattle.record.specs.inner.AxisNumbers.{axesNumbers, axisNumbers}
+use Rattle.record.specs.laws.AxisNumbers.{error-small}
+use Rattle.run.specs.inner.Rows.{heldOf}
+use Rattle.run.specs.laws.Rows.{error-held, numbers-held}
 use Rattle.run.proofs.Going.{held-small}
 use Rattle.run.proofs.rows.axes_numbers.Statement.{statement}
 use Rattle.run.proofs.rows.axes_numbers.Tie as tie

@@ -1,6 +1,6 @@
 -- `run::rows::load_rows` meets its contract.
-use Rattle.ledger.specs.Accepted.{Loads, load-accepted}
-use Rattle.record.specs.Loading.{loads-within}
+use Rattle.ledger.specs.laws.Accepted.{Loads, load-accepted}
+use Rattle.record.specs.laws.Loading.{loads-within}
 use Rattle.run.proofs.Loaded.{load-holds}
 use Rattle.run.proofs.rows.load_rows.Statement.{statement}
 use Rattle.run.proofs.rows.load_rows.Tie as tie

@@ -7,7 +7,7 @@ use mir.Syntax.{w64}
 use mir.Val.{SFits}
 use mir.Facts.{toZ-ofZ}
 use borrow.Author.Needs.{needs}
-use Rattle.turn.specs.Eight.{eight-of}
+use Rattle.turn.specs.laws.Eight.{eight-of}
 use Rattle.turn.specs.Turn.{eight}
 use Rattle.run.proofs.rows.numbers_of.Statement.{statement}
 use Rattle.run.proofs.rows.numbers_of.Tie as tie

@@ -2,7 +2,7 @@
 use Prim.Native.Nat.{_-_}
 use mathlib.Core.Bool.{false}
 use borrow.Author.Needs.{needs}
-use Rattle.run.specs.Rows.{heldOf}
+use Rattle.run.specs.inner.Rows.{heldOf}
 use Rattle.run.specs.Run.{runFrom}
 use Rattle.run.proofs.Going.{Going, begun, held-ready, is-spent, is-still, settles, sweeps-on}
 use Rattle.run.proofs.rows.run_rows.Statement.{statement}

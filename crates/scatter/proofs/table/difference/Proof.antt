@@ -4,7 +4,7 @@ use borrow.Author.Needs.{needs}
 use lib.IntN.{_-ℤ_}
 use mir.Syntax.{w64}
 use mir.Facts.{toZ-ofZ, toZ-pos}
-use Rattle.integer.specs.Word.{difference-held}
+use Rattle.integer.specs.laws.Word.{difference-held}
 use Rattle.scatter.proofs.table.difference.Statement.{statement}
 use Rattle.scatter.proofs.table.difference.Tie as tie
 

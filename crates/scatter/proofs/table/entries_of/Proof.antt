@@ -5,9 +5,10 @@ use native.Mathlib.Omega.{arith}
 use borrow.Author.Needs.{needs}
 use lib.IntN.{pos}
 use lib.ListN.{getD}
-use Rattle.integer.specs.Tabulate.{tabulate, length-tabulate}
+use Rattle.integer.specs.Tabulate.{tabulate}
+use Rattle.integer.specs.laws.Tabulate.{length-tabulate}
 use Rattle.rounding.specs.Rounding.{rnd}
-use Rattle.integer.specs.Filled.{Filled, filled-none, filled-more, filled-skip, filled-all}
+use Rattle.integer.specs.laws.Filled.{Filled, filled-none, filled-more, filled-skip, filled-all}
 use Rattle.scatter.proofs.Places.{zeros, nearest-asks, rounded, rounded-zero}
 use Rattle.scatter.proofs.table.entries_of.Statement.{statement}
 use Rattle.scatter.proofs.table.entries_of.Tie as tie

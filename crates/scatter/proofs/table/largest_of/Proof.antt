@@ -13,9 +13,9 @@ use lib.ListN.{length, getD}
 use mir.Syntax.{w64}
 use mir.Val.{SFits}
 use mir.Facts.{toZ-ofZ}
-use Rattle.scatter.specs.Ranges.{ZeroFrom}
+use Rattle.scatter.specs.inner.Ranges.{ZeroFrom}
 use Rattle.scatter.specs.Table.{largest}
-use Rattle.scatter.specs.Shift.{largest-bounds, largest-is}
+use Rattle.scatter.specs.laws.Shift.{largest-bounds, largest-is}
 use Rattle.scatter.proofs.table.largest_of.Statement.{statement}
 use Rattle.scatter.proofs.table.largest_of.Tie as tie
 

@@ -6,10 +6,10 @@ use native.Mathlib.Numerals.{add-one}
 use native.Mathlib.Omega.{arith}
 use borrow.Author.Needs.{needs}
 use lib.IntN.{pos}
-use Rattle.limits.specs.Channels.{place-below}
-use Rattle.integer.specs.Filled.{Filled, filled-none, filled-more}
+use Rattle.limits.specs.laws.Channels.{place-below}
+use Rattle.integer.specs.laws.Filled.{Filled, filled-none, filled-more}
 use Rattle.scatter.specs.Table.{scatter, padded}
-use Rattle.scatter.specs.Bounds.{number-times-cross, channel-times-channel}
+use Rattle.scatter.specs.laws.Bounds.{number-times-cross, channel-times-channel}
 use Rattle.scatter.proofs.Places.{zeros, S-stored, all-rows}
 use Rattle.scatter.proofs.table.scatter_of.Statement.{statement}
 use Rattle.scatter.proofs.table.scatter_of.Tie as tie

@@ -8,7 +8,7 @@ use borrow.Author.Count.{below-more}
 use borrow.Author.Needs.{needs}
 use lib.Pow.{pow-pos}
 use Rattle.limits.specs.Limits.{entryLimit}
-use Rattle.scatter.specs.Shift.{below-limit}
+use Rattle.scatter.specs.laws.Shift.{below-limit}
 use Rattle.scatter.proofs.table.shift_of.Statement.{statement}
 use Rattle.scatter.proofs.table.shift_of.Tie as tie
 

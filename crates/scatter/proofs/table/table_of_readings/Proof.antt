@@ -2,7 +2,7 @@
 use mathlib.Core.Path.{ap, _∙_}
 use borrow.Author.Needs.{needs}
 use Rattle.scatter.specs.Table.{tableOf}
-use Rattle.sums.specs.Bounds.{readings-bounded}
+use Rattle.sums.specs.laws.Bounds.{readings-bounded}
 use Rattle.scatter.proofs.table.table_of_readings.Statement.{statement}
 use Rattle.scatter.proofs.table.table_of_readings.Tie as tie
 

@@ -2,7 +2,8 @@
 use mathlib.Core.Path.{sym, subst}
 use Prim.Native.Nat.{_+_}
 use borrow.Author.Needs.{needs}
-use Rattle.turn.specs.Size.{Small, Symmetric}
+use Rattle.turn.specs.Size.{Small}
+use Rattle.turn.specs.inner.Size.{Symmetric}
 use Rattle.choice.specs.Widest.{widest}
 use Rattle.test_turns.specs.Generator.{matrixOf, rowOf, offset}
 use Rattle.test_turns.specs.Ranges.{matrixOf-small, matrixOf-symmetric}

@@ -1,7 +1,7 @@
 -- `turns::generator::row` meets its contract, an entry at a time.
 use mathlib.Core.List.{[], _∷_}
 use borrow.Author.Needs.{needs}
-use Rattle.integer.specs.Word.{word}
+use Rattle.integer.specs.laws.Word.{word}
 use Rattle.turn.specs.Turn.{eight}
 use Rattle.test_turns.specs.Generator.{rowOf}
 use Rattle.test_turns.proofs.generator.row.Statement.{statement}

@@ -1,6 +1,6 @@
 -- `turns::lines::turned` is safe.
 use borrow.Author.Needs.{needs}
-use Rattle.turn.specs.Size.{rotationOf-turns}
+use Rattle.turn.specs.laws.Size.{rotationOf-turns}
 use Rattle.test_turns.proofs.lines.turned.Statement.{statement}
 use Rattle.test_turns.proofs.lines.turned.Tie as tie
 

@@ -9,7 +9,7 @@ use native.Mathlib.Omega.{arith}
 use borrow.Author.Needs.{needs}
 use Rattle.text.specs.Decimal.{number}
 use Rattle.text.specs.Line.{further, numbers}
-use Rattle.text.specs.Numbers.{numbers-more}
+use Rattle.text.specs.laws.Numbers.{numbers-more}
 use Rattle.text.proofs.line.numbers_length.Statement.{statement}
 use Rattle.text.proofs.line.numbers_length.Tie as tie
 

@@ -8,9 +8,10 @@ use mir.Facts.{toZ-ofZ}
 use native.Mathlib.Omega.{arith}
 use borrow.Author.Needs.{needs}
 use Rattle.text.specs.Decimal.{number}
-use Rattle.text.specs.Put.{Put, put-nothing, put-then, same-size}
+use Rattle.text.specs.Put.{Put}
+use Rattle.text.specs.laws.Put.{put-nothing, put-then, same-size}
 use Rattle.text.specs.Line.{numbers, further}
-use Rattle.text.specs.Numbers.{numbers-more, number-within}
+use Rattle.text.specs.laws.Numbers.{numbers-more, number-within}
 use Rattle.text.proofs.line.put_numbers.Statement.{statement}
 use Rattle.text.proofs.line.put_numbers.Tie as tie
 

@@ -4,9 +4,9 @@ use lib.ListN.{length}
 use native.Mathlib.Omega.{arith}
 use borrow.Author.Needs.{needs}
 use Rattle.text.specs.Decimal.{digits}
-use Rattle.text.specs.Digits.{length-natural}
-use Rattle.text.specs.Put.{put-then}
-use Rattle.text.specs.Numbers.{refusal-line}
+use Rattle.text.specs.laws.Digits.{length-natural}
+use Rattle.text.specs.laws.Put.{put-then}
+use Rattle.text.specs.laws.Numbers.{refusal-line}
 use Rattle.text.proofs.line.put_refusal.Statement.{statement}
 use Rattle.text.proofs.line.put_refusal.Tie as tie
 

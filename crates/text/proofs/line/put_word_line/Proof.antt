@@ -3,9 +3,9 @@ use Prim.Native.Nat.{_+_, _≤_}
 use lib.ListN.{length, take}
 use native.Mathlib.Omega.{arith}
 use borrow.Author.Needs.{needs}
-use Rattle.text.specs.Put.{put-then}
+use Rattle.text.specs.laws.Put.{put-then}
 use Rattle.text.specs.Line.{numbers}
-use Rattle.text.specs.Numbers.{word-line, length-word-line}
+use Rattle.text.specs.laws.Numbers.{word-line, length-word-line}
 use Rattle.text.proofs.line.put_word_line.Statement.{statement}
 use Rattle.text.proofs.line.put_word_line.Tie as tie
 

@@ -9,7 +9,7 @@ use mir.Syntax.{w64}
 use mir.Val.{SFits}
 use mir.Facts.{toZ-ofZ}
 use borrow.Author.Needs.{needs}
-use Rattle.text.specs.Put.{all-put, one-more}
+use Rattle.text.specs.laws.Put.{all-put, one-more}
 use Rattle.text.proofs.numbers.put.Statement.{statement}
 use Rattle.text.proofs.numbers.put.Tie as tie
 

@@ -5,8 +5,10 @@ use mathlib.Core.List.{[]}
 use lib.ListN.{length, getD}
 use native.Mathlib.Omega.{arith}
 use borrow.Author.Needs.{needs}
-use Rattle.text.specs.Put.{Put, put-nothing, put-part, part-size, same-size}
-use Rattle.text.specs.Lines.{lines, lines-none, lines-more, line-within}
+use Rattle.text.specs.Put.{Put}
+use Rattle.text.specs.laws.Put.{put-nothing, put-part, part-size, same-size}
+use Rattle.text.specs.Lines.{lines}
+use Rattle.text.specs.laws.Lines.{lines-none, lines-more, line-within}
 use Rattle.text.specs.Rows.{rowLine}
 use Rattle.text.proofs.rows.put_rows.Statement.{statement}
 use Rattle.text.proofs.rows.put_rows.Tie as tie

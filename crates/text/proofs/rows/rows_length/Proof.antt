@@ -5,8 +5,9 @@ use mathlib.Core.List.{[]}
 use lib.ListN.{length, getD}
 use native.Mathlib.Omega.{arith}
 use borrow.Author.Needs.{needs}
-use Rattle.text.specs.Lines.{lines, lines-none, lines-length}
-use Rattle.text.specs.Numbers.{length-number-line}
+use Rattle.text.specs.Lines.{lines}
+use Rattle.text.specs.laws.Lines.{lines-none, lines-length}
+use Rattle.text.specs.laws.Numbers.{length-number-line}
 use Rattle.text.specs.Rows.{rowLine}
 use Rattle.text.proofs.rows.rows_length.Statement.{statement}
 use Rattle.text.proofs.rows.rows_length.Tie as tie

@@ -3,7 +3,7 @@ use mir.Syntax.{w64}
 use mir.Facts.{toZ-pos}
 use lib.IntN.{pos}
 use borrow.Author.Needs.{needs}
-use Rattle.integer.specs.Word.{negated, negated-held}
+use Rattle.integer.specs.laws.Word.{negated, negated-held}
 use Rattle.turn.specs.Rotation.{signed}
 use Rattle.turn.proofs.pair.with_sign.Statement.{statement}
 use Rattle.turn.proofs.pair.with_sign.Tie as tie

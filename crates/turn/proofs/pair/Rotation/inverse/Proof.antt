@@ -3,8 +3,8 @@ use mir.Syntax.{w64}
 use mir.Val.{SFits}
 use mir.Facts.{toZ-ofZ}
 use borrow.Author.Needs.{needs}
-use Rattle.integer.specs.Word.{held, negated, negated-held}
-use Rattle.turn.specs.Rotation.{inverse}
+use Rattle.integer.specs.laws.Word.{held, negated, negated-held}
+use Rattle.turn.specs.inner.Rotation.{inverse}
 use Rattle.turn.proofs.pair.Rotation.inverse.Statement.{statement}
 use Rattle.turn.proofs.pair.Rotation.inverse.Tie as tie
 

@@ -6,7 +6,7 @@ use mir.Syntax.{w64}
 use mir.Val.{SFits}
 use mir.Facts.{toZ-ofZ, toZ-pos}
 use borrow.Author.Needs.{needs}
-use Rattle.integer.specs.Word.{difference-held, held}
+use Rattle.integer.specs.laws.Word.{difference-held, held}
 use Rattle.turn.specs.Rotation.{rotationOf}
 use Rattle.turn.proofs.Power.{power, power-small, sine, sine-small}
 use Rattle.turn.proofs.pair.Rotation.of.Statement.{statement}

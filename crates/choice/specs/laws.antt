@@ -1,0 +1,3 @@
+pub mod Threshold
+pub mod Chosen
+pub mod Cards

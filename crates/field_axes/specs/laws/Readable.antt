@@ -1,0 +1,64 @@
+-- Readings that are not refused: what they keep to, and how many numbers their table gives.
+use Prim.Native.Nat.{ℕ, _+_, _*_, _≤_}
+use mathlib.Core.Path.{_≡_}
+use mathlib.Core.Bool.{_&&_}
+use mathlib.Core.List.{List}
+use native.Mathlib.Omega.{arith}
+use lib.Dec.{eqb, leb, eqb→eq, leb→le}
+use lib.Ieee.Bits.{is-true}
+use lib.ListN.{length, take, length-append}
+use lib.Seq.{length-take-le}
+use mir.Facts.{and-yes}
+use Rattle.ledger.specs.laws.Accepted.{passed}
+use Rattle.limits.specs.laws.Channels.{places}
+use Rattle.scatter.specs.laws.Entries.{length-padded}
+use Rattle.sums.specs.Samples.{samples, sumsOf}
+use Rattle.scatter.specs.Table.{tableOf}
+use Rattle.sums.specs.declared.Sums.{Sums}
+use Rattle.text.specs.Range.{allWithin}
+use Rattle.text.specs.laws.Range.{all-at}
+use Rattle.field_axes.specs.Table.{tableNumbers, tableNumbersOf, tableRefusal, valuesWithin}
+use Rattle.field_axes.specs.inner.Readable.{Readable}
+
+pub readable : (n : ℕ) (dilutions counts : List ℕ) (size : ℕ) → tableRefusal n dilutions counts size ≡ 0 → Readable n dilutions counts size
+unfolding tableRefusal valuesWithin
+readable n dilutions counts size e =
+    let values = passed (valuesWithin n dilutions counts) 2 _ e (omega arith) in
+    let counted = passed (eqb (length counts) (n * length dilutions)) 6 _ (values .1) (omega arith) in
+    let number = passed (leb 2 (length dilutions) && leb (length dilutions) 256) 3 _ (counted .1) (omega arith) in
+    let channels = and-yes (leb n 8) _ (and-yes (leb 2 n) _ (values .0) .1) in
+    let both = and-yes (allWithin 1 100 dilutions) (allWithin 0 65_535 counts) (channels .1) in
+    record {
+      readings =
+          record {
+            channels = leb→le n 8 (channels .0);
+            number = leb→le _ 256 (and-yes (leb 2 (length dilutions)) _ (number .0) .1);
+            counted = eqb→eq _ _ (counted .0);
+            dilution = all-at 1 100 dilutions (is-true _ (both .0));
+            count = all-at 0 65_535 counts (is-true _ (both .1));
+          };
+      room = leb→le _ size (passed (leb (1 + 2 * (n * n)) size) 12 0 (number .1) (omega arith) .0);
+    }
+
+module _ (n : ℕ) (t : Sums) where
+  pub length-scatter : length (tableOf n t .scatter) ≡ 64
+  unfolding tableOf
+  length-scatter = length-padded _
+
+  pub length-entries : length (tableOf n t .entries) ≡ 64
+  unfolding tableOf
+  length-entries = length-padded _
+
+-- the first n×n of them
+module _ (n : ℕ) (t : Sums) (h : n ≤ 8) where
+  pub scatter-used : length (take (n * n) (tableOf n t .scatter)) ≡ n * n
+  scatter-used = length-take-le (n * n) (tableOf n t .scatter) (rw (length-scatter n t) (places n h))
+
+  pub entries-used : length (take (n * n) (tableOf n t .entries)) ≡ n * n
+  entries-used = length-take-le (n * n) (tableOf n t .entries) (rw (length-entries n t) (places n h))
+
+pub length-table : (n : ℕ) (dilutions counts : List ℕ) → n ≤ 8 → length (tableNumbersOf n dilutions counts) ≡ 1 + 2 * (n * n)
+unfolding tableNumbersOf tableNumbers
+length-table n dilutions counts h =
+    let t = sumsOf (samples n dilutions counts) in
+    simp (length-append, scatter-used n t h, entries-used n t h) (omega arith)

@@ -1,0 +1,65 @@
+-- A run that is not refused: what its arguments keep to, and how many numbers it gives.
+use Prim.Native.Nat.{ℕ, zero, suc, _+_, _*_, _≤_}
+use mathlib.Core.Path.{_≡_, refl}
+use mathlib.Core.Bool.{Bool, true, false, cond, _&&_}
+use mathlib.Core.List.{List}
+use native.Mathlib.Nat.{mul-le-mul}
+use native.Mathlib.Omega.{arith}
+use lib.Dec.{eqb, leb, leb→le}
+use lib.IntN.{ℤ}
+use lib.ListN.{length, length-append}
+use lib.Seq.{length-take-le}
+use mir.Facts.{and-yes}
+use borrow.Author.Tests.{eqb-true, eqb-false}
+use Rattle.ledger.specs.laws.Accepted.{load-accepted, passed}
+use Rattle.ledger.specs.Call.{load}
+use Rattle.ledger.specs.Refusal.{refusalOf}
+use Rattle.limits.specs.Limits.{toleranceLimit}
+use Rattle.record.specs.laws.AxisNumbers.{length-row, length-values}
+use Rattle.record.specs.Record.{axisOf}
+use Rattle.record.specs.declared.Record.{Record}
+use Rattle.field_axes.specs.Solution.{axes, axisSolution, solution, solutionOf, solveRefusal}
+use Rattle.field_axes.specs.inner.Solvable.{Solvable}
+
+-- a first refusal, and after it another: neither of them
+neither : (first later : ℕ) → cond (eqb first 0) later first ≡ 0 → (first ≡ 0) × (later ≡ 0)
+neither first later = by-test (eqb first 0) refl
+  where
+    by-test : (test : Bool) → eqb first 0 ≡ test → cond test later first ≡ 0 → (first ≡ 0) × (later ≡ 0)
+    by-test true q e = (eqb-true first 0 q, e)
+    by-test false q e = absurd (eqb-false first 0 q e)
+
+pub solvable : (n : ℕ) (numbers : List ℤ) (limit t size : ℕ) → solveRefusal n numbers limit t size ≡ 0 → Solvable n numbers limit t size
+unfolding solveRefusal
+solvable n numbers limit t size e =
+    let load = neither (refusalOf 0 0 (load n numbers)) _ e in
+    let ranges = passed (leb 1 limit && (leb limit 16 && leb t toleranceLimit)) 2 _ (load .1) (omega arith) in
+    let upper = and-yes (leb limit 16) (leb t toleranceLimit) (and-yes (leb 1 limit) _ (ranges .0) .1) in
+    record {
+      allowed = record { matrix = load .0; sweeps = leb→le limit 16 (upper .0); tolerance = leb→le t toleranceLimit (upper .1) };
+      room = leb→le _ size (passed (leb (3 + n * (n + 2)) size) 12 0 (ranges .1) (omega arith) .0);
+    }
+
+-- how many numbers
+pub numbers-few : (n : ℕ) → n ≤ 8 → n * (n + 2) ≤ 80
+numbers-few n h = mul-le-mul {n₁ = n} {m₁ = n + 2} {n₂ = 8} {m₂ = 10} h (omega arith)
+
+pub length-axis : (n : ℕ) (r : Record) (i : ℕ) → n ≤ 8 → length (axisSolution n r i) ≡ n + 2
+unfolding axisSolution
+length-axis n r i h = simp (length-append, length-values, length-take-le n (axisOf r i) (rw length-row h)) (omega arith)
+
+pub length-axes : (n : ℕ) (r : Record) (last : ℕ) → n ≤ 8 → length (axes n r last) ≡ last * (n + 2)
+unfolding axes
+length-axes n r zero h = omega arith
+length-axes n r (suc last) h = simp (length-append, length-axis n r (suc last) h, length-axes n r last h) (omega arith)
+
+module _ (n : ℕ) (numbers : List ℤ) (limit t size : ℕ) (s : Solvable n numbers limit t size) where
+  pub channels : n ≤ 8
+  channels = load-accepted 0 0 n numbers (s .allowed .matrix) .high
+
+  pub length-solution : length (solutionOf n numbers limit t) ≡ 3 + n * (n + 2)
+  unfolding solutionOf solution
+  length-solution = rw (length-append, length-axes n _ n channels)
+
+  pub length-small : length (solutionOf n numbers limit t) ≤ 83
+  length-small = rw length-solution (omega (arith, numbers-few n channels))

@@ -1,0 +1,10 @@
+pub mod Order
+pub mod Axis
+pub mod Accepted
+pub mod Cyclic
+pub mod Near
+pub mod Sound
+pub mod Loaded
+pub mod Turned
+pub mod Rows
+pub mod Invariant

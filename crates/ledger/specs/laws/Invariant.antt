@@ -1,0 +1,94 @@
+-- The ledger's state is sound after every list of calls.
+use mathlib.Core.Path.{_≡_, refl, _∙_}
+use mathlib.Core.Bool.{Bool, true, false, cond}
+use mathlib.Core.List.{List, [], _∷_}
+use Prim.Native.Nat.{ℕ, _+_, _-_, _≤_}
+use native.Mathlib.Omega.{arith}
+use borrow.Author.Tests.{eqb-true}
+use lib.Dec.{eqb}
+use lib.ListN.{length}
+use Rattle.limits.specs.Limits.{turnLimit}
+use Rattle.choice.specs.Choice.{choose}
+use Rattle.choice.specs.declared.Choice.{Choice}
+use Rattle.choice.specs.declared.Choice.the-variants.{NoTurn, Turn}
+use Rattle.ledger.specs.laws.Accepted.{load-accepted, turn-accepted, sweep-accepted}
+use Rattle.ledger.specs.Call.{Call, load, turn, sweep, loosePair, axis}
+use Rattle.ledger.specs.laws.Cyclic.{Each, cyclic-pairs, cyclic-length}
+use Rattle.ledger.specs.Ledger.{State, Ledger, empty, loaded, take, turnPair, turnPairs, accepted, sizeOf, turnsOf, ledgerStep, ledgerFrom}
+use Rattle.ledger.specs.Ledger.{ledger}
+use Rattle.ledger.specs.laws.Loaded.{sound-load}
+use Rattle.ledger.specs.Pairs.{Pair, cyclic}
+use Rattle.ledger.specs.Refusal.{refusalOf}
+use Rattle.ledger.specs.laws.Sound.{Sound}
+use Rattle.ledger.specs.laws.Turned.{sound-turn}
+
+-- t is s after at most `count` turns: n and A stay
+pub record Continues (count : ℕ) (s t : State) : Type 0 where
+  pub size : t .n ≡ s .n
+  pub given : t .A ≡ s .A
+  pub least : s .m ≤ t .m
+  pub most : t .m ≤ s .m + count
+
+-- one pair makes one turn or none
+pub turnPair-continues : (s : State) (pair : Pair) → Continues 1 s (turnPair s pair)
+unfolding turnPair take
+turnPair-continues s pair = cases (choose (s .B (pair .p) (pair .p)) (s .B (pair .q) (pair .q)) (s .B (pair .p) (pair .q)))
+  where
+    cases : (choice : Choice) → Continues 1 s (take s pair choice)
+    cases NoTurn = record { size = refl; given = refl; least = omega arith; most = omega arith }
+    cases (Turn l minus) = record { size = refl; given = refl; least = omega arith; most = omega arith }
+
+-- a list of pairs makes at most one turn for each
+pub turnPairs-continues : (s : State) (pairs : List Pair) → Continues (length pairs) s (turnPairs s pairs)
+unfolding turnPairs
+turnPairs-continues s [] = record { size = refl; given = refl; least = omega arith; most = omega arith }
+turnPairs-continues s (pair ∷ pairs) =
+    let first = turnPair-continues s pair in
+    let rest = turnPairs-continues (turnPair s pair) pairs in
+    record { size = rest .size ∙ first .size; given = rest .given ∙ first .given; least = omega arith; most = omega arith }
+
+-- Pairs one after the other, in any order, while enough turns remain
+pub sound-sweep : (s : State) (pairs : List Pair) → Sound s → Each (s .n) pairs → s .m + length pairs ≤ turnLimit → Sound (turnPairs s pairs)
+unfolding turnPairs Each
+sound-sweep s [] h e left = h
+sound-sweep s (pair ∷ pairs) h e left =
+    let first = turnPair-continues s pair in
+    sound-sweep (turnPair s pair) pairs (sound-turn s pair h (e .0) (omega arith)) (rw (first .size) (e .1)) (omega arith)
+
+-- the state of a ledger that has one
+unfoldable pub SoundLedger : Ledger → Type 0
+SoundLedger empty = Unit
+SoundLedger (loaded s) = Sound s
+
+sound-accepted : (g : Ledger) (call : Call) → SoundLedger g → refusalOf (sizeOf g) (turnsOf g) call ≡ 0 → SoundLedger (accepted g call)
+unfolding SoundLedger accepted sizeOf turnsOf
+sound-accepted g (load n numbers) h e = sound-load n numbers (load-accepted (sizeOf g) (turnsOf g) n numbers e)
+sound-accepted empty (turn p q) h e = h
+sound-accepted (loaded s) (turn p q) h e =
+    let turns = turn-accepted (s .n) (s .m) p q e in
+    sound-turn s (record { p = p - 1; q = q - 1 }) h (record { ordered = omega arith; within = omega arith }) (turns .left)
+sound-accepted empty sweep h e = h
+sound-accepted (loaded s) sweep h e =
+    let some-channel : 1 ≤ s .n = omega (arith, h .low) in
+    sound-sweep s (cyclic (s .n)) h (cyclic-pairs (s .n)) (omega (arith, cyclic-length (s .n) some-channel, sweep-accepted (s .n) (s .m) e))
+sound-accepted g (loosePair t) h e = h
+sound-accepted g (axis i) h e = h
+
+-- A call that is refused leaves the ledger as it is
+pub sound-step : (g : Ledger) (call : Call) → SoundLedger g → SoundLedger (ledgerStep g call)
+unfolding ledgerStep
+sound-step g call h = cases (eqb (refusalOf (sizeOf g) (turnsOf g) call) 0) refl
+  where
+    cases : (b : Bool) → eqb (refusalOf (sizeOf g) (turnsOf g) call) 0 ≡ b → SoundLedger (cond b (accepted g call) g)
+    cases true e = sound-accepted g call h (eqb-true (refusalOf (sizeOf g) (turnsOf g) call) 0 e)
+    cases false e = h
+
+sound-from : (g : Ledger) (calls : List Call) → SoundLedger g → SoundLedger (ledgerFrom g calls)
+unfolding ledgerFrom
+sound-from g [] h = h
+sound-from g (call ∷ calls) h = sound-from (ledgerStep g call) calls (sound-step g call h)
+
+-- For every list of calls; nothing is assumed of it
+pub sound : (calls : List Call) → SoundLedger (ledger calls)
+unfolding ledger SoundLedger
+sound calls = sound-from empty calls tt

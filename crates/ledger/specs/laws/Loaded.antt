@@ -1,0 +1,80 @@
+-- A load that is not refused gives a sound state: nothing is rounded yet.
+use mathlib.Core.Path.{_≡_, sym, _∙_, ap}
+use mathlib.Core.List.{List}
+use Prim.Native.Nat.{ℕ, _+_, _*_, _<_, _≤_}
+use native.Mathlib.Nat.{le-trans, mul-le-mul}
+use native.Mathlib.Omega.{arith}
+use lib.IntN.{ℤ, pos, natAbs, _-ℤ_, _*ℤ_, +ℤ-invr}
+use Rattle.integer.specs.laws.Laws.{natAbs-*ℤ, one-*ℤ}
+use Rattle.integer.specs.Square.{sq}
+use Rattle.integer.specs.laws.Square.{sq-pos}
+use Rattle.integer.specs.Sum.{sumℕ}
+use Rattle.integer.specs.laws.Sum.{sumℕ-cong}
+use Rattle.integer.specs.laws.Dot.{dot-comm}
+use Rattle.limits.specs.Limits.{entryLimit, units, whole}
+use Rattle.integer.specs.Matrix.{Matrix, product, transpose, conjugate, diagonal, squares, matrixOf}
+use Rattle.integer.specs.laws.Matrix.{diagonal-*, diagonal-transpose, diagonal-product, product-diagonal, dot-diagonal, diagonal-squares, squares-≤}
+use Rattle.ledger.specs.laws.Accepted.{Loads}
+use Rattle.ledger.specs.Ledger.{loadedOf}
+use Rattle.ledger.specs.laws.Near.{matrixDifference, axesDifference}
+use Rattle.ledger.specs.Sound.{matrixBound}
+use Rattle.ledger.specs.laws.Sound.{Sound}
+
+no-difference : (x y : ℤ) → x ≡ y → natAbs (x -ℤ y) ≤ 0
+no-difference x y e = rw (e, +ℤ-invr y) (omega arith)
+
+-- P, the identity
+I : Matrix
+I = diagonal (pos 1)
+
+conjugate-identity : (n : ℕ) (A : Matrix) (i j : ℕ) → i < n → j < n → conjugate n I A i j ≡ A i j
+unfolding conjugate I
+conjugate-identity n A i j o m = product-diagonal n (pos 1) (product n I A) i j m ∙ one-*ℤ (product n I A i j) ∙ diagonal-product n (pos 1) A i j o ∙ one-*ℤ (A i j)
+
+-- the entries in units keep to the bound that holds before any turn
+pub load-size : (n : ℕ) (numbers : List ℤ) → Loads n numbers → squares n (λ i j. pos units *ℤ matrixOf n numbers i j) ≤ matrixBound 0 * matrixBound 0
+unfolding matrixOf
+load-size n numbers h =
+    le-trans
+    (squares-≤ n (units * entryLimit) _ (λ i j o m. rw (natAbs-*ℤ (pos units) (matrixOf n numbers i j)) (omega (arith, h .small (i * n + j)))))
+    (mul-le-mul widest widest)
+  where
+    widest : n * (units * entryLimit) ≤ matrixBound 0
+    widest = omega (arith, h .high)
+
+-- B is 1024 × A and V is 2^30 × Q exactly, with P the identity and D = 1
+pub sound-load : (n : ℕ) (numbers : List ℤ) → Loads n numbers → Sound (loadedOf n numbers)
+unfolding loadedOf matrixOf I
+sound-load n numbers h = record {
+  low = h .low;
+  high = h .high;
+  entries = small;
+  given-symmetric = h .same;
+  turns = omega arith;
+  symmetric = λ i j o m. ap (λ z. pos units *ℤ z) (h .same i j o m);
+  matrix-size = load-size n numbers h;
+  axes-size = λ j o. omega (arith, diagonal-squares n (pos whole) j o, sq-pos whole);
+  positive = omega arith;
+  orthogonal = λ i j o m. diagonal-product n (pos 1) (transpose I) i j o ∙ one-*ℤ (I j i) ∙ diagonal-transpose (pos 1) i j;
+  parseval = λ u. sumℕ-cong n (λ j o. ap sq (dot-comm n u (I j) ∙ dot-diagonal n (pos 1) u j o ∙ one-*ℤ (u j))) ∙ same (sumℕ n (λ k. sq (u k)));
+  matrix-near = omega (arith, squares-≤ n 0 (matrixDifference n 1 I A B) exact-matrix);
+  axes-near = omega (arith, squares-≤ n 0 (axesDifference 1 I (diagonal (pos whole))) exact-axes);
+}
+  where
+    A : Matrix
+    A = matrixOf n numbers
+
+    B : Matrix
+    B i j = pos units *ℤ A i j
+
+    small : (i j : ℕ) → i < n → j < n → natAbs (A i j) ≤ entryLimit
+    small i j o m = h .small (i * n + j)
+
+    same : (k : ℕ) → k ≡ 1 * 1 * k
+    same k = omega arith
+
+    exact-matrix : (i j : ℕ) → i < n → j < n → natAbs (matrixDifference n 1 I A B i j) ≤ 0
+    exact-matrix i j o m = no-difference _ _ (one-*ℤ (B i j) ∙ ap (λ z. pos units *ℤ z) (sym (conjugate-identity n A i j o m)))
+
+    exact-axes : (i j : ℕ) → i < n → j < n → natAbs (axesDifference 1 I (diagonal (pos whole)) i j) ≤ 0
+    exact-axes i j o m = no-difference _ _ (one-*ℤ (diagonal (pos whole) i j) ∙ sym (diagonal-* (pos whole) (pos 1) i j))

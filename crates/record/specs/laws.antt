@@ -1,0 +1,10 @@
+pub mod Among
+pub mod Loose
+pub mod Fill
+pub mod Loading
+pub mod Accepted
+pub mod AxisNumbers
+pub mod After
+pub mod Agree
+pub mod Demand3proof
+pub mod Turning

@@ -1,0 +1,53 @@
+-- Calls that no refusal applies to, by their arguments and the record's n and m.
+use mathlib.Core.Path.{_≡_}
+use mathlib.Core.List.{List}
+use Prim.Native.Nat.{ℕ, suc, _+_, _-_, _*_, _/_, _<_, _≤_}
+use native.Mathlib.Nat.{mul-le-mul}
+use native.Mathlib.Omega.{arith}
+use lib.IntN.{ℤ}
+use lib.Ieee.Bits.{is-true}
+use borrow.Author.Tests.{eq-eqb, le-leb, lt-ltb}
+use Rattle.ledger.specs.laws.Accepted.{Loads, symmetric-of}
+use Rattle.ledger.specs.Call.{Call, load, loosePair, sweep}
+use Rattle.limits.specs.laws.Channels.{pairs-twice}
+use Rattle.limits.specs.Limits.{toleranceLimit, turnLimit}
+use Rattle.ledger.specs.Refusal.{refusalOf, symmetric}
+use Rattle.integer.specs.Matrix.{matrixOf}
+use Rattle.record.specs.laws.Loading.{loads-within}
+use Rattle.record.specs.Record.{acceptedOf, afterOf}
+use Rattle.record.specs.declared.Record.{Record}
+
+-- the record after such a call
+pub after-accepted : (r : Record) (call : Call) → refusalOf (r .n) (r .m) call ≡ 0 → afterOf r call ≡ acceptedOf r call
+unfolding afterOf
+after-accepted r call e = rw (eq-eqb (refusalOf (r .n) (r .m) call) 0 e)
+
+-- a state with n channels and m turns made
+module _ (n m : ℕ) (h : 1 ≤ n) where
+  pub loose-pair-accepted : (t : ℕ) → t ≤ toleranceLimit → refusalOf n m (loosePair t) ≡ 0
+  unfolding refusalOf
+  loose-pair-accepted t l = rw (lt-ltb 0 n h, le-leb t toleranceLimit l)
+
+  pub sweep-accepted : m + n * (n - 1) / 2 ≤ turnLimit → refusalOf n m sweep ≡ 0
+  unfolding refusalOf
+  sweep-accepted l = rw (lt-ltb 0 n h, le-leb (m + n * (n - 1) / 2) turnLimit l)
+
+pub load-accepted : (n m k : ℕ) (numbers : List ℤ) → Loads k numbers → refusalOf n m (load k numbers) ≡ 0
+unfolding refusalOf
+load-accepted n m k numbers l =
+    rw (
+      le-leb 2 k (l .low),
+      le-leb k 8 (l .high),
+      eq-eqb _ (k * k) (l .count),
+      loads-within l,
+      is-true (symmetric k (matrixOf k numbers)) (symmetric-of k (matrixOf k numbers) (l .same)),
+    )
+
+-- the pairs of a sweep, at most 28
+pairs-most : (n : ℕ) → n ≤ 8 → n * (n - 1) / 2 ≤ 28
+pairs-most n h = omega (arith, pairs-twice n h)
+
+-- 'sweep with m + n(n−1)/2 > 448' does not come to pass in 16 sweeps
+pub turns-suffice : (n m sweeps : ℕ) → n ≤ 8 → sweeps < 16 → m ≤ sweeps * (n * (n - 1) / 2) → m + n * (n - 1) / 2 ≤ turnLimit
+turns-suffice n m sweeps h l g =
+    omega (arith, g, mul-le-mul {n₁ = suc sweeps} {m₁ = n * (n - 1) / 2} {n₂ = 16} {m₂ = 28} l (pairs-most n h))

@@ -1,0 +1,152 @@
+-- The record and the ledger, call by call: the same n, m, matrix and axes.
+use mathlib.Core.Path.{_≡_, refl, sym, ap, subst, _∙_}
+use mathlib.Core.Bool.{Bool, true, false, cond}
+use mathlib.Core.List.{List, [], _∷_}
+use Prim.Native.Nat.{ℕ, suc, _-_, _≤_}
+use native.Mathlib.Omega.{arith}
+use lib.Dec.{eqb}
+use lib.IntN.{ℤ}
+use borrow.Author.Tests.{eqb-true}
+use Rattle.integer.specs.Matrix.{Same}
+use Rattle.ledger.specs.laws.Accepted.{load-accepted, turn-accepted}
+use Rattle.ledger.specs.Call.{Call, load, turn, sweep, loosePair, axis}
+use Rattle.ledger.specs.laws.Cyclic.{Each, Ordered, cyclic-pairs}
+use Rattle.ledger.specs.Ledger as L
+use Rattle.ledger.specs.Ledger.{Ledger, State, empty, loaded, accepted, ledgerStep, sizeOf, turnsOf, take, turnPair, turnPairs}
+use Rattle.ledger.specs.Pairs.{Pair, cyclic}
+use Rattle.ledger.specs.Refusal.{refusalOf}
+use Rattle.turn.specs.laws.Congruence.{choose-same, turned-same, turnedAxes-same}
+use Rattle.turn.specs.Rotation.{rotationOf}
+use Rattle.turn.specs.Turn.{at, turnMatrix, turnAxes}
+use Rattle.record.specs.KeptWork.{KeptWork}
+use Rattle.turn.specs.laws.InUse.{at-array, inUse-inside}
+use Rattle.record.specs.laws.Turning.{work-keeps}
+use Rattle.record.specs.Work.{Work, chosen, workBy, workPair, workPairs}
+use Rattle.choice.specs.declared.Choice.{Choice}
+use Rattle.choice.specs.declared.Choice.the-variants.{NoTurn, Turn}
+use Rattle.record.specs.laws.Fill.{at-rowsOf, kept-flatOf}
+use Rattle.record.specs.Flat.{kept}
+use Rattle.record.specs.Kept.{Kept}
+use Rattle.record.specs.Record.{acceptedOf, afterOf, loadedOf, refusedOf, sweptOf, turnedOf, workOf, workedOf}
+use Rattle.record.specs.declared.Record.{Record}
+
+-- work and a ledger's state, below n
+pub record AgreeWork (n : ℕ) (w : Work) (s : State) : Type 0 where
+  pub size : s .n ≡ n
+  pub turns : w .m ≡ s .m
+  pub matrix : Same n (at (w .a)) (s .B)
+  pub axes : Same n (at (w .v)) (s .axes)
+
+module _ (n : ℕ) (w : Work) (s : State) (pair : Pair) (b : n ≤ 8) (k : KeptWork n w) (a : AgreeWork n w s) (o : Ordered n pair) where
+  by-choice : (choice : Choice) → AgreeWork n (workBy n w pair choice) (take s pair choice)
+  unfolding workBy take turnMatrix turnAxes
+  by-choice NoTurn = a
+  by-choice (Turn l minus) =
+      record {
+        size = a .size;
+        turns = ap suc (a .turns);
+        matrix = λ i j h g. at-array n _ (at (w .a)) b (k .outside) i j ∙ inUse-inside n _ i j h g ∙ turned-same n (pair .p) (pair .q) (o .ordered) (o .within) (at (w .a)) (s .B) (a .matrix) (rotationOf l minus) i j h g;
+        axes = λ i j h g. at-array n _ (at (w .v)) b (k .axes-outside) i j ∙ inUse-inside n _ i j h g ∙ turnedAxes-same n (pair .p) (pair .q) (o .ordered) (o .within) (at (w .v)) (s .axes) (a .axes) (rotationOf l minus) i j h g;
+      }
+
+  agree-pair : AgreeWork n (workPair n w pair) (turnPair s pair)
+  unfolding workPair turnPair chosen
+  agree-pair =
+      rw (choose-same n (pair .p) (pair .q) (o .ordered) (o .within) (at (w .a)) (s .B) (a .matrix)) (by-choice _)
+
+agree-pairs : (n : ℕ) (w : Work) (s : State) (pairs : List Pair) → n ≤ 8 → KeptWork n w → AgreeWork n w s → Each n pairs → AgreeWork n (workPairs n w pairs) (turnPairs s pairs)
+unfolding workPairs turnPairs Each
+agree-pairs n w s [] b k a e = a
+agree-pairs n w s (pair ∷ pairs) b k a e =
+    agree-pairs n (workPair n w pair) (turnPair s pair) pairs b
+    (work-keeps n w pair b k (e .0 .ordered) (e .0 .within))
+    (agree-pair n w s pair b k a (e .0)) (e .1)
+
+-- 'The kept matrix and axes are the record's a and v; they equal B and V'
+pub record Agree (r : Record) (s : State) : Type 0 where
+  pub size : r .n ≡ s .n
+  pub turns : r .m ≡ s .m
+  pub matrix : Same (s .n) (kept (r .a)) (s .B)
+  pub axes : Same (s .n) (kept (r .v)) (s .axes)
+
+unfoldable pub Agrees : Record → Ledger → Type 0
+Agrees r empty = r .n ≡ 0
+Agrees r (loaded s) = Agree r s
+
+-- from the record to its work, and back
+at-work : (r : Record) (s : State) → r .n ≤ 8 → Agree r s → AgreeWork (r .n) (workOf r) s
+unfolding workOf
+at-work r s b a =
+    record {
+      size = sym (a .size);
+      turns = a .turns;
+      matrix = λ i j h g. at-rowsOf (r .a) i j (omega arith) (omega arith) ∙ a .matrix i j (rw (a .size) at h) (rw (a .size) at g);
+      axes = λ i j h g. at-rowsOf (r .v) i j (omega arith) (omega arith) ∙ a .axes i j (rw (a .size) at h) (rw (a .size) at g);
+    }
+
+from-work : (r : Record) (w : Work) (s : State) → r .n ≤ 8 → AgreeWork (r .n) w s → Agree (workedOf r w) s
+unfolding workedOf
+from-work r w s b a =
+    record {
+      size = sym (a .size);
+      turns = a .turns;
+      matrix = λ i j h g. kept-flatOf (at (w .a)) i j (omega (arith, a .size)) (omega (arith, a .size)) ∙ a .matrix i j (rw (a .size) at h) (rw (a .size) at g);
+      axes = λ i j h g. kept-flatOf (at (w .v)) i j (omega (arith, a .size)) (omega (arith, a .size)) ∙ a .axes i j (rw (a .size) at h) (rw (a .size) at g);
+    }
+
+-- a refusal is of n and m alone, and where there is no matrix of n alone
+no-matrix : (m : ℕ) (call : Call) → refusalOf 0 m call ≡ refusalOf 0 0 call
+unfolding refusalOf
+no-matrix m (load n numbers) = refl
+no-matrix m (turn p q) = refl
+no-matrix m sweep = refl
+no-matrix m (loosePair t) = refl
+no-matrix m (axis i) = refl
+
+same-refusal : (r : Record) (g : Ledger) (call : Call) → Agrees r g → refusalOf (r .n) (r .m) call ≡ refusalOf (sizeOf g) (turnsOf g) call
+unfolding Agrees sizeOf turnsOf
+same-refusal r empty call a = rw a (no-matrix (r .m) call)
+same-refusal r (loaded s) call a = rw (a .size, a .turns)
+
+agree-refused : (r : Record) (g : Ledger) → Agrees r g → Agrees (refusedOf r) g
+unfolding Agrees refusedOf
+agree-refused r empty a = a
+agree-refused r (loaded s) a = record { size = a .size; turns = a .turns; matrix = a .matrix; axes = a .axes }
+
+agree-loaded : (r : Record) (n : ℕ) (numbers : List ℤ) → n ≤ 8 → Agree (loadedOf r n numbers) (L.loadedOf n numbers)
+unfolding loadedOf L.loadedOf
+agree-loaded r n numbers b =
+    record {
+      size = refl;
+      turns = refl;
+      matrix = λ i j h g. kept-flatOf _ i j (omega arith) (omega arith) ∙ inUse-inside n _ i j h g;
+      axes = λ i j h g. kept-flatOf _ i j (omega arith) (omega arith) ∙ inUse-inside n _ i j h g;
+    }
+
+ten-is-not-zero : _≡_ {A = ℕ} 10 0 → ⊥
+ten-is-not-zero z = omega arith
+
+agree-accepted : (r : Record) (g : Ledger) (call : Call) → Kept r → Agrees r g → refusalOf (r .n) (r .m) call ≡ 0 → Agrees (acceptedOf r call) (accepted g call)
+unfolding Agrees acceptedOf accepted refusalOf turnedOf sweptOf
+agree-accepted r g (load n numbers) k a e = agree-loaded r n numbers (load-accepted (r .n) (r .m) n numbers e .high)
+agree-accepted r empty (turn p q) k a e = absurd (ten-is-not-zero (rw a at e))
+agree-accepted r (loaded s) (turn p q) k a e =
+    let t = turn-accepted (r .n) (r .m) p q e in
+    from-work r _ _ (k .size)
+    (agree-pair (r .n) (workOf r) s (record { p = p - 1; q = q - 1 }) (k .size) (k .work) (at-work r s (k .size) a)
+    (record { ordered = omega (arith, t .first, t .ordered); within = omega (arith, t .first, t .ordered, t .last) }))
+agree-accepted r empty sweep k a e = absurd (ten-is-not-zero (rw a at e))
+agree-accepted r (loaded s) sweep k a e =
+    from-work r _ _ (k .size)
+    (subst (λ n. AgreeWork (r .n) (workPairs (r .n) (workOf r) (cyclic (r .n))) (turnPairs s (cyclic n))) (a .size)
+    (agree-pairs (r .n) (workOf r) s (cyclic (r .n)) (k .size) (k .work) (at-work r s (k .size) a) (cyclic-pairs (r .n))))
+agree-accepted r g (loosePair t) k a e = a
+agree-accepted r g (axis i) k a e = a
+
+pub agree-step : (r : Record) (g : Ledger) (call : Call) → Kept r → Agrees r g → Agrees (afterOf r call) (ledgerStep g call)
+unfolding afterOf ledgerStep
+agree-step r g call k a = rw (← same-refusal r g call a) (by-refusal (eqb (refusalOf (r .n) (r .m) call) 0) refl)
+  where
+    by-refusal : (t : Bool) → eqb (refusalOf (r .n) (r .m) call) 0 ≡ t → Agrees (cond t (acceptedOf r call) (refusedOf r)) (cond t (accepted g call) g)
+    by-refusal true e = agree-accepted r g call k a (eqb-true _ _ e)
+    by-refusal false e = agree-refused r g a

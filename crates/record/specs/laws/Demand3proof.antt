@@ -1,0 +1,78 @@
+-- Demand 3 is proved: the ledger is sound, and the record agrees with it.
+use mathlib.Core.Path.{_≡_, refl, ap}
+use mathlib.Core.List.{List, [], _∷_}
+use Prim.Native.Nat.{ℕ, _*_, _-_, _≤_, _<_}
+use native.Mathlib.Omega.{arith}
+use lib.IntN.{pos, _-ℤ_, _*ℤ_}
+use borrow.Author.Tests.{le-leb, lt-ltb}
+use Rattle.integer.specs.Matrix.{conjugate, squares}
+use Rattle.integer.specs.laws.Matrix.{squares-cong}
+use Rattle.ledger.specs.Axis.{errorOf}
+use Rattle.ledger.specs.laws.Axis.{same-error}
+use Rattle.ledger.specs.Call.{Call, axis}
+use Rattle.ledger.specs.laws.Invariant.{SoundLedger, sound-step}
+use Rattle.ledger.specs.Ledger.{Ledger, State, empty, loaded, ledger, ledgerFrom, ledgerStep}
+use Rattle.limits.specs.Limits.{units, whole}
+use Rattle.ledger.specs.laws.Near.{matrixDifference, axesDifference}
+use Rattle.ledger.specs.Refusal.{refusalOf}
+use Rattle.ledger.specs.laws.Rows.{row-near}
+use Rattle.ledger.specs.laws.Sound.{Sound}
+use Rattle.record.specs.laws.After.{after-kept, fresh-kept}
+use Rattle.record.specs.laws.Agree.{Agree, Agrees, agree-step}
+use Rattle.record.specs.Demand3.{AxisNear, Certified, Certifies, Demand-3}
+use Rattle.record.specs.Flat.{kept}
+use Rattle.record.specs.Kept.{Kept}
+use Rattle.record.specs.Record.{after, afterFrom, afterOf, answerOf, fresh, valueOf}
+use Rattle.record.specs.declared.Record.{Record}
+
+module _ (r : Record) (s : State) (a : Agree r s) (h : Sound s) where
+  error-agrees : (i : ℕ) → i < s .n → errorOf (r .n) (kept (r .a)) (r .m) i ≡ errorOf (s .n) (s .B) (s .m) i
+  error-agrees i l = rw (a .size, a .turns) (same-error (s .n) (kept (r .a)) (s .B) (s .m) i (λ j k. a .matrix i j l k))
+
+  accepted : (i : ℕ) → 1 ≤ i → i ≤ s .n → refusalOf (r .n) (r .m) (axis i) ≡ 0
+  unfolding refusalOf
+  accepted i f l = rw (a .size, lt-ltb 0 (s .n) (omega (arith, h .low)), le-leb 1 i f, le-leb i (s .n) l)
+
+  axis-near : (i : ℕ) → 1 ≤ i → i ≤ s .n → AxisNear r s i
+  unfolding answerOf valueOf
+  axis-near i f l =
+      record {
+        entry = kept (r .a) (i - 1) (i - 1);
+        error = errorOf (r .n) (kept (r .a)) (r .m) (i - 1);
+        answers = rw (accepted i f l);
+        near = rw (error-agrees (i - 1) (omega arith), a .matrix (i - 1) (i - 1) (omega arith) (omega arith)) (row-near s h (i - 1) (omega arith));
+      }
+
+  same-matrix : squares (s .n) (matrixDifference (s .n) (s .D) (s .P) (s .A) (kept (r .a))) ≡ squares (s .n) (matrixDifference (s .n) (s .D) (s .P) (s .A) (s .B))
+  same-matrix = squares-cong (s .n) (λ i j k l. ap (λ z. pos (s .D * s .D) *ℤ z -ℤ pos units *ℤ conjugate (s .n) (s .P) (s .A) i j) (a .matrix i j k l))
+
+  same-axes : squares (s .n) (axesDifference (s .D) (s .P) (kept (r .v))) ≡ squares (s .n) (axesDifference (s .D) (s .P) (s .axes))
+  same-axes = squares-cong (s .n) (λ i j k l. ap (λ z. pos (s .D) *ℤ z -ℤ pos whole *ℤ s .P i j) (a .axes i j k l))
+
+  certified : Certified r s
+  certified =
+      record {
+        held = omega (arith, a .size, h .low);
+        size = a .size;
+        turns = a .turns;
+        matrix = a .matrix;
+        axes = a .axes;
+        matrix-near = rw same-matrix (h .matrix-near);
+        axes-near = rw same-axes (h .axes-near);
+        rows-near = axis-near;
+      }
+
+certifies : (r : Record) (g : Ledger) → Agrees r g → SoundLedger g → Certifies r g
+unfolding Agrees SoundLedger Certifies
+certifies r empty a h = a
+certifies r (loaded s) a h = certified r s a h
+
+from : (r : Record) (g : Ledger) (calls : List Call) → Kept r → Agrees r g → SoundLedger g → Certifies (afterFrom r calls) (ledgerFrom g calls)
+unfolding afterFrom ledgerFrom
+from r g [] k a h = certifies r g a h
+from r g (call ∷ calls) k a h =
+    from (afterOf r call) (ledgerStep g call) calls (after-kept r call k) (agree-step r g call k a) (sound-step g call h)
+
+pub demand-3 : Demand-3
+unfolding after ledger Agrees SoundLedger fresh
+demand-3 calls = from fresh empty calls fresh-kept refl tt

@@ -1,0 +1,99 @@
+-- A load that is not refused: what holds of its numbers, and the record that it leaves is kept.
+use mathlib.Core.Path.{_≡_, refl, sym, ap, _∙_}
+use mathlib.Core.Bool.{true}
+use mathlib.Core.List.{List, [], _∷_}
+use Prim.Native.Nat.{ℕ, suc, _*_, _<_, _≤_}
+use native.Mathlib.Decide.{decLt}
+use native.Mathlib.Omega.{arith}
+use lib.IntN.{ℤ, pos, natAbs, _*ℤ_}
+use lib.ListN.{getD}
+use borrow.Author.Tests.{le-leb, lt-ltb, le-ltb}
+use Rattle.integer.specs.Square.{sq}
+use Rattle.integer.specs.laws.Square.{sq-pos}
+use Rattle.integer.specs.Sum.{sumℕ}
+use Rattle.integer.specs.laws.Sum.{sumℕ-cong, sumℕ-const}
+use Rattle.ledger.specs.laws.Accepted.{Loads, load-accepted}
+use Rattle.ledger.specs.Call.{load}
+use Rattle.ledger.specs.laws.Loaded.{load-size}
+use Rattle.limits.specs.Limits.{entryLimit, units, whole}
+use Rattle.ledger.specs.Refusal.{refusalOf, within}
+use Rattle.ledger.specs.Sound.{matrixBound, axesBound}
+use Rattle.turn.specs.Turn.{at}
+use Rattle.turn.specs.InUse.{inUse}
+use Rattle.turn.specs.laws.InUse.{Use, inside, outside, use-of, at-square, inUse-inside, inUse-outside, inUse-symmetric}
+use Rattle.integer.specs.Matrix.{Matrix, diagonal, squares, matrixOf}
+use Rattle.integer.specs.laws.Matrix.{diagonal-squares, squares-cong}
+use Rattle.record.specs.laws.Fill.{kept-flatOf}
+use Rattle.record.specs.Flat.{kept, entriesOf, rowsOf, flatOf}
+use Rattle.record.specs.Kept.{Kept}
+use Rattle.record.specs.Record.{loadedOf, workOf}
+use Rattle.record.specs.declared.Record.{Record}
+
+-- a load's refusal is of its arguments alone
+pub load-refusal-alone : (n m k : ℕ) (numbers : List ℤ) → refusalOf n m (load k numbers) ≡ refusalOf 0 0 (load k numbers)
+unfolding refusalOf
+load-refusal-alone n m k numbers = refl
+
+small-within : (numbers : List ℤ) → ((i : ℕ) → natAbs (getD numbers i (pos 0)) ≤ entryLimit) → within numbers ≡ true
+unfolding within
+small-within [] h = refl
+small-within (x ∷ xs) h = rw (le-leb (natAbs x) entryLimit (h 0), small-within xs (λ i. h (suc i)))
+
+pub loads-within : {n : ℕ} {numbers : List ℤ} → Loads n numbers → within numbers ≡ true
+loads-within {n} {numbers} l = small-within numbers (l .small)
+
+-- an entry of the rows of a flat matrix that is 0 outside
+pub at-flat : (n : ℕ) (x : Matrix) → n ≤ 8 → (i j : ℕ) → at (rowsOf (flatOf (inUse n x))) i j ≡ inUse n x i j
+unfolding rowsOf entriesOf
+at-flat n x b i j = at-square (kept (flatOf (inUse n x))) i j ∙ by-use (use-of 8 i j) (use-of n i j)
+  where
+    stored : i < 8 → j < 8 → inUse 8 (kept (flatOf (inUse n x))) i j ≡ inUse n x i j
+    stored h l = inUse-inside 8 _ i j h l ∙ kept-flatOf (inUse n x) i j h l
+
+    by-use : Use 8 i j → Use n i j → inUse 8 (kept (flatOf (inUse n x))) i j ≡ inUse n x i j
+    by-use (inside h l) u = stored h l
+    by-use (outside e) (inside h l) = stored (omega arith) (omega arith)
+    by-use (outside e) (outside d) = inUse-outside 8 _ i j e ∙ sym (inUse-outside n x i j d)
+
+-- the record after a load
+module _ (r : Record) (n : ℕ) (numbers : List ℤ) (l : Loads n numbers) where
+  entries : Matrix
+  entries i j = pos units *ℤ matrixOf n numbers i j
+
+  matrix : (i j : ℕ) → at (rowsOf (flatOf (inUse n entries))) i j ≡ inUse n entries i j
+  matrix = at-flat n entries (l .high)
+
+  axes : (i j : ℕ) → at (rowsOf (flatOf (inUse n (diagonal (pos whole))))) i j ≡ inUse n (diagonal (pos whole)) i j
+  axes = at-flat n (diagonal (pos whole)) (l .high)
+
+  bound : squares n (at (rowsOf (flatOf (inUse n entries)))) ≤ matrixBound 0 * matrixBound 0
+  unfolding entries
+  bound = rw (squares-cong n (λ i j h k. matrix i j ∙ inUse-inside n entries i j h k)) (load-size n numbers l)
+
+  column : (j : ℕ) → Dec (j < n) → sumℕ n (λ i. sq (at (rowsOf (flatOf (inUse n (diagonal (pos whole))))) i j)) ≤ axesBound 0 * axesBound 0
+  column j (yes h) =
+      rw (sumℕ-cong n (λ i k. ap sq (axes i j ∙ inUse-inside n _ i j k h)), diagonal-squares n (pos whole) j h, sq-pos whole)
+      (omega arith)
+  column j (no h) =
+      rw (sumℕ-cong n (λ i k. ap sq (axes i j ∙ inUse-outside n _ i j (rw (lt-ltb i n k, le-ltb j n (omega arith)))) ∙ sq-pos 0), sumℕ-const n 0)
+      (omega arith)
+
+  pub loads-kept : Kept (loadedOf r n numbers)
+  unfolding loadedOf workOf entries
+  loads-kept =
+      record {
+        size = l .high;
+        channels = λ e. omega (arith, l .low, e);
+        turns = omega arith;
+        work =
+            record {
+              symmetric = λ i j. matrix i j ∙ inUse-symmetric n entries (λ i j h k. ap (λ z. pos units *ℤ z) (l .same i j h k)) i j ∙ sym (matrix j i);
+              outside = λ i j e. matrix i j ∙ inUse-outside n entries i j e;
+              axes-outside = λ i j e. axes i j ∙ inUse-outside n _ i j e;
+              norm = bound;
+              columns = λ j. column j (decLt j n);
+            };
+      }
+
+pub load-kept : (r : Record) (n : ℕ) (numbers : List ℤ) → refusalOf (r .n) (r .m) (load n numbers) ≡ 0 → Kept (loadedOf r n numbers)
+load-kept r n numbers e = loads-kept r n numbers (load-accepted (r .n) (r .m) n numbers e)

@@ -1,0 +1,4 @@
+pub mod Run
+pub mod Rows
+pub mod Done
+pub mod Calls

@@ -1,0 +1,5 @@
+pub mod OfSamples
+pub mod Shift
+pub mod Bounds
+pub mod Entries
+pub mod Cards

@@ -1,0 +1,4 @@
+pub mod Rotation
+pub mod Eight
+pub mod Size
+pub mod InPlace

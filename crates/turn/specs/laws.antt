@@ -1,0 +1,13 @@
+pub mod Place
+pub mod Eight
+pub mod InUse
+pub mod Stored
+pub mod Shape
+pub mod Size
+pub mod Exact
+pub mod Symmetry
+pub mod Rounded
+pub mod Error
+pub mod Norm
+pub mod Congruence
+pub mod Cards
