@@ -28,7 +28,8 @@ printed : {w : List ℕ} {x : List ℕ} {r : ℕ} (t : List ℕ) → Put w 0 (re
 unfolding linePrinted
 printed t p e = record { is = rw (p .leaves, front-length p, e); short = p .within }
 
-pub bare-printed : {x y : List ℕ} {tag a r : ℕ} → Put (tag ∷ []) 0 (replicate 256 0) x a → Put (10 ∷ []) a x y r → Prints (line ((tag ∷ []) ∷ [])) (record { bytes = y; len = r })
+pub bare-printed : {x y : List ℕ} {tag a r : ℕ} → Put (tag ∷ []) 0 (replicate 256 0) x a → Put (10 ∷ []) a x y r →
+    Prints (line ((tag ∷ []) ∷ [])) (record { bytes = y; len = r })
 unfolding line further
 bare-printed p q = printed _ (put-then p q) refl
 
@@ -44,11 +45,13 @@ pub one-printed : {d x y z : List ℕ} {tag a b r : ℕ} → Put (tag ∷ []) 0 
     → Prints (line ((tag ∷ []) ∷ d ∷ [])) (record { bytes = z; len = r })
 one-printed p q s = printed _ (put-then (put-then p (q .puts)) s) (one-text _ _)
 
-pub two-printed : {d f x y u z : List ℕ} {tag a b c r : ℕ} → Put (tag ∷ []) 0 (replicate 256 0) x a → FieldPut d a x y b → FieldPut f b y u c → Put (10 ∷ []) c u z r
+pub two-printed : {d f x y u z : List ℕ} {tag a b c r : ℕ} → Put (tag ∷ []) 0 (replicate 256 0) x a → FieldPut d a x y b → FieldPut f b y u c →
+    Put (10 ∷ []) c u z r
     → Prints (line ((tag ∷ []) ∷ d ∷ f ∷ [])) (record { bytes = z; len = r })
 two-printed p q t s = printed _ (put-then (put-then (put-then p (q .puts)) (t .puts)) s) (two-text _ _ _)
 
-pub axis-printed : {d f x y u v z : List ℕ} {a b c e r : ℕ} (zs : List ℤ) → Put (65 ∷ []) 0 (replicate 256 0) x a → FieldPut d a x y b → FieldPut f b y u c → Put (numbers zs) c u v e → Put (10 ∷ []) e v z r
+pub axis-printed : {d f x y u v z : List ℕ} {a b c e r : ℕ} (zs : List ℤ) → Put (65 ∷ []) 0 (replicate 256 0) x a → FieldPut d a x y b →
+    FieldPut f b y u c → Put (numbers zs) c u v e → Put (10 ∷ []) e v z r
     → Prints (line ((65 ∷ []) ∷ d ∷ f ∷ map number zs)) (record { bytes = z; len = r })
 unfolding line further numbers
 axis-printed zs p q t w s = printed _ (put-then (put-then (put-then (put-then p (q .puts)) (t .puts)) w) s) (simp append-assoc)

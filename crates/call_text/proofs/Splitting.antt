@@ -65,7 +65,8 @@ unfolding split front onto
 split-whole s [] = ap (λ (l : List (List ℕ)). [] ∷ l) (sym (parts-end s [] 0 (omega arith)))
 split-whole s (b ∷ bs) = by (eqb b s) (split-whole s bs)
   where
-    by : (t : Bool) → split s bs ≡ front s bs ∷ partsAfter s bs (length (front s bs)) → cond t ([] ∷ split s bs) (onto b (split s bs)) ≡ cond t [] (b ∷ front s bs) ∷ partsAfter s (b ∷ bs) (length (cond t [] (b ∷ front s bs)))
+    by : (t : Bool) → split s bs ≡ front s bs ∷ partsAfter s bs (length (front s bs)) →
+        cond t ([] ∷ split s bs) (onto b (split s bs)) ≡ cond t [] (b ∷ front s bs) ∷ partsAfter s (b ∷ bs) (length (cond t [] (b ∷ front s bs)))
     by true e = ap (λ (l : List (List ℕ)). [] ∷ l) (sym (parts-more s (b ∷ bs) 0 (omega arith)))
     by false e = rw e (ap (λ (l : List (List ℕ)). (b ∷ front s bs) ∷ l) (shift s (b ∷ bs) 1 (length (front s bs)) ∙ rw one-add))
 

@@ -56,7 +56,13 @@ pub equal-samples : (n k : ℕ) (s : Sample) → n ≤ 8 → scatter n (sumsOf (
 equal-samples n k s h =
     scatter-of-samples (replicate k s) n h
     ∙ tabulate-zero (n * n) _
-    (λ p. rw (length-replicate k s, sum-equal (λ s. z s (p / n) * z s (p % n)) k s, sum-equal (λ s. z s (p / n)) k s, sum-equal (λ s. z s (p % n)) k s, same k (z s (p / n)) (z s (p % n)))
+    (λ p. rw (
+      length-replicate k s,
+      sum-equal (λ s. z s (p / n) * z s (p % n)) k s,
+      sum-equal (λ s. z s (p / n)) k s,
+      sum-equal (λ s. z s (p % n)) k s,
+      same k (z s (p / n)) (z s (p % n)),
+    )
     (+ℤ-invr (pos (k * z s (p / n) * (k * z s (p % n))))))
 
 entries-zero : (w m : ℕ) → 0 < w → map (λ u. rnd u w) (replicate m (pos 0)) ≡ replicate m (pos 0)
@@ -91,7 +97,8 @@ module _ (n t : ℕ) (low : 2 ≤ n) (high : n ≤ 8) (few : t ≤ toleranceLimi
   none : looseOf (kept (loadedOf fresh n (zeros n) .a)) t (cyclic n) ≡ NoPair
   none = by (loose-holds n (kept (loadedOf fresh n (zeros n) .a)) t .pair-or-none)
     where
-      by : PairOrNone (looseOf (kept (loadedOf fresh n (zeros n) .a)) t (cyclic n)) → looseOf (kept (loadedOf fresh n (zeros n) .a)) t (cyclic n) ≡ NoPair
+      by : PairOrNone (looseOf (kept (loadedOf fresh n (zeros n) .a)) t (cyclic n)) →
+          looseOf (kept (loadedOf fresh n (zeros n) .a)) t (cyclic n) ≡ NoPair
       by (inr e) = e
       by (inl (p, q, e)) =
           let l = loose-holds n (kept (loadedOf fresh n (zeros n) .a)) t .pair-is-loose p q e in

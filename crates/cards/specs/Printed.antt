@@ -54,11 +54,13 @@ r-line = 82 ∷ 9 ∷ 50 ∷ 9 ∷ 51 ∷ 9 ∷ 48 ∷ 9 ∷ 49 ∷ 9 ∷ 49 ∷
 
 -- `A 1 26624 7172 644245094 -858993459`
 abbrev a-line-1 : List ℕ
-a-line-1 = 65 ∷ 9 ∷ 49 ∷ 9 ∷ 50 ∷ 54 ∷ 54 ∷ 50 ∷ 52 ∷ 9 ∷ 55 ∷ 49 ∷ 55 ∷ 50 ∷ 9 ∷ 54 ∷ 52 ∷ 52 ∷ 50 ∷ 52 ∷ 53 ∷ 48 ∷ 57 ∷ 52 ∷ 9 ∷ 45 ∷ 56 ∷ 53 ∷ 56 ∷ 57 ∷ 57 ∷ 51 ∷ 52 ∷ 53 ∷ 57 ∷ 10 ∷ []
+a-line-1 = 65 ∷ 9 ∷ 49 ∷ 9 ∷ 50 ∷ 54 ∷ 54 ∷ 50 ∷ 52 ∷ 9 ∷ 55 ∷ 49 ∷ 55 ∷ 50 ∷ 9 ∷ 54 ∷ 52 ∷ 52 ∷ 50 ∷ 52 ∷ 53 ∷ 48 ∷ 57 ∷ 52 ∷ 9 ∷ 45 ∷ 56 ∷ 53 ∷ 56
+    ∷ 57 ∷ 57 ∷ 51 ∷ 52 ∷ 53 ∷ 57 ∷ 10 ∷ []
 
 -- `A 2 75776 7172 858993459 644245094`
 abbrev a-line-2 : List ℕ
-a-line-2 = 65 ∷ 9 ∷ 50 ∷ 9 ∷ 55 ∷ 53 ∷ 55 ∷ 55 ∷ 54 ∷ 9 ∷ 55 ∷ 49 ∷ 55 ∷ 50 ∷ 9 ∷ 56 ∷ 53 ∷ 56 ∷ 57 ∷ 57 ∷ 51 ∷ 52 ∷ 53 ∷ 57 ∷ 9 ∷ 54 ∷ 52 ∷ 52 ∷ 50 ∷ 52 ∷ 53 ∷ 48 ∷ 57 ∷ 52 ∷ 10 ∷ []
+a-line-2 = 65 ∷ 9 ∷ 50 ∷ 9 ∷ 55 ∷ 53 ∷ 55 ∷ 55 ∷ 54 ∷ 9 ∷ 55 ∷ 49 ∷ 55 ∷ 50 ∷ 9 ∷ 56 ∷ 53 ∷ 56 ∷ 57 ∷ 57 ∷ 51 ∷ 52 ∷ 53 ∷ 57 ∷ 9 ∷ 54 ∷ 52 ∷ 52 ∷ 50
+    ∷ 52 ∷ 53 ∷ 48 ∷ 57 ∷ 52 ∷ 10 ∷ []
 
 abbrev pub reportText : List ℕ
 reportText = r-line ++ a-line-1 ++ a-line-2
@@ -67,7 +69,8 @@ abbrev job : Job
 job = record { n = 2; limit = 1; tolerance = 0; dilutions = 1 ∷ 5 ∷ 1 ∷ []; counts = 0 ∷ 0 ∷ 1 ∷ 0 ∷ 5 ∷ 5 ∷ [] }
 
 read : jobOf jobText ≡ accepted job
-unfolding jobOf split onto allWithin leadingZero valueFrom numberOf before numbersOf isTag recordOf lineOf within parametersInRange sampleInRange withSample nextLine nothing ended judged after begun jobOfLines
+unfolding jobOf split onto allWithin leadingZero valueFrom numberOf before numbersOf isTag recordOf lineOf within parametersInRange sampleInRange
+    withSample nextLine nothing ended judged after begun jobOfLines
 read = refl
 
 table : (tableFor job .e ≡ 0) × (take 4 (tableFor job .entries) ≡ running.two (pos 50) (pos 25) (pos 50))

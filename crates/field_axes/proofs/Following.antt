@@ -29,7 +29,13 @@ module _ (n : ℕ) (rows : List (List ℤ)) (few : n ≤ 8) (w : Wide rows) wher
 
   pub room : (i : ℕ) {at next : ℕ} {e x : List ℤ} → Put (used n rows i) at e x next → i < n → at + n * (n + 2) ≤ length e → next + (n + 2) ≤ length x
   room i p h l =
-      omega (arith, p .answer, length-used i (omega arith), same-size p, mul-le-mul {n₁ = i + 1} {m₁ = n + 2} {n₂ = n} {m₂ = n + 2} (omega arith) (le-refl (n + 2)))
+      omega (
+        arith,
+        p .answer,
+        length-used i (omega arith),
+        same-size p,
+        mul-le-mul {n₁ = i + 1} {m₁ = n + 2} {n₂ = n} {m₂ = n + 2} (omega arith) (le-refl (n + 2)),
+      )
 
 module _ (n : ℕ) (r : Record) (c : r .n ≡ n) (few : n ≤ 8) where
   row-used : (i : ℕ) → i < n → take (n + 2) (drop 1 (getD (axesNumbers r) i [])) ≡ axisSolution n r (suc i)

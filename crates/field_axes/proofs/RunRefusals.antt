@@ -32,8 +32,20 @@ module _ (n : ℕ) (numbers : List ℤ) (limit t size : ℕ) where
         module _ (within : t ≤ toleranceLimit) where
           pub buffer-short : size < 3 + n * (n + 2) → 12 ≡ solveRefusal n numbers limit t size
           unfolding solveRefusal
-          buffer-short h = rw (eq-eqb _ 0 taken, le-leb 1 limit low, le-leb limit 16 high, le-leb t toleranceLimit within, lt-leb (3 + n * (n + 2)) size h)
+          buffer-short h = rw (
+            eq-eqb _ 0 taken,
+            le-leb 1 limit low,
+            le-leb limit 16 high,
+            le-leb t toleranceLimit within,
+            lt-leb (3 + n * (n + 2)) size h,
+          )
 
           pub none-refused : 3 + n * (n + 2) ≤ size → 0 ≡ solveRefusal n numbers limit t size
           unfolding solveRefusal
-          none-refused h = rw (eq-eqb _ 0 taken, le-leb 1 limit low, le-leb limit 16 high, le-leb t toleranceLimit within, le-leb (3 + n * (n + 2)) size h)
+          none-refused h = rw (
+            eq-eqb _ 0 taken,
+            le-leb 1 limit low,
+            le-leb limit 16 high,
+            le-leb t toleranceLimit within,
+            le-leb (3 + n * (n + 2)) size h,
+          )

@@ -62,8 +62,20 @@ module _ (n : ℕ) (dilutions counts : List ℕ) (size : ℕ) where
         module _ (most : length dilutions ≤ 256) where
           pub buffer-short : size < 1 + 2 * (n * n) → 12 ≡ tableRefusal n dilutions counts size
           unfolding tableRefusal
-          buffer-short h = rw (v, eq-eqb _ _ counted, le-leb 2 (length dilutions) two, le-leb (length dilutions) 256 most, lt-leb (1 + 2 * (n * n)) size h)
+          buffer-short h = rw (
+            v,
+            eq-eqb _ _ counted,
+            le-leb 2 (length dilutions) two,
+            le-leb (length dilutions) 256 most,
+            lt-leb (1 + 2 * (n * n)) size h,
+          )
 
           pub none-refused : 1 + 2 * (n * n) ≤ size → 0 ≡ tableRefusal n dilutions counts size
           unfolding tableRefusal
-          none-refused h = rw (v, eq-eqb _ _ counted, le-leb 2 (length dilutions) two, le-leb (length dilutions) 256 most, le-leb (1 + 2 * (n * n)) size h)
+          none-refused h = rw (
+            v,
+            eq-eqb _ _ counted,
+            le-leb 2 (length dilutions) two,
+            le-leb (length dilutions) 256 most,
+            le-leb (1 + 2 * (n * n)) size h,
+          )

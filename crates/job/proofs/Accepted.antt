@@ -69,7 +69,8 @@ record Begun (j : Job) : Type 0 where
   few : length (j .dilutions) ≤ 256
   counted : length (j .counts) ≡ length (j .dilutions) * j .n
 
-begun-more : (j : Job) → Begun j → (xs : List ℕ) → length xs ≡ suc (j .n) → sampleInRange xs ≡ true → length (j .dilutions) < 256 → Begun (withSample j xs)
+begun-more : (j : Job) → Begun j → (xs : List ℕ) → length xs ≡ suc (j .n) → sampleInRange xs ≡ true → length (j .dilutions) < 256 →
+    Begun (withSample j xs)
 unfolding withSample
 begun-more j b xs e r k =
     let p = sample-parts xs r in
@@ -95,17 +96,21 @@ module _ (j′ : Job) where
   not-refused : (number line : ℕ) → refused number line ≡ accepted j′ → Proper j′
   not-refused number line e = let z : _≡_ {A = ℕ} 0 1 = cc in absurd (omega arith)
 
-  by-end : (j : Job) → Begun j → (line : ℕ) (a c : Bool) → (a ≡ false → 2 ≤ length (j .dilutions)) → cond a (refused 3 line) (cond c (accepted j) (refused 4 line)) ≡ accepted j′ → Proper j′
+  by-end : (j : Job) → Begun j → (line : ℕ) (a c : Bool) → (a ≡ false → 2 ≤ length (j .dilutions)) →
+      cond a (refused 3 line) (cond c (accepted j) (refused 4 line)) ≡ accepted j′ → Proper j′
   by-end j b line true c h e = not-refused 3 line e
   by-end j b line false true h e = let q : j ≡ j′ = cc in rw q at (proper j b (h refl))
   by-end j b line false false h e = not-refused 4 line e
 
-  by-sample : (line : ℕ) (a c : Bool) (x : Answer) → (a ≡ true → c ≡ true → x ≡ accepted j′ → Proper j′) → cond a (cond c x (refused 3 line)) (refused 2 line) ≡ accepted j′ → Proper j′
+  by-sample : (line : ℕ) (a c : Bool) (x : Answer) → (a ≡ true → c ≡ true → x ≡ accepted j′ → Proper j′) →
+      cond a (cond c x (refused 3 line)) (refused 2 line) ≡ accepted j′ → Proper j′
   by-sample line true true x h e = h refl refl e
   by-sample line true false x h e = not-refused 3 line e
   by-sample line false c x h e = not-refused 2 line e
 
-  judged-proper : (j : Job) → Begun j → (o oE : Option (List ℕ)) (rest : List (List ℕ)) (go : List ℕ → Answer) → ((xs : List ℕ) → o ≡ some xs → length xs ≡ suc (j .n)) → ((xs : List ℕ) → Begun (withSample j xs) → go xs ≡ accepted j′ → Proper j′) → judged j o oE rest go ≡ accepted j′ → Proper j′
+  judged-proper : (j : Job) → Begun j → (o oE : Option (List ℕ)) (rest : List (List ℕ)) (go : List ℕ → Answer) →
+      ((xs : List ℕ) → o ≡ some xs → length xs ≡ suc (j .n)) → ((xs : List ℕ) → Begun (withSample j xs) → go xs ≡ accepted j′ → Proper j′) →
+      judged j o oE rest go ≡ accepted j′ → Proper j′
   unfolding judged ended
   judged-proper j b (some xs) oE rest go c h e =
       by-sample (nextLine j) (sampleInRange xs) (ltb (length (j .dilutions)) 256) (go xs)
@@ -130,8 +135,16 @@ module _ (j′ : Job) where
       start : Job
       start = record { n = getD xs 0 0; limit = getD xs 1 0; tolerance = getD xs 2 0; dilutions = []; counts = [] }
 
-      by-range : (t : Bool) → parametersInRange (getD xs 0 0) (getD xs 1 0) (getD xs 2 0) ≡ t → cond t (after start rest) (refused 2 1) ≡ accepted j′ → Proper j′
-      by-range true p e = after-proper rest start (record { parameters = p; dilutions = unfold allWithin in refl; counts = unfold allWithin in refl; few = lit≤ tt; counted = sym (zero-mul (getD xs 0 0)) }) e
+      by-range : (t : Bool) → parametersInRange (getD xs 0 0) (getD xs 1 0) (getD xs 2 0) ≡ t →
+          cond t (after start rest) (refused 2 1) ≡ accepted j′ → Proper j′
+      by-range true p e = after-proper rest start
+          (record {
+            parameters = p;
+            dilutions = unfold allWithin in refl;
+            counts = unfold allWithin in refl;
+            few = lit≤ tt;
+            counted = sym (zero-mul (getD xs 0 0));
+          }) e
       by-range false p e = not-refused 2 1 e
 
   lines-proper : (ls : List (List ℕ)) → jobOfLines ls ≡ accepted j′ → Proper j′

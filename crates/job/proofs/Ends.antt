@@ -50,7 +50,8 @@ module _ (text : List ℕ) where
         pub p-third : (variant f″ ≡ 0) ⊎ (variant f″ ≡ 2) → P.Refused 1 ≡ parametersAt text
         p-third b = malformed-p (numbers-unended _ _ _ _ _ _ after-limit f″ p″ (lit≤ tt) b)
 
-        pub p-whole : (tolerance next : ℕ) → f″ ≡ Last tolerance next → cond (parametersInRange n limit tolerance) (P.Read n limit tolerance next) (P.Refused 2) ≡ parametersAt text
+        pub p-whole : (tolerance next : ℕ) → f″ ≡ Last tolerance next →
+            cond (parametersInRange n limit tolerance) (P.Read n limit tolerance next) (P.Refused 2) ≡ parametersAt text
         unfolding parametersAt parametersOf
         p-whole tolerance next e″ =
             ap (λ (l : Line). parametersOf (l .extent) (l .numbers)) (numbers-last _ _ _ _ _ _ after-limit f″ p″ (lit≤ tt) tolerance next e″)
@@ -67,7 +68,9 @@ module _ (text : List ℕ) (at k : ℕ) where
     pub e-first : (variant f ≡ 0) ⊎ (variant f ≡ 2) → E.Refused 1 ≡ endingAt text at k
     e-first b = malformed-e (numbers-unended _ _ _ _ _ _ (tagged text at 69 0 t) f p (lit≤ tt) b)
 
-    pub e-whole : (count next : ℕ) → f ≡ Last count next → endingAt text at k ≡ cond (ltb k 2) (E.Refused 3) (cond (eqb count k && leb (length text) next) E.Accepted (E.Refused 4))
+    pub e-whole : (count next : ℕ) → f ≡ Last count next →
+        endingAt text at k ≡ cond (ltb k 2) (E.Refused 3) (cond (eqb count k && leb (length text) next) E.Accepted (E.Refused 4))
     unfolding endingAt endingOf
     e-whole count next e =
-        sym (ap (λ (l : Line). endingOf text k (l .extent) (l .numbers)) (numbers-last _ _ _ _ _ _ (tagged text at 69 0 t) f p (lit≤ tt) count next e))
+        sym (ap (λ (l : Line). endingOf text k (l .extent) (l .numbers))
+        (numbers-last _ _ _ _ _ _ (tagged text at 69 0 t) f p (lit≤ tt) count next e))

@@ -59,7 +59,8 @@ ended-none feed next = refl
 ended-none over next = refl
 
 -- One byte more, by whether it is a digit that may stand there: t.
-ended-more : (t : Bool) (x : Field) (e : End) (o : Option ℕ) (at n : ℕ) → x ≡ ended e o (at + 1 + n) → cond t x Bad ≡ ended e (cond t o none) (at + suc n)
+ended-more : (t : Bool) (x : Field) (e : End) (o : Option ℕ) (at n : ℕ) → x ≡ ended e o (at + 1 + n) →
+    cond t x Bad ≡ ended e (cond t o none) (at + suc n)
 ended-more true x e o at n q =
     let s : at + 1 + n ≡ at + suc n = omega arith in
     q ∙ ap (ended e o) s

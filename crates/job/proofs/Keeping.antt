@@ -32,7 +32,8 @@ kept-within k n h g =
     omega (arith, mul-le-mul-right n h′)
 
 -- r is the reading, which has come to the place `at` with the samples of j; l is the line there.
-module _ (r : Reading) (text : List ℕ) (at : ℕ) (j : Job) (q : r ≡ samplesAt (257 - j .k) text at j) (w : j .k ≤ 256) (l : Line) (p : l ≡ lineAt text at 83 (j .n)) where
+module _ (r : Reading) (text : List ℕ) (at : ℕ) (j : Job) (q : r ≡ samplesAt (257 - j .k) text at j) (w : j .k ≤ 256) (l : Line)
+    (p : l ≡ lineAt text at 83 (j .n)) where
   come : r ≡ sampleOf text at j (l .extent) (l .numbers) (λ next. samplesAt (257 - (j .k + 1)) text next (kept j (l .numbers)))
   unfolding samplesAt
   come =

@@ -37,12 +37,14 @@ unfolding mayFollow
 may-not-0 b = refl
 
 -- A first digit, by whether it is one: t.
-digit-step : (t : Bool) (x y : Option ℕ) (p q z : Bool) → (t ≡ true → x ≡ cond (p && q && z) y none) → cond t x none ≡ cond (p && (t && q) && z) y none
+digit-step : (t : Bool) (x y : Option ℕ) (p q z : Bool) → (t ≡ true → x ≡ cond (p && q && z) y none) →
+    cond t x none ≡ cond (p && (t && q) && z) y none
 digit-step true x y p q z f = f refl
 digit-step false x y p q z f = simp (and-false p)
 
 -- v has e + 1 digits, and r more may follow.
-more-is : (e r v : ℕ) (bs : List ℕ) → e + r ≡ 6 → 10 ^ e ≤ v → v < 10 ^ suc e → more v bs ≡ cond (leb (length bs) r && allWithin 48 57 bs && true) (some (valueFrom v bs)) none
+more-is : (e r v : ℕ) (bs : List ℕ) → e + r ≡ 6 → 10 ^ e ≤ v → v < 10 ^ suc e →
+    more v bs ≡ cond (leb (length bs) r && allWithin 48 57 bs && true) (some (valueFrom v bs)) none
 unfolding more allWithin valueFrom
 more-is e r v [] h lo hi = simp (leb·zero r)
 more-is e zero v (b ∷ bs) h lo hi =
@@ -63,7 +65,8 @@ zero-only [] = refl
 zero-only (b ∷ bs) = simp (lt-ltb 0 (suc (length bs)) (omega arith), and-false)
 
 -- A number whose first digit is b, by whether that is 0: t.
-first-is : (b : ℕ) (bs : List ℕ) → isDigit b ≡ true → (t : Bool) → eqb b 48 ≡ t → more (b - 48) bs ≡ cond (leb (length bs) 6 && allWithin 48 57 bs && not (t && ltb 0 (length bs))) (some (valueFrom (b - 48) bs)) none
+first-is : (b : ℕ) (bs : List ℕ) → isDigit b ≡ true → (t : Bool) → eqb b 48 ≡ t →
+    more (b - 48) bs ≡ cond (leb (length bs) 6 && allWithin 48 57 bs && not (t && ltb 0 (length bs))) (some (valueFrom (b - 48) bs)) none
 first-is b bs d true e = rw (eqb-true b 48 e) (zero-only bs)
 first-is b bs d false e =
     let range = is-within 48 57 b d in

@@ -85,10 +85,13 @@ module _ (j : Job) (fair : Fair j) (xs : List ℕ) (e : length xs ≡ suc (j .n)
   kept-same =
       let room = kept-within (length (j .dilutions)) (j .n) h (fair .channels) in
       let k : length (j .dilutions) + 1 ≡ length (j .dilutions ++ (getD xs 0 0 ∷ [])) = sym (length-append (j .dilutions) (getD xs 0 0 ∷ [])) in
-      let d : set (padded 256 (j .dilutions)) (length (j .dilutions)) (getD (sets (replicate 9 0) 0 xs) 0 0) ≡ padded 256 (j .dilutions ++ (getD xs 0 0 ∷ []))
+      let d : set (padded 256 (j .dilutions)) (length (j .dilutions)) (getD (sets (replicate 9 0) 0 xs) 0 0) ≡ padded 256
+      (j .dilutions ++ (getD xs 0 0 ∷ []))
       = rw (row-at xs 0 (omega (arith, fair .channels)) (omega arith)) (padded-more 256 (j .dilutions) (getD xs 0 0 ∷ []) (omega arith)) in
-      let c : sets (padded 2048 (j .counts)) (length (j .dilutions) * j .n) (slice 1 (j .n + 1) (sets (replicate 9 0) 0 xs)) ≡ padded 2048 (j .counts ++ drop 1 xs)
-      = rw (row-rest xs (j .n) e (fair .channels), ← (fair .counted)) (padded-more 2048 (j .counts) (drop 1 xs) (omega (arith, length-drop 1 xs, fair .counted, room))) in
+      let c : sets (padded 2048 (j .counts)) (length (j .dilutions) * j .n) (slice 1 (j .n + 1) (sets (replicate 9 0) 0 xs)) ≡ padded 2048
+      (j .counts ++ drop 1 xs)
+      = rw (row-rest xs (j .n) e (fair .channels), ← (fair .counted))
+      (padded-more 2048 (j .counts) (drop 1 xs) (omega (arith, length-drop 1 xs, fair .counted, room))) in
       λ i. record { n = j .n; limit = j .limit; tolerance = j .tolerance; k = k i; dilutions = d i; counts = c i }
 
   fair-more : Fair (withSample j xs)
@@ -103,13 +106,15 @@ module _ (j : Job) (fair : Fair j) (xs : List ℕ) (e : length xs ≡ suc (j .n)
 -- ---- the lines after the first
 
 module _ (text : List ℕ) (at : ℕ) (j : Job) (go : List ℕ → Answer) where
-  ended-same : (a b : Bool) → finishedBy (inArrays j) (cond a (Last.Refused 3) (cond b Last.Accepted (Last.Refused 4))) ≡ readingOf (cond a (refused 3 (nextLine j)) (cond b (accepted j) (refused 4 (nextLine j))))
+  ended-same : (a b : Bool) → finishedBy (inArrays j) (cond a (Last.Refused 3) (cond b Last.Accepted (Last.Refused 4))) ≡ readingOf
+      (cond a (refused 3 (nextLine j)) (cond b (accepted j) (refused 4 (nextLine j))))
   unfolding finishedBy readingOf nextLine inArrays refusedReading newJob padded
   ended-same true b = refl
   ended-same false true = refl
   ended-same false false = refl
 
-  finished-same : (rest : List (List ℕ)) {L : Line} {o : Option (List ℕ)} → Reads text (replicate 9 0) 0 1 rest L o → finishedBy (inArrays j) (endingOf text (length (j .dilutions)) (L .extent) (L .numbers)) ≡ readingOf (judged j none o rest go)
+  finished-same : (rest : List (List ℕ)) {L : Line} {o : Option (List ℕ)} → Reads text (replicate 9 0) 0 1 rest L o →
+      finishedBy (inArrays j) (endingOf text (length (j .dilutions)) (L .extent) (L .numbers)) ≡ readingOf (judged j none o rest go)
   unfolding endingOf judged ended
   finished-same rest bad = unfold finishedBy readingOf nextLine inArrays refusedReading newJob padded in refl
   finished-same rest (good xs next e q) =
@@ -117,24 +122,29 @@ module _ (text : List ℕ) (at : ℕ) (j : Job) (go : List ℕ → Answer) where
       (ended-same (ltb (length (j .dilutions)) 2) (eqb (getD xs 0 0) (length (j .dilutions)) && nothing rest))
 
 -- The lines as a first line, by what it is as an `S` line and as an `E` line, and the others.
-after-is : (j : Job) (ls : List (List ℕ)) → after j ls ≡ judged j (lineIn 83 (suc (j .n)) ls) (lineIn 69 1 ls) (tail ls) (λ xs. after (withSample j xs) (tail ls))
+after-is : (j : Job) (ls : List (List ℕ)) →
+    after j ls ≡ judged j (lineIn 83 (suc (j .n)) ls) (lineIn 69 1 ls) (tail ls) (λ xs. after (withSample j xs) (tail ls))
 unfolding after lineIn judged
 after-is j [] = refl
 after-is j (l ∷ []) = refl
 after-is j (l ∷ part ∷ parts) = refl
 
 -- A reading and an answer by whether a sample is in range, and whether there is room for it.
-sample-same : (j : Job) (a b : Bool) (x : Reading) (y : Answer) → (b ≡ true → x ≡ readingOf y) → cond a (cond b x (refusedReading 3 (length (j .dilutions) + 2))) (refusedReading 2 (length (j .dilutions) + 2)) ≡ readingOf (cond a (cond b y (refused 3 (nextLine j))) (refused 2 (nextLine j)))
+sample-same : (j : Job) (a b : Bool) (x : Reading) (y : Answer) → (b ≡ true → x ≡ readingOf y) →
+    cond a (cond b x (refusedReading 3 (length (j .dilutions) + 2))) (refusedReading 2 (length (j .dilutions) + 2)) ≡ readingOf
+    (cond a (cond b y (refused 3 (nextLine j))) (refused 2 (nextLine j)))
 unfolding nextLine
 sample-same j true true x y f = f refl
 sample-same j true false x y f = refused-same 3 (length (j .dilutions) + 2)
 sample-same j false b x y f = refused-same 2 (length (j .dilutions) + 2)
 
 -- The reading of a line after the first, by what was read as an `S` line and as an `E` line.
-judged-same : (text : List ℕ) (at : ℕ) (j : Job) → Fair j → (rest : List (List ℕ)) (go : List ℕ → Answer) (continue : List ℕ → ℕ → Reading) {L : Line} {o oE : Option (List ℕ)} →
+judged-same : (text : List ℕ) (at : ℕ) (j : Job) → Fair j →
+    (rest : List (List ℕ)) (go : List ℕ → Answer) (continue : List ℕ → ℕ → Reading) {L : Line} {o oE : Option (List ℕ)} →
     Reads text (replicate 9 0) 0 (suc (j .n)) rest L o →
     Reads text (replicate 9 0) 0 1 rest (lineAt text at 69 0) oE →
-    ((xs : List ℕ) (next : ℕ) → length xs ≡ suc (j .n) → split 10 (drop next text) ≡ rest → length (j .dilutions) < 256 → continue (sets (replicate 9 0) 0 xs) next ≡ readingOf (go xs)) →
+    ((xs : List ℕ) (next : ℕ) → length xs ≡ suc (j .n) → split 10 (drop next text) ≡ rest → length (j .dilutions) < 256 →
+    continue (sets (replicate 9 0) 0 xs) next ≡ readingOf (go xs)) →
     sampleOf text at (inArrays j) (L .extent) (L .numbers) (continue (L .numbers)) ≡ readingOf (judged j o oE rest go)
 unfolding sampleOf finishedAt endingAt inArrays judged
 judged-same text at j fair rest go continue bad E step = finished-same text at j go rest E
@@ -180,7 +190,8 @@ few : (n limit tolerance : ℕ) → parametersInRange n limit tolerance ≡ true
 unfolding parametersInRange
 few n limit tolerance e = is-within 2 8 n (both (within 2 8 n) _ (both (within 2 8 n && within 1 16 limit) _ e .0) .0) .1
 
-few-by : (t : Bool) (a b c d n limit tolerance next : ℕ) → (t ≡ true → a ≤ 8) → cond t (First.Read a b c d) (First.Refused 2) ≡ First.Read n limit tolerance next → n ≤ 8
+few-by : (t : Bool) (a b c d n limit tolerance next : ℕ) → (t ≡ true → a ≤ 8) →
+    cond t (First.Read a b c d) (First.Refused 2) ≡ First.Read n limit tolerance next → n ≤ 8
 few-by true a b c d n limit tolerance next f e = let q : a ≡ n = cc in rw q at (f refl)
 few-by false a b c d n limit tolerance next f e = let z : _≡_ {A = ℕ} 0 9 = cc in omega arith
 
@@ -190,11 +201,15 @@ unfolding parametersAt
 parameters-few text n limit tolerance next = go (lineAt text 0 80 2 .extent) (lineAt text 0 80 2 .numbers)
   where
     go : (e : Extent) (xs : List ℕ) → parametersOf e xs ≡ First.Read n limit tolerance next → n ≤ 8
-    go (To at) xs = unfold parametersOf in few-by (parametersInRange (getD xs 0 0) (getD xs 1 0) (getD xs 2 0)) _ _ _ _ n limit tolerance next (few (getD xs 0 0) (getD xs 1 0) (getD xs 2 0))
+    go (To at) xs = unfold parametersOf in
+        few-by (parametersInRange (getD xs 0 0) (getD xs 1 0) (getD xs 2 0)) _ _ _ _ n limit tolerance next
+        (few (getD xs 0 0) (getD xs 1 0) (getD xs 2 0))
     go Malformed xs = unfold parametersOf in λ e. let z : _≡_ {A = ℕ} 0 9 = cc in omega arith
 
 module _ (text : List ℕ) where
-  none-yet : (next n limit tolerance : ℕ) (rest : List (List ℕ)) → split 10 (drop next text) ≡ rest → n ≤ 8 → samplesAt 257 text next (newJob n limit tolerance) ≡ readingOf (after (record { n = n; limit = limit; tolerance = tolerance; dilutions = []; counts = [] }) rest)
+  none-yet : (next n limit tolerance : ℕ) (rest : List (List ℕ)) → split 10 (drop next text) ≡ rest → n ≤ 8 →
+      samplesAt 257 text next (newJob n limit tolerance) ≡ readingOf
+      (after (record { n = n; limit = limit; tolerance = tolerance; dilutions = []; counts = [] }) rest)
   unfolding newJob inArrays padded
   none-yet next n limit tolerance rest q h =
       let j : Job = record { n = n; limit = limit; tolerance = tolerance; dilutions = []; counts = [] } in
@@ -202,12 +217,15 @@ module _ (text : List ℕ) where
       ∙ ap (λ (l : List (List ℕ)). readingOf (after j l)) q
 
   -- By whether the parameters are in range: t.
-  begun-same : (t : Bool) (n limit tolerance next : ℕ) (y : Answer) → (t ≡ true → samplesAt 257 text next (newJob n limit tolerance) ≡ readingOf y) → readingBy text (cond t (First.Read n limit tolerance next) (First.Refused 2)) ≡ readingOf (cond t y (refused 2 1))
+  begun-same : (t : Bool) (n limit tolerance next : ℕ) (y : Answer) →
+      (t ≡ true → samplesAt 257 text next (newJob n limit tolerance) ≡ readingOf y) →
+      readingBy text (cond t (First.Read n limit tolerance next) (First.Refused 2)) ≡ readingOf (cond t y (refused 2 1))
   unfolding readingBy
   begun-same true n limit tolerance next y f = f refl
   begun-same false n limit tolerance next y f = refused-same 2 1
 
-  first-same : (rest : List (List ℕ)) {L : Line} {o : Option (List ℕ)} → Reads text (replicate 9 0) 0 3 rest L o → readingBy text (parametersOf (L .extent) (L .numbers)) ≡ readingOf (begun o rest)
+  first-same : (rest : List (List ℕ)) {L : Line} {o : Option (List ℕ)} → Reads text (replicate 9 0) 0 3 rest L o →
+      readingBy text (parametersOf (L .extent) (L .numbers)) ≡ readingOf (begun o rest)
   unfolding parametersOf begun parametersInRange
   first-same rest bad = unfold readingBy in refused-same 1 1
   first-same rest (good xs next e q) =

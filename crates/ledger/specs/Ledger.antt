@@ -44,7 +44,8 @@ loadedOf n numbers =
       D = 1;
     }
 
--- 'If a turn is chosen, B and V take it with rounding, Q is multiplied from the left by its exact rotation, and m grows by 1. If none is, nothing changes'
+-- 'If a turn is chosen, B and V take it with rounding, Q is multiplied from the left by its exact rotation, and m grows by 1. If none is, nothing
+-- changes'
 unfoldable pub take : State → Pair → Choice → State
 take s pair NoTurn = s
 take s pair (Turn l minus) =

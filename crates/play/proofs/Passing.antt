@@ -38,7 +38,8 @@ pub record Before (text : List ℕ) (r : Record) (at k : ℕ) (entry buf : List 
   pub here : Reached text r at k
   pub puts : Put (here .before) 0 entry buf end
 
-module _ (text : List ℕ) (r : Record) (at k : ℕ) (z : Stepped) (e : z ≡ stepped r k at (split 10 (drop at text))) (full : length (z .line .bytes) ≡ 256) (short : z .line .len ≤ 256) where
+module _ (text : List ℕ) (r : Record) (at k : ℕ) (z : Stepped) (e : z ≡ stepped r k at (split 10 (drop at text)))
+    (full : length (z .line .bytes) ≡ 256) (short : z .line .len ≤ 256) where
   size : length (printedBy z) ≡ z .line .len
   unfolding printedBy
   size = length-take-le (z .line .len) (z .line .bytes) (omega arith)

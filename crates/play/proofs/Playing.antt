@@ -28,7 +28,8 @@ use Rattle.play.specs.inner.Played.{Plays, doneOf, playedBy, wholeOf}
 pub plays-as : {r : Record} {z : Played} (o p : Option Call) → o ≡ p → Plays r p z → Plays r o z
 plays-as o p e h = rw e h
 
-pub plays-done : (r : Record) (call : Call) (s : Step) (z : Played) (o : Option Call) → o ≡ some call → rowOf r call ≡ replicate 8 (pos 0) → Done r call (s .answer) (s .next) → z ≡ doneOf s → Plays r o z
+pub plays-done : (r : Record) (call : Call) (s : Step) (z : Played) (o : Option Call) → o ≡ some call → rowOf r call ≡ replicate 8 (pos 0) →
+    Done r call (s .answer) (s .next) → z ≡ doneOf s → Plays r o z
 unfolding playedBy doneOf
 plays-done r call s z o e w d q = rw e (record { is = q ∙ rw (d .answers, d .leaves, w); keeps = rw q (d .keeps) })
 
@@ -36,7 +37,8 @@ plays-done r call s z o e w d q = rw e (record { is = q ∙ rw (d .answers, d .l
 abbrev axisDone : AxisStep → Played
 axisDone s = record { known = true; answer = s .answer .value; row = s .answer .row; next = s .next }
 
-pub plays-axis : (r : Record) (i : ℕ) (s : AxisStep) (z : Played) (o : Option Call) → o ≡ some (axis i) → AxisDone r i (s .answer) (s .next) → z ≡ axisDone s → Plays r o z
+pub plays-axis : (r : Record) (i : ℕ) (s : AxisStep) (z : Played) (o : Option Call) → o ≡ some (axis i) → AxisDone r i (s .answer) (s .next) →
+    z ≡ axisDone s → Plays r o z
 unfolding playedBy rowOf
 plays-axis r i s z o e d q = rw e (record { is = q ∙ rw (d .answers, d .row, d .leaves); keeps = rw q (d .keeps) })
 

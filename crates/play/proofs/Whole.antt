@@ -58,7 +58,9 @@ module _ (text : List ℕ) (r : Record) (at k : ℕ) where
   alone u = sym (append-nil _ ∙ take-append-seam u _)
 
   -- the last part, by whether it is empty: t
-  last : (t : Bool) → cond t [] (unknownLine k) ≡ (let z = cond t (stopped r at []) (stopped r at (unknownLine k)) in printedBy z ++ cond (z .more) (playedFrom (z .next) (k + 1) (split 10 (drop (z .at) text))) [])
+  last : (t : Bool) → cond t [] (unknownLine k) ≡
+      (let z = cond t (stopped r at []) (stopped r at (unknownLine k)) in
+      printedBy z ++ cond (z .more) (playedFrom (z .next) (k + 1) (split 10 (drop (z .at) text))) [])
   unfolding stopped
   last true = alone []
   last false = alone (unknownLine k)
@@ -79,10 +81,12 @@ module _ (text : List ℕ) (r : Record) (at k : ℕ) where
 
 -- z is the step at a place of the text.
 module _ (text : List ℕ) (r : Record) (at k : ℕ) (z : Stepped) (e : z ≡ stepped r k at (split 10 (drop at text))) where
-  pub prints : playedFrom r k (split 10 (drop at text)) ≡ printedBy z ++ cond (z .more) (playedFrom (z .next) (k + 1) (split 10 (drop (z .at) text))) []
+  pub prints : playedFrom r k (split 10 (drop at text)) ≡ printedBy z ++ cond (z .more)
+      (playedFrom (z .next) (k + 1) (split 10 (drop (z .at) text))) []
   prints = rw (← e) at (goes text r at k (split 10 (drop at text)) refl)
 
-  pub prints-more : z .more ≡ true → playedFrom r k (split 10 (drop at text)) ≡ printedBy z ++ playedFrom (z .next) (k + 1) (split 10 (drop (z .at) text))
+  pub prints-more : z .more ≡ true →
+      playedFrom r k (split 10 (drop at text)) ≡ printedBy z ++ playedFrom (z .next) (k + 1) (split 10 (drop (z .at) text))
   unfolding printedBy
   prints-more more = prints ∙ rw more
 

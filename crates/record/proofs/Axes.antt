@@ -33,7 +33,8 @@ module _ (k : ℤ) where
           let o : i ≡ n → ⊥ = λ f. d f (sym e ∙ f) in
           inUse-outside n _ i j (rw (le-ltb i n (omega arith))) ∙ sym (inUse-outside (n + 1) _ i j (rw (le-ltb i (n + 1) (omega arith))))
 
-  pub diagonal-more : (n : ℕ) → n < 8 → set (square (inUse n (diagonal k))) n (set (getD (square (inUse n (diagonal k))) n []) n k) ≡ square (inUse (n + 1) (diagonal k))
+  pub diagonal-more : (n : ℕ) → n < 8 →
+      set (square (inUse n (diagonal k))) n (set (getD (square (inUse n (diagonal k))) n []) n k) ≡ square (inUse (n + 1) (diagonal k))
   diagonal-more n h = store (inUse n (diagonal k)) n n k h h ∙ square-cong (λ i j _ _. entry i j (ℕ-discrete i n) (ℕ-discrete j n))
     where
       entry : (i j : ℕ) → Dec (i ≡ n) → Dec (j ≡ n) → stored n n k (inUse n (diagonal k)) i j ≡ inUse (n + 1) (diagonal k) i j

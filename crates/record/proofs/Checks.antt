@@ -85,6 +85,7 @@ module _ (xs : List ℤ) (k : ℕ) (h : k < length xs) (e : within xs ≡ within
   within-more t = rw t at from
 
 -- the tests of a load after those of its size
-pub sized : (k : ℕ) (xs : List ℤ) → 2 ≤ k → k ≤ 8 → length xs ≡ k * k → refusalOf 0 0 (load k xs) ≡ unless (within xs) 8 (unless (symmetric k (matrixOf k xs)) 7 0)
+pub sized : (k : ℕ) (xs : List ℤ) → 2 ≤ k → k ≤ 8 → length xs ≡ k * k →
+    refusalOf 0 0 (load k xs) ≡ unless (within xs) 8 (unless (symmetric k (matrixOf k xs)) 7 0)
 unfolding refusalOf
 sized k xs h l e = rw (le-leb 2 k h, le-leb k 8 l, eq-eqb (length xs) (k * k) e)

@@ -59,7 +59,8 @@ module _ (n : ℕ) (f : Matrix) where
   unfolding blank eight filledTo
   rows-none = refl
 
-  pub rows-one : (i j : ℕ) → i < 8 → j < 8 → set (square (filledTo i j)) i (set (getD (square (filledTo i j)) i []) j (f i j)) ≡ square (filledTo i (j + 1))
+  pub rows-one : (i j : ℕ) → i < 8 → j < 8 →
+      set (square (filledTo i j)) i (set (getD (square (filledTo i j)) i []) j (f i j)) ≡ square (filledTo i (j + 1))
   rows-one i j h k = store (filledTo i j) i j (f i j) h k ∙ square-cong (λ x y _ _. one i j x y)
 
   pub rows-row : (i : ℕ) → i < n → square (filledTo i n) ≡ square (filledTo (i + 1) 0)

@@ -37,13 +37,21 @@ set-flat f i j x h k =
     ext-getD (pos 0) _ _ (length-set (flatOf f) (8 * i + j) x ∙ length-tabulate 64 _ ∙ sym (length-tabulate 64 _))
     (λ m l. entry m (rw (length-set (flatOf f) (8 * i + j) x, length-tabulate) at l) (ℕ-discrete (m / 8) i) (ℕ-discrete (m % 8) j))
   where
-    other : (m : ℕ) → m < 64 → (m ≡ 8 * i + j → ⊥) → f (m / 8) (m % 8) ≡ stored i j x f (m / 8) (m % 8) → getD (set (flatOf f) (8 * i + j) x) m (pos 0) ≡ getD (flatOf (stored i j x f)) m (pos 0)
+    other : (m : ℕ) → m < 64 → (m ≡ 8 * i + j → ⊥) → f (m / 8) (m % 8) ≡ stored i j x f (m / 8) (m % 8) →
+        getD (set (flatOf f) (8 * i + j) x) m (pos 0) ≡ getD (flatOf (stored i j x f)) m (pos 0)
     other m l d e = getD-set-other (flatOf f) (8 * i + j) m x (pos 0) d ∙ getD-tabulate 64 _ m (pos 0) l ∙ e ∙ sym (getD-tabulate 64 _ m (pos 0) l)
 
-    entry : (m : ℕ) → m < 64 → Dec (m / 8 ≡ i) → Dec (m % 8 ≡ j) → getD (set (flatOf f) (8 * i + j) x) m (pos 0) ≡ getD (flatOf (stored i j x f)) m (pos 0)
+    entry : (m : ℕ) → m < 64 → Dec (m / 8 ≡ i) → Dec (m % 8 ≡ j) →
+        getD (set (flatOf f) (8 * i + j) x) m (pos 0) ≡ getD (flatOf (stored i j x f)) m (pos 0)
     entry m l (yes e) (yes d) =
         let place : 8 * i + j ≡ m = omega arith in
-        rw (place, getD-set-same (flatOf f) m x (pos 0) (rw length-tabulate l), getD-tabulate 64 (λ m. stored i j x f (m / 8) (m % 8)) m (pos 0) l, e, d)
+        rw (
+          place,
+          getD-set-same (flatOf f) m x (pos 0) (rw length-tabulate l),
+          getD-tabulate 64 (λ m. stored i j x f (m / 8) (m % 8)) m (pos 0) l,
+          e,
+          d,
+        )
         (sym (stored-here i j x f))
     entry m l (yes e) (no d) = other m l (λ p. d (omega arith)) (sym (stored-column i j x f (m / 8) (m % 8) d))
     entry m l (no e) d = other m l (λ p. e (omega arith)) (sym (stored-row i j x f (m / 8) (m % 8) e))

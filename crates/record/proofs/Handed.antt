@@ -33,9 +33,11 @@ pub record Handed (n : ℕ) : Type 2 where
   pub type : Ty
   pub value : (κs : Lfts (suc n)) → own .row κs .Denot → Val
   pub tells : (κs : Lfts (suc n)) → Tells (own .row κs) (Is (own .row κs)) (λ x. value κs x ∷ [])
-  pub typed : (κs : Lfts (suc n)) {M : Type 1} (𝓤 : URA M) (H : Heap 𝓤) (A : Atoms 𝓤) → Given 𝓤 H A → (x : own .row κs .Denot) → Is (own .row κs) x (value κs x ∷ []) → Holds (hasTy type (value κs x)) × WT (value κs x)
+  pub typed : (κs : Lfts (suc n)) {M : Type 1} (𝓤 : URA M) (H : Heap 𝓤) (A : Atoms 𝓤) → Given 𝓤 H A → (x : own .row κs .Denot) →
+      Is (own .row κs) x (value κs x ∷ []) → Holds (hasTy type (value κs x)) × WT (value κs x)
   pub over : (κs : Lfts (suc n)) → own .row κs .Denot → callee .row (κs .1) .Denot
-  pub owns-alike : (κs : Lfts (suc n)) (x : own .row κs .Denot) → own .row κs .own x (value κs x ∷ []) ≡ callee .row (κs .1) .own (over κs x) (value κs x ∷ [])
+  pub owns-alike : (κs : Lfts (suc n)) (x : own .row κs .Denot) →
+      own .row κs .own x (value κs x ∷ []) ≡ callee .row (κs .1) .own (over κs x) (value κs x ∷ [])
   pub end : (κs : Lfts (suc n)) (x : own .row κs .Denot) → Last (own .row κs .exit yes) x
   pub silent : (κs : Lfts (suc n)) (x : own .row κs .Denot) (f : Last (own .row κs .exit yes) x) → left (own .row κs .exit yes) x f ≡ ftrue
 
@@ -91,7 +93,8 @@ module _ {n : ℕ} where
   dropped [] = tt
   dropped (s ∷ ss) = (stay-dropped (s .own) yes, dropped ss)
 
-  pub dropped-go : {M : Type 1} (𝓤 : URA M) (H : Heap 𝓤) (A : Atoms 𝓤) (W : Given 𝓤 H A) (ss : List (Handed n)) → AllGo 𝓤 H A W (suc n) (own-slots ss) (own-kept ss) (dropped ss)
+  pub dropped-go : {M : Type 1} (𝓤 : URA M) (H : Heap 𝓤) (A : Atoms 𝓤) (W : Given 𝓤 H A) (ss : List (Handed n)) →
+      AllGo 𝓤 H A W (suc n) (own-slots ss) (own-kept ss) (dropped ss)
   dropped-go 𝓤 H A W [] = tt
   dropped-go 𝓤 H A W (s ∷ ss) = (goes-dropped 𝓤 H A W (suc n) (s .own) yes (s .silent), dropped-go 𝓤 H A W ss)
 
@@ -118,7 +121,8 @@ module _ {n : ℕ} where
     callee-machine [] a = tt
     callee-machine (s ∷ ss) a = (s .value κs (a .0) ∷ [], callee-machine ss (a .1))
 
-    pub owned-alike : (ss : List (Handed n)) (a : Args ss) → owns (typesAt (own-slots ss) κs) a (machine ss a) ≡ owns (typesAt (callee-slots ss) (κs .1)) (callee-args ss a) (callee-machine ss a)
+    pub owned-alike : (ss : List (Handed n)) (a : Args ss) →
+        owns (typesAt (own-slots ss) κs) a (machine ss a) ≡ owns (typesAt (callee-slots ss) (κs .1)) (callee-args ss a) (callee-machine ss a)
     owned-alike [] a = refl
     owned-alike (s ∷ ss) a = λ i. fsep (s .owns-alike κs (a .0) i) (owned-alike ss (a .1) i)
 
@@ -131,16 +135,22 @@ module _ {n : ℕ} where
     fit (s ∷ ss) a = (tt, fit ss (a .1))
 
     module _ {M : Type 1} (𝓤 : URA M) (H : Heap 𝓤) (A : Atoms 𝓤) (W : Given 𝓤 H A) where
-      pub none-had : (ss : List (Handed n)) (a : Args ss) → ent 𝓤 (emp 𝓤) (sem 𝓤 H A (hasOf κs (own-slots ss) (own-kept ss) (dropped ss) a (ends ss a) (machine ss a)))
+      pub none-had : (ss : List (Handed n)) (a : Args ss) →
+          ent 𝓤 (emp 𝓤) (sem 𝓤 H A (hasOf κs (own-slots ss) (own-kept ss) (dropped ss) a (ends ss a) (machine ss a)))
       none-had [] a = id⊢ 𝓤 (emp 𝓤)
-      none-had (s ∷ ss) a = qed W [] ∵ use0 W (‵ (hasOf κs (own-slots ss) (own-kept ss) (dropped ss) (a .1) (ends ss (a .1)) (machine ss (a .1)))) (none-had ss (a .1)) $ nothing ! $ done !
+      none-had (s ∷ ss) a = qed W [] ∵ use0 W (‵ (hasOf κs (own-slots ss) (own-kept ss) (dropped ss) (a .1) (ends ss (a .1)) (machine ss (a .1))))
+          (none-had ss (a .1)) $ nothing ! $ done !
 
-      abbrev pub passed : (ss : List (Handed n)) (a : Args ss) → Are (typesAt (own-slots ss) κs) (Ises (typesAt (own-slots ss) κs)) a (machine ss a) → List Passed
+      abbrev pub passed : (ss : List (Handed n)) (a : Args ss) →
+          Are (typesAt (own-slots ss) κs) (Ises (typesAt (own-slots ss) κs)) a (machine ss a) → List Passed
       passed [] a is = []
-      passed (s ∷ ss) a is = record { type = s .type; value = s .value κs (a .0); fits = s .typed κs 𝓤 H A W (a .0) (is .0) } ∷ passed ss (a .1) (is .1)
+      passed (s ∷ ss) a is = record { type = s .type; value = s .value κs (a .0); fits = s .typed κs 𝓤 H A W (a .0) (is .0) } ∷ passed ss (a .1)
+          (is .1)
 
-      pub values-alike : (ss : List (Handed n)) (a : Args ss) (is : Are (typesAt (own-slots ss) κs) (Ises (typesAt (own-slots ss) κs)) a (machine ss a))
-          → (values (passed ss a is) ≡ flat (typesAt (own-slots ss) κs) (machine ss a)) × (values (passed ss a is) ≡ flat (typesAt (callee-slots ss) (κs .1)) (callee-machine ss a))
+      pub values-alike : (ss : List (Handed n)) (a : Args ss)
+          (is : Are (typesAt (own-slots ss) κs) (Ises (typesAt (own-slots ss) κs)) a (machine ss a))
+          → (values (passed ss a is) ≡ flat (typesAt (own-slots ss) κs) (machine ss a)) ×
+          (values (passed ss a is) ≡ flat (typesAt (callee-slots ss) (κs .1)) (callee-machine ss a))
       values-alike [] a is = (refl, refl)
       values-alike (s ∷ ss) a is =
           let alike = values-alike ss (a .1) (is .1) in

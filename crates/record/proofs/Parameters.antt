@@ -90,23 +90,29 @@ module _ {M : Type 1} {𝓤 : URA M} {H : Heap 𝓤} {A : Atoms 𝓤} {W : Given
   allocates [] k = nothing ! $ k tt
   allocates (p ∷ ps) k = alloc1 ! (λ l. allocates ps (λ D. move ! (1 ∷ 2 ∷ 0 ∷ []) $ group ! 3 $ k (l, D)))
 
-  pub fills : {Γ : List (Item 𝓤)} (ps : List Passed) (D : Frame ps) (E : Env 𝓤 H) {g : Goal 𝓤 H} → Sq W (held 𝓤 ps D ∷ Γ) g → Sq W (bare 𝓤 ps D ∷ Γ) (passes (env ps D E) (values ps) g)
+  pub fills : {Γ : List (Item 𝓤)} (ps : List Passed) (D : Frame ps) (E : Env 𝓤 H) {g : Goal 𝓤 H} → Sq W (held 𝓤 ps D ∷ Γ) g →
+      Sq W (bare 𝓤 ps D ∷ Γ) (passes (env ps D E) (values ps) g)
   fills [] D E s = pass0 ! $ s
   fills (p ∷ ps) D E s = split3 ! $ pass1 ! (init ! 0 refl (p .fits)) $ move ! (2 ∷ []) $ fills ps (D .1) E (move ! (1 ∷ 2 ∷ 0 ∷ []) $ group ! 3 $ s)
 
-  pub releases : {Γ : List (Item 𝓤)} (ps : List Passed) (D : Frame ps) {E : Env 𝓤 H} {g : Goal 𝓤 H} → Sq W Γ (frees E g) → Sq W (held 𝓤 ps D ∷ Γ) (frees (env ps D E) g)
+  pub releases : {Γ : List (Item 𝓤)} (ps : List Passed) (D : Frame ps) {E : Env 𝓤 H} {g : Goal 𝓤 H} → Sq W Γ (frees E g) →
+      Sq W (held 𝓤 ps D ∷ Γ) (frees (env ps D E) g)
   releases [] D s = drop ! $ s
   releases (p ∷ ps) D s = split3 ! $ forget ! 0 refl $ free1 ! $ releases ps (D .1) s
 
   -- a place of the local i, whose type and block are known
-  pub found : {Γ : List (Item 𝓤)} {E : Env 𝓤 H} {i l : ℕ} {τ : Ty} {st : List Projection} {sp : Spot 𝓤 H} → local-at E i ≡ (τ, l) → Walks (Go {0}) W Γ E (τ, l, 0) st sp → Finds (Go {0}) W Γ E (place i st) sp
-  found {Γ} {E} {st = st} {sp = sp} e w = record { go = λ Kt h. subst (λ (s : Ty × ℕ). ent 𝓤 (⋆ 𝓤 H A Γ) (Wp.walk 𝓤 H E (s .0, s .1, 0) st Kt)) (sym e) (w .go Kt h) }
+  pub found : {Γ : List (Item 𝓤)} {E : Env 𝓤 H} {i l : ℕ} {τ : Ty} {st : List Projection} {sp : Spot 𝓤 H} → local-at E i ≡ (τ, l) →
+      Walks (Go {0}) W Γ E (τ, l, 0) st sp → Finds (Go {0}) W Γ E (place i st) sp
+  found {Γ} {E} {st = st} {sp = sp} e w =
+      record { go = λ Kt h. subst (λ (s : Ty × ℕ). ent 𝓤 (⋆ 𝓤 H A Γ) (Wp.walk 𝓤 H E (s .0, s .1, 0) st Kt)) (sym e) (w .go Kt h) }
 
   -- operands are read alike from a context that is written another way
-  read-as : (Γ Γ′ : List (Item 𝓤)) {E : Env 𝓤 H} {xs : List Operand} {vs : List Val} → Sq W Γ (prop (⋆ 𝓤 H A Γ′)) → Sq W Γ′ (prop (⋆ 𝓤 H A Γ)) → Opds (Go {0}) W Γ′ E xs vs → Opds (Go {0}) W Γ E xs vs
+  read-as : (Γ Γ′ : List (Item 𝓤)) {E : Env 𝓤 H} {xs : List Operand} {vs : List Val} → Sq W Γ (prop (⋆ 𝓤 H A Γ′)) → Sq W Γ′ (prop (⋆ 𝓤 H A Γ)) →
+      Opds (Go {0}) W Γ′ E xs vs → Opds (Go {0}) W Γ E xs vs
   read-as Γ Γ′ there back os = record { go = λ Kt h. via 𝓤 (⋆ 𝓤 H A Γ′) (there .prf) (os .go Kt (via 𝓤 (⋆ 𝓤 H A Γ) (back .prf) h)) }
 
-  head-operands : (Γ : List (Item 𝓤)) (ps : List Passed) (D : Frame ps) {E : Env 𝓤 H} (i : ℕ) → Stand E i ps D → Opds (Go {0}) W (held 𝓤 ps D ∷ Γ) E (copies i ps) (values ps)
+  head-operands : (Γ : List (Item 𝓤)) (ps : List Passed) (D : Frame ps) {E : Env 𝓤 H} (i : ℕ) → Stand E i ps D →
+      Opds (Go {0}) W (held 𝓤 ps D ∷ Γ) E (copies i ps) (values ps)
   head-operands Γ [] D i h = no-more !
   head-operands Γ (p ∷ ps) D i h =
       let one : Item 𝓤 = ‵ (fat fullShare (p .type) (D .0) 0 (p .value)) in
@@ -116,5 +122,7 @@ module _ {M : Type 1} {𝓤 : URA M} {H : Heap 𝓤} {A : Atoms 𝓤} {W : Given
       (read-as (one ∷ dies ∷ held 𝓤 ps (D .1) ∷ Γ) (held 𝓤 ps (D .1) ∷ one ∷ dies ∷ Γ) (move ! (2 ∷ []) $ done !) (move ! (1 ∷ 2 ∷ 0 ∷ []) $ done !)
       (head-operands (one ∷ dies ∷ Γ) ps (D .1) (suc i) (h .1))))
 
-  pub operands : {i : Item 𝓤} {Γ : List (Item 𝓤)} (ps : List Passed) (D : Frame ps) {E : Env 𝓤 H} (n : ℕ) → Stand E n ps D → Opds (Go {0}) W (i ∷ held 𝓤 ps D ∷ Γ) E (copies n ps) (values ps)
-  operands {i} {Γ} ps D n h = read-as (i ∷ held 𝓤 ps D ∷ Γ) (held 𝓤 ps D ∷ i ∷ Γ) (move ! (1 ∷ []) $ done !) (move ! (1 ∷ []) $ done !) (head-operands (i ∷ Γ) ps D n h)
+  pub operands : {i : Item 𝓤} {Γ : List (Item 𝓤)} (ps : List Passed) (D : Frame ps) {E : Env 𝓤 H} (n : ℕ) → Stand E n ps D →
+      Opds (Go {0}) W (i ∷ held 𝓤 ps D ∷ Γ) E (copies n ps) (values ps)
+  operands {i} {Γ} ps D n h = read-as (i ∷ held 𝓤 ps D ∷ Γ) (held 𝓤 ps D ∷ i ∷ Γ) (move ! (1 ∷ []) $ done !) (move ! (1 ∷ []) $ done !)
+      (head-operands (i ∷ Γ) ps D n h)

@@ -21,7 +21,8 @@ module _ (a : Matrix) (t : ℕ) (pair : Pair) (pairs : List Pair) where
   found l = rw (lt-ltb t _ l)
 
 -- of two matrices that agree below n, at pairs below n
-pub same-loose : (n : ℕ) (a b : Matrix) (t : ℕ) (pairs : List Pair) → Each n pairs → ((i j : ℕ) → i < n → j < n → a i j ≡ b i j) → looseOf a t pairs ≡ looseOf b t pairs
+pub same-loose : (n : ℕ) (a b : Matrix) (t : ℕ) (pairs : List Pair) → Each n pairs → ((i j : ℕ) → i < n → j < n → a i j ≡ b i j) →
+    looseOf a t pairs ≡ looseOf b t pairs
 unfolding looseOf Each
 same-loose n a b t [] all same = refl
 same-loose n a b t (pair ∷ pairs) all same =

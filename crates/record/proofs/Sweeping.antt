@@ -38,12 +38,14 @@ pub record Sweeping (n : ℕ) (w₀ : Work) (pairs₀ : List Pair) (w : Work) (p
 pub started : (n : ℕ) (w : Work) (pairs : List Pair) → KeptWork n w → Shaped (w .a) → Shaped (w .v) → Sweeping n w pairs w pairs
 started n w pairs k a v = record { same = refl; kept = k; few = omega arith; matrix = a; axes = v }
 
-pub then : {n : ℕ} {w₀ w₁ w₂ : Work} {pairs₀ pairs₁ pairs₂ : List Pair} → Sweeping n w₀ pairs₀ w₁ pairs₁ → Sweeping n w₁ pairs₁ w₂ pairs₂ → Sweeping n w₀ pairs₀ w₂ pairs₂
+pub then : {n : ℕ} {w₀ w₁ w₂ : Work} {pairs₀ pairs₁ pairs₂ : List Pair} → Sweeping n w₀ pairs₀ w₁ pairs₁ → Sweeping n w₁ pairs₁ w₂ pairs₂ →
+    Sweeping n w₀ pairs₀ w₂ pairs₂
 then s t =
     record { same = t .same ∙ s .same; kept = t .kept; few = omega (arith, s .few, t .few); matrix = t .matrix; axes = t .axes }
 
 module _ (n : ℕ) (w₀ w : Work) (pairs₀ : List Pair) (pair : Pair) (pairs : List Pair) where
-  pub one-more : (w′ : Work) → Sweeping n w₀ pairs₀ w (pair ∷ pairs) → w′ ≡ workPair n w pair → pair .p < pair .q → pair .q < n → n ≤ 8 → Sweeping n w₀ pairs₀ w′ pairs
+  pub one-more : (w′ : Work) → Sweeping n w₀ pairs₀ w (pair ∷ pairs) → w′ ≡ workPair n w pair → pair .p < pair .q → pair .q < n → n ≤ 8 →
+      Sweeping n w₀ pairs₀ w′ pairs
   unfolding workPairs
   one-more w′ s e h k b =
       rw e

@@ -33,7 +33,8 @@ pub record Certified (r : Record) (s : State) : Type 0 where
   pub matrix : Same (s .n) (kept (r .a)) (s .B)
   pub axes : Same (s .n) (kept (r .v)) (s .axes)
   -- the squared differences of the kept matrix and Q A Qᵀ sum to at most (7m/2)², times (2D²)²
-  pub matrix-near : 4 * squares (s .n) (λ i j. pos (s .D * s .D) *ℤ kept (r .a) i j -ℤ pos units *ℤ conjugate (s .n) (s .P) (s .A) i j) ≤ 7 * s .m * (s .D * s .D) * (7 * s .m * (s .D * s .D))
+  pub matrix-near : 4 * squares (s .n) (λ i j. pos (s .D * s .D) *ℤ kept (r .a) i j -ℤ pos units *ℤ conjugate (s .n) (s .P) (s .A) i j) ≤ 7 * s .m *
+      (s .D * s .D) * (7 * s .m * (s .D * s .D))
   -- those of the axes and Q sum to at most (2m)², times D²
   pub axes-near : squares (s .n) (λ i j. pos (s .D) *ℤ kept (r .v) i j -ℤ pos whole *ℤ s .P i j) ≤ 2 * s .m * s .D * (2 * s .m * s .D)
   -- every printed error, for i from 1 to n

@@ -11,7 +11,8 @@ use Rattle.ledger.specs.Sound.{matrixBound, axesBound}
 use Rattle.turn.specs.Turn.{at}
 use Rattle.record.specs.Work.{Work}
 
--- the kept matrix is symmetric, matrix and axes are 0 outside the n by n entries in use, and the squares are bounded: of the matrix by (8 × 2^30 + 4m)², of a column of the axes by (2^30 + m)²
+-- the kept matrix is symmetric, matrix and axes are 0 outside the n by n entries in use, and the squares are bounded: of the matrix by (8 × 2^30
+-- + 4m)², of a column of the axes by (2^30 + m)²
 pub record KeptWork (n : ℕ) (w : Work) : Type 0 where
   pub symmetric : (i j : ℕ) → at (w .a) i j ≡ at (w .a) j i
   pub outside : (i j : ℕ) → (ltb i n && ltb j n) ≡ false → at (w .a) i j ≡ pos 0

@@ -1,4 +1,5 @@
-// Document 01, 'The bench keeps one record through the day': the five calls on a record lent by `&mut`. Each answers as the call by value does, and leaves that call's record.
+// Document 01, 'The bench keeps one record through the day': the five calls on a record lent by `&mut`. Each answers as the call by value does,
+// and leaves that call's record.
 ghost use Rattle.ledger.specs.Call.{load, loosePair, sweep, turn};
 ghost use Rattle.record.specs.Done.{AxisDone, Done};
 ghost use Rattle.record.specs.Kept.{Kept};

@@ -64,7 +64,8 @@ pub(crate) fn work_pair(
     q: usize,
 ) -> u64
     requires { ⌜ (p < q) × (q < n) × (n ≤ 8) × Ready n (now matrix) (now axes) m ⌝ }
-    ensures { λ z. ⌜ workAt (now (matrix .exit)) (now (axes .exit)) z ≡ workPair n (workAt (now (matrix .entry)) (now (axes .entry)) m) (record { p = p; q = q }) ⌝ }
+    ensures { λ z. ⌜ workAt (now (matrix .exit)) (now (axes .exit)) z ≡ workPair n (workAt (now (matrix .entry)) (now (axes .entry)) m)
+        (record { p = p; q = q }) ⌝ }
 {
     let Choice::Turn { l, minus } = choice_at(matrix, p, q) else {
         return m;
@@ -78,7 +79,8 @@ pub(crate) fn work_pair(
 // The pairs of a sweep over n channels, in lent rows, each chosen on the matrix as it then stands. The answer is m after them.
 pub fn work_pairs(matrix: &mut [[i64; 8]; 8], axes: &mut [[i64; 8]; 8], n: usize, m: u64) -> u64
     requires { ⌜ (n ≤ 8) × (m ≤ 448) × Ready n (now matrix) (now axes) m ⌝ }
-    ensures { λ z. ⌜ workAt (now (matrix .exit)) (now (axes .exit)) z ≡ workPairs n (workAt (now (matrix .entry)) (now (axes .entry)) m) (cyclic n) ⌝ }
+    ensures { λ z. ⌜ workAt (now (matrix .exit)) (now (axes .exit)) z ≡ workPairs n (workAt (now (matrix .entry)) (now (axes .entry)) m)
+        (cyclic n) ⌝ }
 {
     let mut made = m;
     let mut p = 0;

@@ -48,7 +48,12 @@ module _ (n : ℕ) (A : Matrix) where
       swept : Has n A (book.accepted g sweep)
       swept =
           let c = turnPairs-continues (h .state) (cyclic (h .state .n)) in
-          rw (h .is) (record { state = book.turnPairs (h .state) (cyclic (h .state .n)); is = refl; size = c .size ∙ h .size; given = c .given ∙ h .given })
+          rw (h .is) (record {
+            state = book.turnPairs (h .state) (cyclic (h .state .n));
+            is = refl;
+            size = c .size ∙ h .size;
+            given = c .given ∙ h .given;
+          })
 
       by-refusal : (b : Bool) → Has n A (cond b (book.accepted g sweep) g)
       by-refusal true = swept
@@ -59,7 +64,8 @@ module _ (n : ℕ) (A : Matrix) where
   rounds-have t zero g h = asked-has t g h
   rounds-have t (suc sweeps) g h = rounds-have t sweeps _ (swept-has _ (asked-has t g h))
 
-run-has : (n : ℕ) (numbers : List ℤ) (t sweeps : ℕ) → refusalOf 0 0 (load n numbers) ≡ 0 → Has n (matrixOf n numbers) (ledger (callsOf n numbers t sweeps))
+run-has : (n : ℕ) (numbers : List ℤ) (t sweeps : ℕ) → refusalOf 0 0 (load n numbers) ≡ 0 →
+    Has n (matrixOf n numbers) (ledger (callsOf n numbers t sweeps))
 unfolding ledger callsOf ledgerFrom ledgerStep sizeOf turnsOf book.accepted book.loadedOf
 run-has n numbers t sweeps e = rounds-have n (matrixOf n numbers) t sweeps (ledgerStep empty (load n numbers)) first
   where

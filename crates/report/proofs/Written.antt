@@ -19,6 +19,7 @@ word-few Settled = omega arith
 word-few Still = omega arith
 word-few Spent = omega arith
 
-pub text-size : (head : List ℤ) (outcome : Outcome) (axes : List (List ℤ)) (n : ℕ) → length (textOf head outcome axes n) ≡ length (wordLine 82 head (outcomeWord outcome)) + length (lines (rowLine 65 (n + 3) axes) n)
+pub text-size : (head : List ℤ) (outcome : Outcome) (axes : List (List ℤ)) (n : ℕ) →
+    length (textOf head outcome axes n) ≡ length (wordLine 82 head (outcomeWord outcome)) + length (lines (rowLine 65 (n + 3) axes) n)
 unfolding textOf
 text-size head outcome axes n = length-append (wordLine 82 head (outcomeWord outcome)) (lines (rowLine 65 (n + 3) axes) n)

@@ -1,4 +1,5 @@
--- Document 01, 'Job text and report': the report of a job. What a job text is answered with, and what the lent buffer then holds, is job/specs/Reply, of this text.
+-- Document 01, 'Job text and report': the report of a job. What a job text is answered with, and what the lent buffer then holds, is
+-- job/specs/Reply, of this text.
 use Prim.Native.Nat.{ℕ, suc, _*_}
 use mathlib.Core.List.{List, [], _∷_, _++_, map}
 use lib.IntN.{ℤ, pos}

@@ -40,7 +40,8 @@ rows-flat : (a : List (List ℤ)) → Shaped a → rowsOf (flatOf (at a)) ≡ a
 unfolding rowsOf entriesOf
 rows-flat a s = square-cong (λ i j h l. kept-flatOf (at a) i j h l) ∙ sym (square-of a s)
 
-works-shaped : (n : ℕ) (w : Work) (pairs : List Pair) → Shaped (w .a) → Shaped (w .v) → Shaped (workPairs n w pairs .a) × Shaped (workPairs n w pairs .v)
+works-shaped : (n : ℕ) (w : Work) (pairs : List Pair) → Shaped (w .a) → Shaped (w .v) →
+    Shaped (workPairs n w pairs .a) × Shaped (workPairs n w pairs .v)
 unfolding workPairs
 works-shaped n w [] a v = (a, v)
 works-shaped n w (pair ∷ pairs) a v =
@@ -73,7 +74,11 @@ module _ (n m : ℕ) (a v : List (List ℤ)) (h : Holds n m a v) where
   held-loose : (t : ℕ) → refusalOf n m (loosePair t) ≡ 0 → noPair (looseOf (at a) t (cyclic n)) ≡ noPair (answerOf r (loosePair t))
   unfolding answerOf valueOf
   held-loose t e =
-      rw (eq-eqb (refusalOf n m (loosePair t)) 0 e, same-loose n _ (at a) t (cyclic n) (cyclic-pairs n) (λ i j g l. kept-flatOf (at a) i j (omega (arith, g, h .keeps .size)) (omega (arith, l, h .keeps .size))))
+      rw (
+        eq-eqb (refusalOf n m (loosePair t)) 0 e,
+        same-loose n _ (at a) t (cyclic n) (cyclic-pairs n)
+            (λ i j g l. kept-flatOf (at a) i j (omega (arith, g, h .keeps .size)) (omega (arith, l, h .keeps .size))),
+      )
 
   module _ (e : refusalOf n m sweep ≡ 0) (made : ℕ) (a′ v′ : List (List ℤ)) (w : workAt a′ v′ made ≡ workPairs n (workAt a v m) (cyclic n)) where
     swept-leaves : afterOf r sweep ≡ heldOf n made a′ v′
@@ -126,7 +131,8 @@ module _ (n limit t : ℕ) (some : 1 ≤ n) (sixteen : limit ≤ 16) (tolerance 
         pub is-spent : idle ≡ false → sweeps ≡ limit → stop Spent sweeps now ≡ z
         is-spent i l = sym (g .is ∙ run-spent (limit - sweeps) sweeps t idle now loose i (omega arith))
 
-        pub sweeps-on : idle ≡ false → sweeps ≢ limit → (made : ℕ) (a′ v′ : List (List ℤ)) → workAt a′ v′ made ≡ workPairs n (workAt a v m) (cyclic n) → Going n limit t z a′ v′ made (sweeps + 1) (eqb made m)
+        pub sweeps-on : idle ≡ false → sweeps ≢ limit → (made : ℕ) (a′ v′ : List (List ℤ)) →
+            workAt a′ v′ made ≡ workPairs n (workAt a v m) (cyclic n) → Going n limit t z a′ v′ made (sweeps + 1) (eqb made m)
         sweeps-on i l made a′ v′ w =
             let goes = run-sweeps (limit - sweeps) sweeps t idle now loose i (limit - (sweeps + 1)) (omega (arith, g .within)) in
             let taken = sweep-accepted n m some (turns-suffice n m sweeps (g .holds .keeps .size) (omega (arith, g .within)) (g .few)) in

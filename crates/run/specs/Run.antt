@@ -1,4 +1,5 @@
--- Document 01, 'A run takes a fresh record of its own, loads a matrix, then repeats: no loose pair, stop as settled; the last sweep made no turn, stop as still; limit reached, stop as spent; else sweep': its outcome, the sweeps run and the record.
+-- Document 01, 'A run takes a fresh record of its own, loads a matrix, then repeats: no loose pair, stop as settled; the last sweep made no turn,
+-- stop as still; limit reached, stop as spent; else sweep': its outcome, the sweeps run and the record.
 use mathlib.Core.Bool.{Bool, true, false, cond}
 use mathlib.Core.List.{List}
 use Prim.Native.Nat.{ℕ, zero, suc}

@@ -22,7 +22,8 @@ use record::Answer;
 // The matrix and axes of a fresh record after a load, put into rows of 0.
 pub fn load_rows(matrix: &mut [[i64; 8]; 8], axes: &mut [[i64; 8]; 8], n: usize, numbers: &[i64])
     requires { ⌜ (now matrix ≡ blank) × (now axes ≡ blank) × (refusalOf 0 0 (load n (now numbers)) ≡ 0) ⌝ }
-    ensures { λ _. ⌜ (heldOf n 0 (now (matrix .exit)) (now (axes .exit)) ≡ afterOf fresh (load n (now (numbers .entry)))) × Holds n 0 (now (matrix .exit)) (now (axes .exit)) ⌝ }
+    ensures { λ _. ⌜ (heldOf n 0 (now (matrix .exit)) (now (axes .exit)) ≡ afterOf fresh (load n (now (numbers .entry)))) × Holds n 0
+        (now (matrix .exit)) (now (axes .exit)) ⌝ }
 {
     record::load::load_matrix(matrix, n, numbers);
     record::load::load_axes(axes, n);
@@ -50,7 +51,8 @@ pub fn run_rows(
     tolerance: u64,
 ) -> Ended
     requires { ⌜ (1 ≤ n) × (limit ≤ 16) × (tolerance ≤ toleranceLimit) × Holds n 0 (now matrix) (now axes) ⌝ }
-    ensures { λ z. ⌜ (stop (z .outcome) (z .sweeps) (heldOf n (z .m) (now (matrix .exit)) (now (axes .exit))) ≡ runFrom limit 0 false tolerance (heldOf n 0 (now (matrix .entry)) (now (axes .entry)))) × Holds n (z .m) (now (matrix .exit)) (now (axes .exit)) ⌝ }
+    ensures { λ z. ⌜ (stop (z .outcome) (z .sweeps) (heldOf n (z .m) (now (matrix .exit)) (now (axes .exit))) ≡ runFrom limit 0 false tolerance
+        (heldOf n 0 (now (matrix .entry)) (now (axes .entry)))) × Holds n (z .m) (now (matrix .exit)) (now (axes .exit)) ⌝ }
 {
     let mut m = 0;
     let mut sweeps = 0;

@@ -45,6 +45,7 @@ module _ (n : ℕ) (t : Sums) (h : n ≤ 8) (b : Bounded t) {s : List ℤ} (is :
       the-shift : e ≡ shift (scatter n t)
       the-shift = shift-is (scatter n t) e (rw (most, is, largest-padded (scatter n t) fits) at found)
 
-      pub assembled : (rs : List ℤ) → rs ≡ tabulate 64 (λ p. rnd (getD s p (pos 0)) (2 ^ e)) → _≡_ {A = Table} (record { e = e; entries = rs; scatter = s }) (tableOf n t)
+      pub assembled : (rs : List ℤ) → rs ≡ tabulate 64 (λ p. rnd (getD s p (pos 0)) (2 ^ e)) →
+          _≡_ {A = Table} (record { e = e; entries = rs; scatter = s }) (tableOf n t)
       unfolding tableOf
       assembled rs g = rw (g, the-shift, is, rounded-all (scatter n t))

@@ -30,11 +30,13 @@ zeros = replicate 64 (pos 0)
 module _ (n : ℕ) (t : Sums) where
   -- S_ij at its place
   module _ (b : Bounded t) (h : n ≤ 8) (i j : ℕ) (g : i < n) (f : j < n) where
-    pub S-stored : (v : ℤ) (place at : ℕ) → v ≡ pos (t .k * getD (t .cross) place 0) -ℤ pos (getD (t .channel) i 0 * getD (t .channel) j 0) → place ≡ 8 * min i j + max i j → at ≡ i * n + j → toZ w64 (ofZ w64 v) ≡ getD (padded (scatter n t)) at (pos 0)
+    pub S-stored : (v : ℤ) (place at : ℕ) → v ≡ pos (t .k * getD (t .cross) place 0) -ℤ pos (getD (t .channel) i 0 * getD (t .channel) j 0) →
+        place ≡ 8 * min i j + max i j → at ≡ i * n + j → toZ w64 (ofZ w64 v) ≡ getD (padded (scatter n t)) at (pos 0)
     unfolding S
     S-stored v place at e l a =
         let is : v ≡ S t i j = rw l at e in
-        rw (is, a) (read-back (S t i j) (omega (arith, S-small t b i j)) ∙ sym (padded-at (scatter n t) (i * n + j) (place-below n i j h g f) ∙ scatter-at n t i j g f))
+        rw (is, a) (read-back (S t i j) (omega (arith, S-small t b i j))
+        ∙ sym (padded-at (scatter n t) (i * n + j) (place-below n i j h g f) ∙ scatter-at n t i j g f))
 
   -- past the last row
   pub no-entry : (p : ℕ) → n * n ≤ p → getD (padded (scatter n t)) p (pos 0) ≡ getD zeros p (pos 0)
@@ -55,15 +57,18 @@ element : (us : List ℤ) → Small us → (p : ℕ) → toZ w64 (ofZ w64 (getD 
 element us s p = read-back (getD us p (pos 0)) (omega (arith, s .small p))
 
 module _ (s : List ℤ) (small : Small s) (e : ℕ) (h : e < 62) (p : ℕ) where
-  pub nearest-asks : (0 < (1 * 2 ^ e) % 2 ^ 64) × ((1 * 2 ^ e) % 2 ^ 64 < 2 ^ 63) × (natAbs (toZ w64 (ofZ w64 (getD s p (pos 0)))) + (1 * 2 ^ e) % 2 ^ 64 / 2 < 2 ^ 63)
+  pub nearest-asks : (0 < (1 * 2 ^ e) % 2 ^ 64) × ((1 * 2 ^ e) % 2 ^ 64 < 2 ^ 63) ×
+      (natAbs (toZ w64 (ofZ w64 (getD s p (pos 0)))) + (1 * 2 ^ e) % 2 ^ 64 / 2 < 2 ^ 63)
   nearest-asks =
       let l : 2 ^ e ≤ 2 ^ 62 = pow-mono {i = e} {j = 62} (omega arith) in
       rw (shifted-one e (omega arith), element s small p) (pow-pos e, omega arith, omega (arith, small .small p))
 
-  pub rounded : (v : ℤ) → v ≡ rnd (toZ w64 (ofZ w64 (getD s p (pos 0)))) ((1 * 2 ^ e) % 2 ^ 64) → p < 64 → toZ w64 (ofZ w64 v) ≡ getD (tabulate 64 (λ p. rnd (getD s p (pos 0)) (2 ^ e))) p (pos 0)
+  pub rounded : (v : ℤ) → v ≡ rnd (toZ w64 (ofZ w64 (getD s p (pos 0)))) ((1 * 2 ^ e) % 2 ^ 64) → p < 64 →
+      toZ w64 (ofZ w64 v) ≡ getD (tabulate 64 (λ p. rnd (getD s p (pos 0)) (2 ^ e))) p (pos 0)
   rounded v f g =
       let is : v ≡ rnd (getD s p (pos 0)) (2 ^ e) = rw (element s small p, shifted-one e (omega arith)) at f in
-      rw is (read-back (rnd (getD s p (pos 0)) (2 ^ e)) (omega (arith, size, small .small p)) ∙ sym (getD-tabulate 64 (λ p. rnd (getD s p (pos 0)) (2 ^ e)) p (pos 0) g))
+      rw is (read-back (rnd (getD s p (pos 0)) (2 ^ e)) (omega (arith, size, small .small p))
+      ∙ sym (getD-tabulate 64 (λ p. rnd (getD s p (pos 0)) (2 ^ e)) p (pos 0) g))
     where
       grows : natAbs (getD s p (pos 0)) ≤ natAbs (getD s p (pos 0)) * 2 ^ e
       grows = omega (arith, mul-le-mul-left (natAbs (getD s p (pos 0))) (pow-pos e))
@@ -72,6 +77,7 @@ module _ (s : List ℤ) (small : Small s) (e : ℕ) (h : e < 62) (p : ℕ) where
       size = rnd-bound (getD s p (pos 0)) (2 ^ e) (natAbs (getD s p (pos 0))) (pow-pos e) grows
 
 -- where there is a zero, one is rounded
-pub rounded-zero : (s : List ℤ) (e p : ℕ) → getD s p (pos 0) ≡ pos 0 → p < 64 → getD (tabulate 64 (λ p. rnd (getD s p (pos 0)) (2 ^ e))) p (pos 0) ≡ getD zeros p (pos 0)
+pub rounded-zero : (s : List ℤ) (e p : ℕ) → getD s p (pos 0) ≡ pos 0 → p < 64 →
+    getD (tabulate 64 (λ p. rnd (getD s p (pos 0)) (2 ^ e))) p (pos 0) ≡ getD zeros p (pos 0)
 rounded-zero s e p z h =
     getD-tabulate 64 (λ p. rnd (getD s p (pos 0)) (2 ^ e)) p (pos 0) h ∙ rw z (rnd-zero (2 ^ e) (pow-pos e)) ∙ sym (getD-repeated 64 p (pos 0))

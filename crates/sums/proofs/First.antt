@@ -39,21 +39,26 @@ module _ (n : ℕ) (dilutions counts : List ℕ) (r : Readings n dilutions count
 
   -- what the samples give at each of m places
   module _ (m : ℕ) (v : Sample → ℕ → ℕ) {xs : List ℕ} (f : xs ≡ sumsAt m v (tabulate s (sampleAt n dilutions counts))) where
-    pub sums-next : {ys : List ℕ} → ys ≡ raised m (v (sample (getD dilutions s 0) (take (start + n - start) (drop start counts)))) xs → ys ≡ sumsAt m v (tabulate (s + 1) (sampleAt n dilutions counts))
-    sums-next g = g ∙ rw (f, the-sample, add-one, tabulate-suc) (sumsAt-more m v (tabulate s (sampleAt n dilutions counts)) (sampleAt n dilutions counts s))
+    pub sums-next : {ys : List ℕ} → ys ≡ raised m (v (sample (getD dilutions s 0) (take (start + n - start) (drop start counts)))) xs →
+        ys ≡ sumsAt m v (tabulate (s + 1) (sampleAt n dilutions counts))
+    sums-next g = g ∙ rw (f, the-sample, add-one, tabulate-suc)
+        (sumsAt-more m v (tabulate s (sampleAt n dilutions counts)) (sampleAt n dilutions counts s))
 
     pub sums-room : (b : ℕ) → ((s : Sample) → InRange s → (p : ℕ) → v s p ≤ b) → Room m (256 * b) xs
     unfolding sumsAt
     sums-room b h =
         record {
           size = ap length f ∙ length-tabulate m _;
-          most = λ p. rw f (le-trans (sumsAt-bound m v b h _ (all-in-range n dilutions counts r s) p) (rw length-tabulate (mul-le-mul-right b s-most)));
+          most = λ p. rw f (le-trans (sumsAt-bound m v b h _ (all-in-range n dilutions counts r s) p)
+              (rw length-tabulate (mul-le-mul-right b s-most)));
         }
       where
         s-most : s ≤ 256
         s-most = omega (arith, r .number)
 
 -- after the last one
-pub all-samples : (n : ℕ) (dilutions counts : List ℕ) {s : ℕ} {xs ys : List ℕ} → s ≡ length dilutions → xs ≡ sumsAt 8 z (tabulate s (sampleAt n dilutions counts)) → ys ≡ sumsAt 64 products (tabulate s (sampleAt n dilutions counts)) → _≡_ {A = Sums} (record { k = length dilutions; channel = xs; cross = ys }) (sumsOf (samples n dilutions counts))
+pub all-samples : (n : ℕ) (dilutions counts : List ℕ) {s : ℕ} {xs ys : List ℕ} → s ≡ length dilutions →
+    xs ≡ sumsAt 8 z (tabulate s (sampleAt n dilutions counts)) → ys ≡ sumsAt 64 products (tabulate s (sampleAt n dilutions counts)) →
+    _≡_ {A = Sums} (record { k = length dilutions; channel = xs; cross = ys }) (sumsOf (samples n dilutions counts))
 unfolding samples sumsOf
 all-samples n dilutions counts e f g = rw (f, g, e, length-tabulate)

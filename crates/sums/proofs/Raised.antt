@@ -20,11 +20,13 @@ module _ (m : ℕ) (f : ℕ → ℕ) (start : List ℕ) (size : length start ≡
   unfolding raised
   at-place p h = getD-tabulate m (λ q. getD start q 0 + f q) p 0 h
 
-  pub raised-more : {xs : List ℕ} {at : ℕ} → Filled 0 (raised m f start) start xs at → (p next v : ℕ) → p ≡ at → next ≡ suc at → p < m → v ≡ f p → Filled 0 (raised m f start) start (set xs p (getD xs p 0 + v)) next
+  pub raised-more : {xs : List ℕ} {at : ℕ} → Filled 0 (raised m f start) start xs at → (p next v : ℕ) → p ≡ at → next ≡ suc at → p < m → v ≡ f p →
+      Filled 0 (raised m f start) start (set xs p (getD xs p 0 + v)) next
   raised-more {xs} g p next v e n h same =
       filled-more g p next _ e n (omega (arith, g .size)) (rw (g .after p (omega arith), same) (sym (at-place p h)))
 
-  pub raised-skip : {xs : List ℕ} {at : ℕ} → Filled 0 (raised m f start) start xs at → (to : ℕ) → at ≤ to → ((p : ℕ) → at ≤ p → p < to → f p ≡ 0) → Filled 0 (raised m f start) start xs to
+  pub raised-skip : {xs : List ℕ} {at : ℕ} → Filled 0 (raised m f start) start xs at → (to : ℕ) → at ≤ to → ((p : ℕ) → at ≤ p → p < to → f p ≡ 0) →
+      Filled 0 (raised m f start) start xs to
   unfolding raised
   raised-skip {xs} {at} g to h none = filled-skip g to h (λ p a b. stays p a b (decLt p m))
     where
@@ -44,7 +46,8 @@ unfolding z
 no-value s i h = rw (List·getD-eq-default (s .counts) 0 h) (zero-mul (s .dilution))
 
 -- The product z_i × z_j, as it is computed
-pub product-at : (s : Sample) (i j : ℕ) → i ≤ j → j < 8 → (getD (s .counts) i 0 * s .dilution * s .dilution) * getD (s .counts) j 0 ≡ products s (8 * i + j)
+pub product-at : (s : Sample) (i j : ℕ) → i ≤ j → j < 8 →
+    (getD (s .counts) i 0 * s .dilution * s .dilution) * getD (s .counts) j 0 ≡ products s (8 * i + j)
 unfolding z
 product-at s i j h g = regroup (getD (s .counts) i 0) (s .dilution) (getD (s .counts) j 0) ∙ sym (products-at s i j h g)
   where

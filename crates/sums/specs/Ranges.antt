@@ -5,7 +5,8 @@ use Prim.Native.Nat.{ℕ, _*_, _≤_}
 use lib.ListN.{length, getD}
 use Rattle.sums.specs.declared.Sums.{Sums}
 
--- A dilution for each sample and n counts to a sample, each within its range. Document 01 has 2 to 8 channels and 2 to 256 samples; fewer do no harm to sums and tables.
+-- A dilution for each sample and n counts to a sample, each within its range. Document 01 has 2 to 8 channels and 2 to 256 samples; fewer do no
+-- harm to sums and tables.
 pub record Readings (n : ℕ) (dilutions counts : List ℕ) : Type 0 where
   pub channels : n ≤ 8
   pub number : length dilutions ≤ 256

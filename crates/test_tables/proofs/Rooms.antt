@@ -22,7 +22,8 @@ module _ {m b : ℕ} where
       most q (yes e) = rw (e, getD-set-same xs p v 0 (omega (arith, r .size))) l
       most q (no f) = rw (getD-set-other xs p q v 0 f) (r .most q)
 
-pub readings : {m l : ℕ} (n k : ℕ) {dilutions counts : List ℕ} → Room m 100 dilutions → Room l 65_535 counts → n ≤ 8 → k ≤ 256 → k ≤ m → n * k ≤ l → Readings n (take k dilutions) (take (n * k) counts)
+pub readings : {m l : ℕ} (n k : ℕ) {dilutions counts : List ℕ} → Room m 100 dilutions → Room l 65_535 counts → n ≤ 8 → k ≤ 256 → k ≤ m → n * k ≤ l →
+    Readings n (take k dilutions) (take (n * k) counts)
 readings n k {dilutions} {counts} r q h g f e =
     record {
       channels = h;

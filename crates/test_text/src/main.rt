@@ -8,8 +8,10 @@ ghost use Rattle.text.specs.Line.{numberLine, wordLine};
 
 // Two lines: the second is written into the part of the buffer that starts where the first ended.
 fn two_lines(buf: &mut [u8], values: &[i64], n: usize, word: &[u8]) -> usize
-    requires { ⌜ (n ≤ length (now values)) × (length (numberLine 65 (take n (now values)) ++ wordLine 82 (take n (now values)) (now word)) ≤ length (now buf)) ⌝ }
-    ensures { λ r. ⌜ Put (numberLine 65 (take n (now (values .entry))) ++ wordLine 82 (take n (now (values .entry))) (now (word .entry))) 0 (now (buf .entry)) (now (buf .exit)) r ⌝ }
+    requires { ⌜ (n ≤ length (now values)) ×
+        (length (numberLine 65 (take n (now values)) ++ wordLine 82 (take n (now values)) (now word)) ≤ length (now buf)) ⌝ }
+    ensures { λ r. ⌜ Put (numberLine 65 (take n (now (values .entry))) ++ wordLine 82 (take n (now (values .entry))) (now (word .entry))) 0
+        (now (buf .entry)) (now (buf .exit)) r ⌝ }
 {
     let at = text::line::put_line(buf, b'A', values, n);
     at + text::line::put_word_line(&mut buf[at..], b'R', values, n, word)

@@ -68,7 +68,10 @@ matrixOf-small base =
 pub matrixOf-symmetric : (base : ℕ) → Symmetric (matrixOf base)
 unfolding matrixOf rowOf
 matrixOf-symmetric base =
-    record { mirror = mirrored (λ i j. valueOf (base + offset i + offset j) widest) (λ i j. ap (λ k. valueOf k widest) (add-right-comm base (offset i) (offset j))) }
+    record {
+      mirror = mirrored (λ i j. valueOf (base + offset i + offset j) widest)
+          (λ i j. ap (λ k. valueOf k widest) (add-right-comm base (offset i) (offset j)));
+    }
 
 pub axesOf-small : (base : ℕ) → Small (axesOf base)
 unfolding axesOf rowOf
@@ -76,6 +79,7 @@ axesOf-small base =
     record {
       small = λ i j. omega (
         arith,
-        inside (λ i j. valueOf (base + 64 * (i + 1) + offset j) (2 ^ 30 + 448)) (2 ^ 30 + 448) (λ i j. valueOf-most _ (2 ^ 30 + 448) (omega arith)) i j,
+        inside (λ i j. valueOf (base + 64 * (i + 1) + offset j) (2 ^ 30 + 448)) (2 ^ 30 + 448)
+            (λ i j. valueOf-most _ (2 ^ 30 + 448) (omega arith)) i j,
       );
     }

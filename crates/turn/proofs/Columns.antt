@@ -41,7 +41,8 @@ module _ (r : Rotation) (p q : ℕ) (v : List (List ℤ)) where
 
     module _ (h : p < q) (b : q < 8) where
       -- column k turned too
-      one-more : (i j : ℕ) → stored q k (second r (at v p k) (at v q k)) (stored p k (first r (at v p k) (at v q k)) (columnsOf k)) i j ≡ columnsOf (k + 1) i j
+      one-more : (i j : ℕ) → stored q k (second r (at v p k) (at v q k)) (stored p k (first r (at v p k) (at v q k)) (columnsOf k)) i j ≡ columnsOf
+          (k + 1) i j
       unfolding columnsOf turnedAxes
       one-more i j = by-column (ℕ-discrete j k)
         where
@@ -53,11 +54,13 @@ module _ (r : Rotation) (p q : ℕ) (v : List (List ℤ)) where
 
           by-row : (i : ℕ) → Place p q i → stored q k w (stored p k u (columnsOf k)) i k ≡ columnsOf (k + 1) i k
           by-row i at-p =
-              stored-row q k w (stored p k u (columnsOf k)) p k (omega arith) ∙ stored-here p k u (columnsOf k) ∙ rw (lt-ltb k (k + 1) (omega arith), atPair-p)
+              stored-row q k w (stored p k u (columnsOf k)) p k (omega arith) ∙ stored-here p k u (columnsOf k)
+              ∙ rw (lt-ltb k (k + 1) (omega arith), atPair-p)
           by-row i at-q =
               stored-here q k w (stored p k u (columnsOf k)) ∙ rw (lt-ltb k (k + 1) (omega arith), atPair-q p q _ _ _ h)
           by-row i (neither e f) =
-              stored-row q k w (stored p k u (columnsOf k)) i k f ∙ stored-row p k u (columnsOf k) i k e ∙ rw (lt-ltb k (k + 1) (omega arith), le-ltb k k (omega arith), atPair-neither p q i _ _ _ e f)
+              stored-row q k w (stored p k u (columnsOf k)) i k f ∙ stored-row p k u (columnsOf k) i k e
+              ∙ rw (lt-ltb k (k + 1) (omega arith), le-ltb k k (omega arith), atPair-neither p q i _ _ _ e f)
 
           by-column : Dec (j ≡ k) → stored q k w (stored p k u (columnsOf k)) i j ≡ columnsOf (k + 1) i j
           by-column (yes e) = rw e (by-row i (place p q i))
@@ -71,14 +74,17 @@ module _ (r : Rotation) (p q : ℕ) (v : List (List ℤ)) where
           first-stored : set v′ p (set (getD v′ p []) k u) ≡ square (stored p k u (columnsOf k))
           first-stored = rw (c .is) (store (columnsOf k) p k u (omega arith) l)
 
-          second-stored : set (square (stored p k (first r (at v p k) (at v q k)) (columnsOf k))) q (set (getD (square (stored p k (first r (at v p k) (at v q k)) (columnsOf k))) q []) k (second r (at v p k) (at v q k))) ≡ square (columnsOf (k + 1))
+          second-stored : set (square (stored p k (first r (at v p k) (at v q k)) (columnsOf k))) q
+              (set (getD (square (stored p k (first r (at v p k) (at v q k)) (columnsOf k))) q []) k (second r (at v p k) (at v q k))) ≡ square
+              (columnsOf (k + 1))
           second-stored = store _ q k _ b l ∙ square-cong (λ i j _ _. one-more i j)
 
   pub columns-all : (n : ℕ) (v′ : List (List ℤ)) → p < q → q < n → Columns n v′ → v′ ≡ turnAxes n r p q v
   unfolding columnsOf turnAxes array turnedAxes
   columns-all n v′ h l c = c .is ∙ square-cong (λ i j _ _. by i j (decLt i n))
     where
-      by : (i j : ℕ) → Dec (i < n) → cond (ltb j n) (turnedAxes r p q (at v) i j) (at v i j) ≡ cond (ltb i n && ltb j n) (turnedAxes r p q (at v) i j) (at v i j)
+      by : (i j : ℕ) → Dec (i < n) →
+          cond (ltb j n) (turnedAxes r p q (at v) i j) (at v i j) ≡ cond (ltb i n && ltb j n) (turnedAxes r p q (at v) i j) (at v i j)
       by i j (yes m) = rw (lt-ltb i n m)
       by i j (no m) =
           rw (le-ltb i n (omega arith))

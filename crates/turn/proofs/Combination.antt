@@ -27,7 +27,8 @@ pub record Words (a x b y : ℤ) : Type 0 where
   pub room : natAbs a * natAbs x + natAbs b * natAbs y < 2 ^ 63
 
 module _ (a x b y : ℤ) (h : Words a x b y) where
-  pub sum : toZ w64 (ofZ w64 (toZ w64 (ofZ w64 a) *ℤ toZ w64 (ofZ w64 x))) +ℤ toZ w64 (ofZ w64 (toZ w64 (ofZ w64 b) *ℤ toZ w64 (ofZ w64 y))) ≡ a *ℤ x +ℤ b *ℤ y
+  pub sum : toZ w64 (ofZ w64 (toZ w64 (ofZ w64 a) *ℤ toZ w64 (ofZ w64 x))) +ℤ toZ w64
+      (ofZ w64 (toZ w64 (ofZ w64 b) *ℤ toZ w64 (ofZ w64 y))) ≡ a *ℤ x +ℤ b *ℤ y
   sum =
       rw (
         product a x (h .a-held) (h .x-held),

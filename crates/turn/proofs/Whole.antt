@@ -44,7 +44,8 @@ module _ (p q : ℕ) (a : List (List ℤ)) (h : p < q) (b : q < 8) (pp pq qq : �
       above : (j : ℕ) → stored q q qq three p j ≡ two p j
       above j = stored-row q q qq three p j (omega arith) ∙ stored-row q p pq two p j (omega arith)
 
-      by : (i j : ℕ) → Place p q i → Place p q j → stored q q qq three i j ≡ atPair p q i (atPair p q j pp pq (at a p j)) (atPair p q j pq qq (at a q j)) (at a i j)
+      by : (i j : ℕ) → Place p q i → Place p q j →
+          stored q q qq three i j ≡ atPair p q i (atPair p q j pp pq (at a p j)) (atPair p q j pq qq (at a q j)) (at a i j)
       by i j at-p at-p = above p ∙ stored-column p q pq one p p (omega arith) ∙ stored-here p p pp (at a) ∙ rw (atPair-p, atPair-p)
       by i j at-p at-q = above q ∙ stored-here p q pq one ∙ rw (atPair-p, atPair-q p q _ _ _ h)
       by i j at-p (neither e g) =
@@ -52,7 +53,8 @@ module _ (p q : ℕ) (a : List (List ℤ)) (h : p < q) (b : q < 8) (pp pq qq : �
       by i j at-q at-p = stored-column q q qq three q p (omega arith) ∙ stored-here q p pq two ∙ rw (atPair-q p q _ _ _ h, atPair-p)
       by i j at-q at-q = stored-here q q qq three ∙ rw (atPair-q p q _ _ _ h, atPair-q p q _ _ _ h)
       by i j at-q (neither e g) =
-          stored-column q q qq three q j g ∙ stored-column q p pq two q j e ∙ stored-row p q pq one q j (omega arith) ∙ stored-row p p pp (at a) q j (omega arith) ∙
+          stored-column q q qq three q j g ∙ stored-column q p pq two q j e ∙ stored-row p q pq one q j (omega arith)
+          ∙ stored-row p p pp (at a) q j (omega arith) ∙
           rw (atPair-q p q _ _ _ h, atPair-neither p q j _ _ _ e g)
       by i j (neither e g) k =
           stored-row q q qq three i j g ∙ stored-row q p pq two i j g ∙ stored-row p q pq one i j e ∙ stored-row p p pp (at a) i j e ∙
@@ -122,7 +124,8 @@ module _ (p q : ℕ) (a : List (List ℤ)) where
 
         by-column : (j : ℕ) → Place p q j → stored k q (at a q k) (stored k p (at a p k) f) k j ≡ mirrorOf p q (at a) (k + 1) k j
         by-column j at-p =
-            stored-column k q (at a q k) (stored k p (at a p k) f) k p (omega arith) ∙ stored-here k p (at a p k) f ∙ rw (lt-ltb k (k + 1) (omega arith), atPair-p)
+            stored-column k q (at a q k) (stored k p (at a p k) f) k p (omega arith) ∙ stored-here k p (at a p k) f
+            ∙ rw (lt-ltb k (k + 1) (omega arith), atPair-p)
         by-column j at-q = stored-here k q (at a q k) (stored k p (at a p k) f) ∙ rw (lt-ltb k (k + 1) (omega arith), atPair-q p q _ _ _ h)
         by-column j (neither e g) =
             stored-column k q (at a q k) (stored k p (at a p k) f) k j g ∙ stored-column k p (at a p k) f k j e ∙
@@ -133,13 +136,15 @@ module _ (p q : ℕ) (a : List (List ℤ)) where
         by-row (no d) =
             stored-row k q (at a q k) (stored k p (at a p k) f) i j d ∙ stored-row k p (at a p k) f i j d ∙ rw (next-test k i d)
 
-    pub rows-more : (x y : ℤ) → x ≡ at a p k → y ≡ at a q k → Mirrored (k + 1) (set (set a′ k (set (getD a′ k []) p x)) k (set (getD (set a′ k (set (getD a′ k []) p x)) k []) q y))
+    pub rows-more : (x y : ℤ) → x ≡ at a p k → y ≡ at a q k →
+        Mirrored (k + 1) (set (set a′ k (set (getD a′ k []) p x)) k (set (getD (set a′ k (set (getD a′ k []) p x)) k []) q y))
     rows-more x y ex ey = record { is = rw (first-stored, ex, ey) second-stored }
       where
         first-stored : set a′ k (set (getD a′ k []) p x) ≡ square (stored k p x (mirrorOf p q (at a) k))
         first-stored = rw (c .is) (store (mirrorOf p q (at a) k) k p x l (omega arith))
 
-        second-stored : set (square (stored k p (at a p k) (mirrorOf p q (at a) k))) k (set (getD (square (stored k p (at a p k) (mirrorOf p q (at a) k))) k []) q (at a q k)) ≡ square (mirrorOf p q (at a) (k + 1))
+        second-stored : set (square (stored k p (at a p k) (mirrorOf p q (at a) k))) k
+            (set (getD (square (stored k p (at a p k) (mirrorOf p q (at a) k))) k []) q (at a q k)) ≡ square (mirrorOf p q (at a) (k + 1))
         second-stored = store _ k q _ l b ∙ square-cong (λ i j _ _. one-more i j)
 
 module _ (n : ℕ) (r : Rotation) (p q : ℕ) (a : List (List ℤ)) (h : p < q) (k : q < n) (b : n ≤ 8) where
@@ -191,7 +196,8 @@ module _ (n : ℕ) (r : Rotation) (p q : ℕ) (a : List (List ℤ)) (h : p < q) 
     u-other : (i j : ℕ) → i < 8 → j < 8 → (i ≡ p → ⊥) → (i ≡ q → ⊥) → u i j ≡ at a i j
     unfolding u blockOf withBlock turnedAxes
     u-other i j l m e g =
-        atPair-neither p q i _ _ _ e g ∙ t-is i j l m ∙ ap (λ z. cond (ltb i n && ltb j n) z (at a i j)) (atPair-neither p q i _ _ _ e g) ∙ cond-same (ltb i n && ltb j n) (at a i j)
+        atPair-neither p q i _ _ _ e g ∙ t-is i j l m ∙ ap (λ z. cond (ltb i n && ltb j n) z (at a i j)) (atPair-neither p q i _ _ _ e g)
+        ∙ cond-same (ltb i n && ltb j n) (at a i j)
 
     -- rows p and q agree where they cross
     corner : newq r p q (at a) p ≡ newp r p q (at a) q
@@ -199,7 +205,8 @@ module _ (n : ℕ) (r : Rotation) (p q : ℕ) (a : List (List ℤ)) (h : p < q) 
     corner = rw (atPair-p, atPair-q p q _ _ _ h)
 
     -- row i in use, column by column
-    in-row : (i j : ℕ) → i < 8 → j < 8 → Place p q i → Place p q j → atPair p q j (newp r p q (at a) i) (newq r p q (at a) i) (u i j) ≡ cond (ltb j n) (turned r p q (at a) i j) (at a i j)
+    in-row : (i j : ℕ) → i < 8 → j < 8 → Place p q i → Place p q j →
+        atPair p q j (newp r p q (at a) i) (newq r p q (at a) i) (u i j) ≡ cond (ltb j n) (turned r p q (at a) i j) (at a i j)
     unfolding turned
     in-row i j l m at-p at-p = rw (lt-ltb p n (omega arith), atPair-p, atPair-p)
     in-row i j l m at-q at-p = rw (lt-ltb p n (omega arith), atPair-p, atPair-q p q _ _ _ h) (sym corner)
@@ -219,7 +226,8 @@ module _ (n : ℕ) (r : Rotation) (p q : ℕ) (a : List (List ℤ)) (h : p < q) 
         rw (at-eight u i j l m, at-eight u p i (omega arith) l, at-eight u q i (omega arith) l)
         (by-use (decLt i n))
       where
-        by-use : Dec (i < n) → cond (ltb i n) (atPair p q j (u p i) (u q i) (u i j)) (u i j) ≡ cond (ltb i n && ltb j n) (turned r p q (at a) i j) (at a i j)
+        by-use : Dec (i < n) → cond (ltb i n) (atPair p q j (u p i) (u q i) (u i j)) (u i j) ≡ cond (ltb i n && ltb j n) (turned r p q (at a) i j)
+            (at a i j)
         by-use (no o) = rw (le-ltb i n (omega arith)) (u-other i j l m (omega arith) (omega arith))
         by-use (yes o) = rw (lt-ltb i n o, u-p i l, u-q i l, lt-ltb i n o) (in-row i j l m (place p q i) (place p q j))
 

@@ -22,7 +22,8 @@ loop-holds c = (start _ (c .new .ensures .is) (c .new .ensures .keeps), omega ar
 -- where there is more, it starts later
 onward : (c : tie.After-next Inv-loop μ-loop)
     → (c .before .before .before .before .before .before .before .loop .at < c .before .before .before .before .before .before .step .result .at)
-    × (c .before .before .before .before .before .before .step .result .at ≤ length (c .before .before .before .before .before .before .before .before .before .before .args .text .now))
+    × (c .before .before .before .before .before .before .step .result .at ≤ length
+    (c .before .before .before .before .before .before .before .before .before .before .args .text .now))
 onward c =
     let z = c .before .before .before .before .before .before in
     z .step .ensures .moves (not-false _ (c .before .if1 .left))

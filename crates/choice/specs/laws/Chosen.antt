@@ -24,7 +24,8 @@ smallest-from y g minus first zero l sign e = absurd (no-turn l sign e)
 smallest-from y g minus first (suc count) l sign e =
     by-fit (fits y g first) (smallest-from y g minus (suc first) count l sign) e
   where
-    by-fit : (t : Bool) → (smallest y g minus (suc first) count ≡ Turn l sign → From (suc first) count l) → cond t (Turn first minus) (smallest y g minus (suc first) count) ≡ Turn l sign → From first (suc count) l
+    by-fit : (t : Bool) → (smallest y g minus (suc first) count ≡ Turn l sign → From (suc first) count l) →
+        cond t (Turn first minus) (smallest y g minus (suc first) count) ≡ Turn l sign → From first (suc count) l
     by-fit true ih e = let s : first ≡ l = same-turn first l minus sign e in record { least = omega arith; most = omega arith }
     by-fit false ih e = let s = ih e in record { least = omega (arith, s .least); most = omega (arith, s .most) }
 
@@ -32,6 +33,7 @@ pub chosen-from : (app aqq apq : ℤ) (l : ℕ) (sign : Bool) → choose app aqq
 unfolding choose
 chosen-from app aqq apq l sign e = by-zero (eqb (natAbs apq) 0) e
   where
-    by-zero : (t : Bool) → cond t NoTurn (smallest (2 * natAbs apq) (natAbs (aqq -ℤ app)) (minusSign apq (aqq -ℤ app)) 1 14) ≡ Turn l sign → From 1 14 l
+    by-zero : (t : Bool) → cond t NoTurn (smallest (2 * natAbs apq) (natAbs (aqq -ℤ app)) (minusSign apq (aqq -ℤ app)) 1 14) ≡ Turn l sign →
+        From 1 14 l
     by-zero true e = absurd (no-turn l sign e)
     by-zero false e = smallest-from _ _ _ 1 14 l sign e

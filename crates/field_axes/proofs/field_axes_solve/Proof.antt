@@ -26,7 +26,8 @@ returns c =
       buffer = refused-buffer _ numbers (a .out .now) _ e (c .before .if1 .taken);
     }
 
-taken : (c : tie.After-put-solution) → (let a = c .before .before .before .before .args in solveRefusal (a .n) (a .numbers .now) (a .limit) (a .tolerance) (length (a .out .now)) ≡ 0)
+taken : (c : tie.After-put-solution) →
+    (let a = c .before .before .before .before .args in solveRefusal (a .n) (a .numbers .now) (a .limit) (a .tolerance) (length (a .out .now)) ≡ 0)
 taken c = sym (c .before .before .before .solve-refusal .ensures) ∙ c .before .before .if1 .left
 
 -- the numbers are few

@@ -25,7 +25,9 @@ returns c =
       buffer = refused-buffer _ numbers (a .out .now) _ e (c .before .if1 .taken);
     }
 
-taken : (c : tie.After-put-table) → (let a = c .before .before .before .before .before .before .args in tableRefusal (a .n) (a .dilutions .now) (a .counts .now) (length (a .out .now)) ≡ 0)
+taken : (c : tie.After-put-table) →
+    (let a = c .before .before .before .before .before .before .args in
+    tableRefusal (a .n) (a .dilutions .now) (a .counts .now) (length (a .out .now)) ≡ 0)
 taken c = sym (c .before .before .before .table-refusal .ensures) ∙ c .before .before .if1 .left
 
 -- the numbers are few

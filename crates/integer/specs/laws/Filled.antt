@@ -17,7 +17,8 @@ module _ {A : Type 0} {d : A} where
   filled-none = record { size = refl; before = λ p h. absurd (omega arith); after = λ p h. refl }
 
   -- the next place is written
-  pub filled-more : {target start xs : List A} {at : ℕ} → Filled d target start xs at → (p next : ℕ) (v : A) → p ≡ at → next ≡ suc at → p < length xs → v ≡ getD target p d → Filled d target start (set xs p v) next
+  pub filled-more : {target start xs : List A} {at : ℕ} → Filled d target start xs at → (p next : ℕ) (v : A) → p ≡ at → next ≡ suc at →
+      p < length xs → v ≡ getD target p d → Filled d target start (set xs p v) next
   filled-more {target} {start} {xs} {at} f p next v e g h same =
       record {
         size = length-set xs p v ∙ f .size;
@@ -30,7 +31,8 @@ module _ {A : Type 0} {d : A} where
       before q b (no i) = getD-set-other xs p q v d i ∙ f .before q (omega arith)
 
   -- places that stay as they were
-  pub filled-skip : {target start xs : List A} {at : ℕ} → Filled d target start xs at → (to : ℕ) → at ≤ to → ((p : ℕ) → at ≤ p → p < to → getD target p d ≡ getD start p d) → Filled d target start xs to
+  pub filled-skip : {target start xs : List A} {at : ℕ} → Filled d target start xs at → (to : ℕ) → at ≤ to →
+      ((p : ℕ) → at ≤ p → p < to → getD target p d ≡ getD start p d) → Filled d target start xs to
   filled-skip {target} {start} {xs} {at} f to h stay =
       record { size = f .size; before = λ p b. before p b (decLt p at); after = λ p b. f .after p (omega arith) }
     where

@@ -40,7 +40,8 @@ product-assoc n X Y Z = λ t i j. entry i j t
     entry i j =
         sum-cong n (λ k l. *ℤ-comm (product n X Y i k) (Z k j) ∙ sym (sum-* n (Z k j) (λ m. X i m *ℤ Y m k)))
         ∙ sum-exchange n n (λ k m. Z k j *ℤ (X i m *ℤ Y m k))
-        ∙ sum-cong n (λ m l. sum-cong n (λ k o. *ℤ-comm (Z k j) (X i m *ℤ Y m k) ∙ *ℤ-assoc (X i m) (Y m k) (Z k j)) ∙ sum-* n (X i m) (λ k. Y m k *ℤ Z k j))
+        ∙ sum-cong n (λ m l. sum-cong n (λ k o. *ℤ-comm (Z k j) (X i m *ℤ Y m k) ∙ *ℤ-assoc (X i m) (Y m k) (Z k j))
+        ∙ sum-* n (X i m) (λ k. Y m k *ℤ Z k j))
 
 pub product-+-left : (n : ℕ) (X Y Z : Matrix) → product n (λ i j. X i j +ℤ Y i j) Z ≡ (λ i j. product n X Z i j +ℤ product n Y Z i j)
 unfolding product
@@ -59,13 +60,15 @@ unfolding product
 product-*-right n k Z X = λ t i j. dot-*-right n k (Z i) (λ m. X m j) t
 
 -- what is additive and homogeneous passes to differences of multiples
-difference : (f : Matrix → Matrix) → ((X Y : Matrix) → f (λ i j. X i j +ℤ Y i j) ≡ (λ i j. f X i j +ℤ f Y i j)) → ((k : ℤ) (X : Matrix) → f (λ i j. k *ℤ X i j) ≡ (λ i j. k *ℤ f X i j)) →
+difference : (f : Matrix → Matrix) → ((X Y : Matrix) → f (λ i j. X i j +ℤ Y i j) ≡ (λ i j. f X i j +ℤ f Y i j)) →
+    ((k : ℤ) (X : Matrix) → f (λ i j. k *ℤ X i j) ≡ (λ i j. k *ℤ f X i j)) →
     (x y : ℤ) (X Y : Matrix) → f (λ i j. x *ℤ X i j -ℤ y *ℤ Y i j) ≡ (λ i j. x *ℤ f X i j -ℤ y *ℤ f Y i j)
 difference f additive homogeneous x y X Y =
     ap f (λ t i j. x *ℤ X i j +ℤ sym (negℤ-*ℤ y (Y i j)) t) ∙ additive (λ i j. x *ℤ X i j) (λ i j. negℤ y *ℤ Y i j) ∙
     (λ t i j. homogeneous x X t i j +ℤ (homogeneous (negℤ y) Y ∙ (λ t i j. negℤ-*ℤ y (f Y i j) t)) t i j)
 
-pub product-difference : (n : ℕ) (x y : ℤ) (Z X Y : Matrix) → product n Z (λ i j. x *ℤ X i j -ℤ y *ℤ Y i j) ≡ (λ i j. x *ℤ product n Z X i j -ℤ y *ℤ product n Z Y i j)
+pub product-difference : (n : ℕ) (x y : ℤ) (Z X Y : Matrix) →
+    product n Z (λ i j. x *ℤ X i j -ℤ y *ℤ Y i j) ≡ (λ i j. x *ℤ product n Z X i j -ℤ y *ℤ product n Z Y i j)
 product-difference n x y Z = difference (product n Z) (product-+-right n Z) (λ k. product-*-right n k Z) x y
 
 -- R X Rᵀ
@@ -77,11 +80,13 @@ pub conjugate-product : (n : ℕ) (R S X : Matrix) → conjugate n (product n R 
 unfolding conjugate
 conjugate-product n R S X =
     ap₂ (product n) (product-assoc n R S X) (product-transpose n R S)
-    ∙ sym (product-assoc n (product n R (product n S X)) (transpose S) (transpose R)) ∙ ap (λ Y. product n Y (transpose R)) (product-assoc n R (product n S X) (transpose S))
+    ∙ sym (product-assoc n (product n R (product n S X)) (transpose S) (transpose R))
+    ∙ ap (λ Y. product n Y (transpose R)) (product-assoc n R (product n S X) (transpose S))
 
 pub conjugate-transpose : (n : ℕ) (R X : Matrix) → transpose (conjugate n R X) ≡ conjugate n R (transpose X)
 unfolding conjugate
-conjugate-transpose n R X = product-transpose n (product n R X) (transpose R) ∙ ap (product n R) (product-transpose n R X) ∙ sym (product-assoc n R (transpose X) (transpose R))
+conjugate-transpose n R X = product-transpose n (product n R X) (transpose R) ∙ ap (product n R) (product-transpose n R X)
+    ∙ sym (product-assoc n R (transpose X) (transpose R))
 
 pub conjugate-symmetric : (n : ℕ) (R X : Matrix) → Symmetric n X → Symmetric n (conjugate n R X)
 conjugate-symmetric n R X h i j o m = conjugate-cong n (λ i j o m. refl) h i j o m ∙ sym (λ t. conjugate-transpose n R X t i j)
@@ -94,7 +99,8 @@ pub conjugate-* : (n : ℕ) (k : ℤ) (R X : Matrix) → conjugate n R (λ i j. 
 unfolding conjugate
 conjugate-* n k R X = ap (λ Z. product n Z (transpose R)) (product-*-right n k R X) ∙ product-*-left n k (product n R X) (transpose R)
 
-pub conjugate-difference : (n : ℕ) (x y : ℤ) (R X Y : Matrix) → conjugate n R (λ i j. x *ℤ X i j -ℤ y *ℤ Y i j) ≡ (λ i j. x *ℤ conjugate n R X i j -ℤ y *ℤ conjugate n R Y i j)
+pub conjugate-difference : (n : ℕ) (x y : ℤ) (R X Y : Matrix) →
+    conjugate n R (λ i j. x *ℤ X i j -ℤ y *ℤ Y i j) ≡ (λ i j. x *ℤ conjugate n R X i j -ℤ y *ℤ conjugate n R Y i j)
 conjugate-difference n x y R = difference (conjugate n R) (conjugate-+ n R) (λ k. conjugate-* n k R) x y
 
 -- the products of the rows of R P with one another
@@ -130,7 +136,8 @@ diagonal-* m k i j = cases (eqb i j)
 
 pub dot-diagonal : (n : ℕ) (k : ℤ) (x : ℕ → ℤ) (i : ℕ) → i < n → dot n (diagonal k i) x ≡ k *ℤ x i
 unfolding dot
-dot-diagonal n k x i l = sum-delta n i (λ j. diagonal k i j *ℤ x j) l (λ j o d. ap (λ z. z *ℤ x j) (diagonal-other k i j (λ e. d (sym e))) ∙ zero-*ℤ (x j)) ∙ ap (λ z. z *ℤ x i) (diagonal-same k i)
+dot-diagonal n k x i l = sum-delta n i (λ j. diagonal k i j *ℤ x j) l
+    (λ j o d. ap (λ z. z *ℤ x j) (diagonal-other k i j (λ e. d (sym e))) ∙ zero-*ℤ (x j)) ∙ ap (λ z. z *ℤ x i) (diagonal-same k i)
 
 pub diagonal-product : (n : ℕ) (k : ℤ) (X : Matrix) (i j : ℕ) → i < n → product n (diagonal k) X i j ≡ k *ℤ X i j
 unfolding product
@@ -142,7 +149,9 @@ product-diagonal n k X i j l = dot-comm n (X i) (diagonal k j) ∙ dot-diagonal 
 
 pub conjugate-diagonal : (n : ℕ) (k : ℤ) (R : Matrix) (i j : ℕ) → conjugate n R (diagonal k) i j ≡ k *ℤ product n R (transpose R) i j
 unfolding conjugate product
-conjugate-diagonal n k R i j = dot-cong n (λ m l. dot-comm n (R i) (λ o. diagonal k o m) ∙ dot-cong n (λ o b. diagonal-transpose k m o) (λ o b. refl) ∙ dot-diagonal n k (R i) m l) (λ m l. refl) ∙ dot-*-left n k (R i) (R j)
+conjugate-diagonal n k R i j =
+    dot-cong n (λ m l. dot-comm n (R i) (λ o. diagonal k o m) ∙ dot-cong n (λ o b. diagonal-transpose k m o) (λ o b. refl)
+    ∙ dot-diagonal n k (R i) m l) (λ m l. refl) ∙ dot-*-left n k (R i) (R j)
 
 -- a vector that is 0 but at p and q, times another
 pub dot-pair : (n p q : ℕ) (x y : ℕ → ℤ) → p < q → q < n → ((i : ℕ) → i < n → i ≢ p → i ≢ q → x i ≡ pos 0) → dot n x y ≡ x p *ℤ y p +ℤ x q *ℤ y q
@@ -162,7 +171,8 @@ squares-transpose n X = sumℕ-exchange n n (λ i j. sq (X j i))
 
 pub squares-* : (n : ℕ) (k : ℤ) (X : Matrix) → squares n (λ i j. k *ℤ X i j) ≡ sq k * squares n X
 unfolding squares
-squares-* n k X = sumℕ-cong n (λ i l. sumℕ-cong n (λ j o. sq-*ℤ k (X i j)) ∙ sumℕ-* n (sq k) (λ j. sq (X i j))) ∙ sumℕ-* n (sq k) (λ i. sumℕ n (λ j. sq (X i j)))
+squares-* n k X = sumℕ-cong n (λ i l. sumℕ-cong n (λ j o. sq-*ℤ k (X i j)) ∙ sumℕ-* n (sq k) (λ j. sq (X i j)))
+    ∙ sumℕ-* n (sq k) (λ i. sumℕ n (λ j. sq (X i j)))
 
 -- Minkowski's inequality, of two matrices
 pub squares-+ : (n α β : ℕ) (X Y : Matrix) → squares n X ≤ α * α → squares n Y ≤ β * β → squares n (λ i j. X i j +ℤ Y i j) ≤ (α + β) * (α + β)

@@ -27,10 +27,13 @@ weighted-sum zero X Y Z h a b = omega arith
 weighted-sum (suc n) X Y Z h a b = omega (arith, weighted-sum n X Y Z (λ i l. h i (omega arith)) a b, h n (omega arith) a b)
 
 weighted-zero : (B X Y Z : ℕ) → Weighted X Y Z → X ≤ zero → Y ≤ B → Z ≤ B
-weighted-zero B X Y Z w h k = le-of-suc-le-suc (lt-of-mul-lt-mul-left (suc B) {m = Z} {n = suc B} (omega (arith, rw (le-zero h) at (w 1 (suc B)), mul-le-mul-left B k)))
+weighted-zero B X Y Z w h k = le-of-suc-le-suc
+    (lt-of-mul-lt-mul-left (suc B) {m = Z} {n = suc B} (omega (arith, rw (le-zero h) at (w 1 (suc B)), mul-le-mul-left B k)))
 
 weighted-positive : (a b X Y Z : ℕ) → zero < a * b → Weighted X Y Z → X ≤ a * a → Y ≤ b * b → Z ≤ (a + b) * (a + b)
-weighted-positive a b X Y Z l w h k = le-of-mul-le-mul-left (le-trans (w a b) (le-trans (mul-le-mul-left (a + b) (add-le-add (mul-le-mul-left b h) (mul-le-mul-left a k))) (omega arith))) l
+weighted-positive a b X Y Z l w h k =
+    le-of-mul-le-mul-left (le-trans (w a b)
+    (le-trans (mul-le-mul-left (a + b) (add-le-add (mul-le-mul-left b h) (mul-le-mul-left a k))) (omega arith))) l
 
 pub weighted-bound : (α β X Y Z : ℕ) → Weighted X Y Z → X ≤ α * α → Y ≤ β * β → Z ≤ (α + β) * (α + β)
 weighted-bound zero β X Y Z w h k = rw (zero-add β) (weighted-zero (β * β) X Y Z w h k)
@@ -48,7 +51,9 @@ minkowski n α β x y = weighted-bound α β _ _ _ (weighted-vector n x y)
 -- for two matrices of m rows and n columns
 pub minkowski₂ : (m n α β : ℕ) (x y : ℕ → ℕ → ℤ) → sumℕ m (λ i. sumℕ n (λ j. sq (x i j))) ≤ α * α → sumℕ m (λ i. sumℕ n (λ j. sq (y i j))) ≤ β * β →
     sumℕ m (λ i. sumℕ n (λ j. sq (x i j +ℤ y i j))) ≤ (α + β) * (α + β)
-minkowski₂ m n α β x y = weighted-bound α β _ _ _ (weighted-sum m (λ i. sumℕ n (λ j. sq (x i j))) (λ i. sumℕ n (λ j. sq (y i j))) (λ i. sumℕ n (λ j. sq (x i j +ℤ y i j))) (λ i l. weighted-vector n (x i) (y i)))
+minkowski₂ m n α β x y = weighted-bound α β _ _ _
+    (weighted-sum m (λ i. sumℕ n (λ j. sq (x i j))) (λ i. sumℕ n (λ j. sq (y i j))) (λ i. sumℕ n (λ j. sq (x i j +ℤ y i j)))
+    (λ i l. weighted-vector n (x i) (y i)))
 
 pub cauchy₂ : (a b x y : ℤ) → sq (a *ℤ x +ℤ b *ℤ y) ≤ (sq a + sq b) * (sq x + sq y)
 cauchy₂ a b x y = omega (arith, identity)

@@ -45,12 +45,16 @@ pub rotated-rows : {n p q N : ℕ} {c s : ℤ} (m : ℕ) (X Y : ℕ → ℕ → 
 rotated-rows {n} {p} {q} {N} m X Y r h = sumℕ-cong m (λ i l. rotated-squares (X i) (Y i) r (h i l)) ∙ sumℕ-* m (N * N) (λ i. sumℕ n (λ j. sq (X i j)))
 
 -- each of the m columns of Y is the column of X rotated
-pub rotated-columns : {n p q N : ℕ} {c s : ℤ} (m : ℕ) (X Y : ℕ → ℕ → ℤ) → Rotation n p q N c s → ((j : ℕ) → j < m → Rotated n p q N c s (λ i. X i j) (λ i. Y i j)) →
+pub rotated-columns : {n p q N : ℕ} {c s : ℤ} (m : ℕ) (X Y : ℕ → ℕ → ℤ) → Rotation n p q N c s →
+    ((j : ℕ) → j < m → Rotated n p q N c s (λ i. X i j) (λ i. Y i j)) →
     sumℕ n (λ i. sumℕ m (λ j. sq (Y i j))) ≡ N * N * sumℕ n (λ i. sumℕ m (λ j. sq (X i j)))
 rotated-columns {n} {p} {q} {N} m X Y r h =
-    sumℕ-exchange n m (λ i j. sq (Y i j)) ∙ rotated-rows m (λ j i. X i j) (λ j i. Y i j) r h ∙ ap (λ x. N * N * x) (sumℕ-exchange m n (λ j i. sq (X i j)))
+    sumℕ-exchange n m (λ i j. sq (Y i j)) ∙ rotated-rows m (λ j i. X i j) (λ j i. Y i j) r h
+    ∙ ap (λ x. N * N * x) (sumℕ-exchange m n (λ j i. sq (X i j)))
 
 -- H is R X, by columns, and Y is H Rᵀ, by rows
-pub rotated-matrix : {n p q N : ℕ} {c s : ℤ} (X H Y : ℕ → ℕ → ℤ) → Rotation n p q N c s → ((j : ℕ) → j < n → Rotated n p q N c s (λ i. X i j) (λ i. H i j)) → ((i : ℕ) → i < n → Rotated n p q N c s (H i) (Y i)) →
+pub rotated-matrix : {n p q N : ℕ} {c s : ℤ} (X H Y : ℕ → ℕ → ℤ) → Rotation n p q N c s →
+    ((j : ℕ) → j < n → Rotated n p q N c s (λ i. X i j) (λ i. H i j)) → ((i : ℕ) → i < n → Rotated n p q N c s (H i) (Y i)) →
     sumℕ n (λ i. sumℕ n (λ j. sq (Y i j))) ≡ N * N * (N * N) * sumℕ n (λ i. sumℕ n (λ j. sq (X i j)))
-rotated-matrix {n} {p} {q} {N} X H Y r h k = rotated-rows n H Y r k ∙ ap (λ x. N * N * x) (rotated-columns n X H r h) ∙ sym (mul-assoc (N * N) (N * N) _)
+rotated-matrix {n} {p} {q} {N} X H Y r h k = rotated-rows n H Y r k ∙ ap (λ x. N * N * x) (rotated-columns n X H r h)
+    ∙ sym (mul-assoc (N * N) (N * N) _)

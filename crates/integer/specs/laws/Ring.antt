@@ -1,6 +1,7 @@
 -- `ring`: an equation of ℤ that holds by the ring laws, proved by computing the difference of its sides as a polynomial.
 -- Use: `ring (a ∷ x i ∷ pos n ∷ []) (search reading depth 20) tt`, where the list holds what stands for a variable, any terms of ℤ, 8 or so of them.
--- Read are `+ℤ`, `-ℤ`, `*ℤ`, `negℤ`, literals, and `pos` of `+`, `*` and literals of ℕ. An equation of more than some 40 operations wants `depth 20 fits 9999`.
+-- Read are `+ℤ`, `-ℤ`, `*ℤ`, `negℤ`, literals, and `pos` of `+`, `*` and literals of ℕ. An equation of more than some 40 operations wants `depth
+-- 20 fits 9999`.
 -- `ringℕ` proves an equation of ℕ, read under `pos`; `linear-combination` one that follows from another by multiplying it and adding.
 use mathlib.Core.Path.{_≡_, refl, sym, _∙_, ap, ap₂}
 use mathlib.Core.Bool.{Bool, true, false, _&&_}
@@ -77,7 +78,9 @@ exponents-value : (ρ : List ℤ) (m k : List ℕ) → monomial ρ (exponents m 
 unfolding monomial one
 exponents-value ρ [] k = sym (one-*ℤ (monomial ρ k))
 exponents-value ρ (i ∷ m) [] = sym (*ℤ-one (pow (head ρ) i *ℤ monomial (tail ρ) m))
-exponents-value ρ (i ∷ m) (j ∷ k) = rw (pow-+ (head ρ) i j, exponents-value (tail ρ) m k) (*ℤ-interchange (pow (head ρ) i) (pow (head ρ) j) (monomial (tail ρ) m) (monomial (tail ρ) k))
+exponents-value ρ (i ∷ m) (j ∷ k) =
+    rw (pow-+ (head ρ) i j, exponents-value (tail ρ) m k)
+    (*ℤ-interchange (pow (head ρ) i) (pow (head ρ) j) (monomial (tail ρ) m) (monomial (tail ρ) k))
 
 same→eq : (m k : List ℕ) → T (same m k) → m ≡ k
 same→eq [] [] t = refl
@@ -98,17 +101,21 @@ insert-value ρ c m (term d k p) = cases (same m k) (same→eq m k) (insert-valu
 add-value : (ρ : List ℤ) (p q : Poly) → value ρ (add p q) ≡ value ρ p +ℤ value ρ q
 unfolding value
 add-value ρ nil q = sym (+ℤ-idl (value ρ q))
-add-value ρ (term c m p) q = insert-value ρ c m (add p q) ∙ ap (λ x. c *ℤ monomial ρ m +ℤ x) (add-value ρ p q) ∙ sym (+ℤ-assoc (c *ℤ monomial ρ m) (value ρ p) (value ρ q))
+add-value ρ (term c m p) q = insert-value ρ c m (add p q) ∙ ap (λ x. c *ℤ monomial ρ m +ℤ x) (add-value ρ p q)
+    ∙ sym (+ℤ-assoc (c *ℤ monomial ρ m) (value ρ p) (value ρ q))
 
 scale-value : (ρ : List ℤ) (c : ℤ) (m : List ℕ) (p : Poly) → value ρ (scale c m p) ≡ (c *ℤ monomial ρ m) *ℤ value ρ p
 unfolding value
 scale-value ρ c m nil = sym (*ℤ-zero (c *ℤ monomial ρ m))
-scale-value ρ c m (term d k p) = rw (exponents-value ρ m k, scale-value ρ c m p, *ℤ-interchange c d (monomial ρ m) (monomial ρ k)) (sym (*ℤ-+ℤ (c *ℤ monomial ρ m) (d *ℤ monomial ρ k) (value ρ p)))
+scale-value ρ c m (term d k p) =
+    rw (exponents-value ρ m k, scale-value ρ c m p, *ℤ-interchange c d (monomial ρ m) (monomial ρ k))
+    (sym (*ℤ-+ℤ (c *ℤ monomial ρ m) (d *ℤ monomial ρ k) (value ρ p)))
 
 mul-value : (ρ : List ℤ) (p q : Poly) → value ρ (mul p q) ≡ value ρ p *ℤ value ρ q
 unfolding value
 mul-value ρ nil q = sym (zero-*ℤ (value ρ q))
-mul-value ρ (term c m p) q = add-value ρ (scale c m q) (mul p q) ∙ ap₂ _+ℤ_ (scale-value ρ c m q) (mul-value ρ p q) ∙ sym (+ℤ-*ℤ (c *ℤ monomial ρ m) (value ρ p) (value ρ q))
+mul-value ρ (term c m p) q = add-value ρ (scale c m q) (mul p q) ∙ ap₂ _+ℤ_ (scale-value ρ c m q) (mul-value ρ p q)
+    ∙ sym (+ℤ-*ℤ (c *ℤ monomial ρ m) (value ρ p) (value ρ q))
 
 vanishes-value : (ρ : List ℤ) (p : Poly) → T (vanishes p) → value ρ p ≡ pos zero
 unfolding value
@@ -205,7 +212,22 @@ pub record Difference (ρ : List ℤ) (a b : ℤ) : Type 0 where
 abbrev pub difference : {a b : ℤ} {ρ : List ℤ} → Reading ρ a → Reading ρ b → Difference ρ a b
 difference r s = let d = read-+ℤ r (read-negℤ s) in record { poly = d .poly; is = d .is }
 
-pub ruleset reading = (difference, read-+ℤ, read-*ℤ, read-negℤ, read-+, read-*, read-pos, read-negsuc, read-variable, place-0, place-1, place-2, place-3, place-4+)
+pub ruleset reading = (
+  difference,
+  read-+ℤ,
+  read-*ℤ,
+  read-negℤ,
+  read-+,
+  read-*,
+  read-pos,
+  read-negsuc,
+  read-variable,
+  place-0,
+  place-1,
+  place-2,
+  place-3,
+  place-4+,
+)
 
 pub ring : (ρ : List ℤ) {a b : ℤ} (d : Difference ρ a b) → T (vanishes (d .poly)) → a ≡ b
 ring ρ {a} {b} d t = eq-of-difference a b (sym (d .is) ∙ vanishes-value ρ (d .poly) t)
@@ -215,7 +237,8 @@ ringℕ ρ {a} {b} d t = pos-injective a b (ring ρ d t)
 
 -- for an equation l ≡ r at hand, where a − b is k times l − r by the ring laws
 pub linear-combination : (ρ : List ℤ) {a b l r : ℤ} (k : ℤ) → l ≡ r → (d : Difference ρ (a +ℤ k *ℤ r) (b +ℤ k *ℤ l)) → T (vanishes (d .poly)) → a ≡ b
-linear-combination ρ {a} {b} {l} {r} k e d t = sym (+ℤ-negℤ-cancel a (k *ℤ r)) ∙ ap₂ (λ x y. x -ℤ k *ℤ y) (ring ρ d t) (sym e) ∙ +ℤ-negℤ-cancel b (k *ℤ l)
+linear-combination ρ {a} {b} {l} {r} k e d t = sym (+ℤ-negℤ-cancel a (k *ℤ r)) ∙ ap₂ (λ x y. x -ℤ k *ℤ y) (ring ρ d t) (sym e)
+    ∙ +ℤ-negℤ-cancel b (k *ℤ l)
 
 -- an example
 example : (a b : ℤ) → (a +ℤ b) *ℤ (a -ℤ b) ≡ a *ℤ a -ℤ b *ℤ b

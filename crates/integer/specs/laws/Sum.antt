@@ -70,7 +70,8 @@ sum-but-one (suc n) p f g l h = cases (ℕ-discrete p n) (λ l′. sum-but-one n
   where
     cases : Dec (p ≡ n) → (p < n → sum n f +ℤ g p ≡ sum n g +ℤ f p) → (sum n f +ℤ f n) +ℤ g p ≡ (sum n g +ℤ g n) +ℤ f p
     cases (yes e) ih =
-        rw e (linear-combination (sum n f ∷ sum n g ∷ f n ∷ g n ∷ []) (pos 1) (sum-cong n {f = f} {g = g} (λ i k. h i (omega arith) (omega arith))) (search reading depth 20) tt)
+        rw e (linear-combination (sum n f ∷ sum n g ∷ f n ∷ g n ∷ []) (pos 1) (sum-cong n {f = f} {g = g} (λ i k. h i (omega arith) (omega arith)))
+        (search reading depth 20) tt)
     cases (no e) ih =
         rw (h n (omega arith) (λ e′. e (sym e′)))
         (linear-combination (sum n f ∷ sum n g ∷ f p ∷ g p ∷ g n ∷ []) (pos 1) (ih (omega arith)) (search reading depth 20) tt)
@@ -89,7 +90,8 @@ sum-delta n p f l h = sym (+ℤ-idr (sum n f)) ∙ sum-but-one n p f (λ i. pos 
 -- two functions that agree but at p and q
 pub sum-but-two : (n p q : ℕ) (f g : ℕ → ℤ) → p < q → q < n → ((i : ℕ) → i < n → i ≢ p → i ≢ q → f i ≡ g i) →
     sum n f +ℤ (g p +ℤ g q) ≡ sum n g +ℤ (f p +ℤ f q)
-sum-but-two n p q f g l k h = linear-combination (sum n f ∷ sum n g ∷ sum n m ∷ f p ∷ f q ∷ g p ∷ g q ∷ []) (pos 1) (ap₂ _+ℤ_ first second) (search reading depth 20) tt
+sum-but-two n p q f g l k h = linear-combination (sum n f ∷ sum n g ∷ sum n m ∷ f p ∷ f q ∷ g p ∷ g q ∷ []) (pos 1) (ap₂ _+ℤ_ first second)
+    (search reading depth 20) tt
   where
     m : ℕ → ℤ
     m = update f p (g p)
@@ -104,8 +106,11 @@ sum-but-two n p q f g l k h = linear-combination (sum n f ∷ sum n g ∷ sum n 
     second : sum n m +ℤ g q ≡ sum n g +ℤ f q
     second = rw (update-other f p (g p) q (omega arith)) at (sum-but-one n q m g k (λ i j e. agree i j e (ℕ-discrete i p)))
 
-pub sum-but-two-≡ : (n p q : ℕ) (f g : ℕ → ℤ) → p < q → q < n → ((i : ℕ) → i < n → i ≢ p → i ≢ q → f i ≡ g i) → f p +ℤ f q ≡ g p +ℤ g q → sum n f ≡ sum n g
-sum-but-two-≡ n p q f g l k h e = linear-combination (sum n f ∷ sum n g ∷ f p ∷ f q ∷ g p ∷ g q ∷ []) (pos 1) (ap₂ _+ℤ_ (sum-but-two n p q f g l k h) e) (search reading depth 20) tt
+pub sum-but-two-≡ : (n p q : ℕ) (f g : ℕ → ℤ) → p < q → q < n → ((i : ℕ) → i < n → i ≢ p → i ≢ q → f i ≡ g i) → f p +ℤ f q ≡ g p +ℤ g q →
+    sum n f ≡ sum n g
+sum-but-two-≡ n p q f g l k h e =
+    linear-combination (sum n f ∷ sum n g ∷ f p ∷ f q ∷ g p ∷ g q ∷ []) (pos 1) (ap₂ _+ℤ_ (sum-but-two n p q f g l k h) e)
+    (search reading depth 20) tt
 
 pub natAbs-sum : (n : ℕ) (f : ℕ → ℤ) → natAbs (sum n f) ≤ sumℕ n (λ i. natAbs (f i))
 unfolding sum sumℕ
@@ -117,29 +122,37 @@ pub sumℕ-cong : (n : ℕ) {f g : ℕ → ℕ} → ((i : ℕ) → i < n → f i
 sumℕ-cong n {f} {g} h = pos-injective (sumℕ n f) (sumℕ n g) (pos-sumℕ n f ∙ sum-cong n (λ i l. ap pos (h i l)) ∙ sym (pos-sumℕ n g))
 
 pub sumℕ-+ : (n : ℕ) (f g : ℕ → ℕ) → sumℕ n (λ i. f i + g i) ≡ sumℕ n f + sumℕ n g
-sumℕ-+ n f g = pos-injective (sumℕ n (λ i. f i + g i)) (sumℕ n f + sumℕ n g) (pos-sumℕ n (λ i. f i + g i) ∙ sum-+ n (λ i. pos (f i)) (λ i. pos (g i)) ∙ sym (ap₂ _+ℤ_ (pos-sumℕ n f) (pos-sumℕ n g)))
+sumℕ-+ n f g = pos-injective (sumℕ n (λ i. f i + g i)) (sumℕ n f + sumℕ n g)
+    (pos-sumℕ n (λ i. f i + g i) ∙ sum-+ n (λ i. pos (f i)) (λ i. pos (g i)) ∙ sym (ap₂ _+ℤ_ (pos-sumℕ n f) (pos-sumℕ n g)))
 
 pub sumℕ-* : (n k : ℕ) (f : ℕ → ℕ) → sumℕ n (λ i. k * f i) ≡ k * sumℕ n f
-sumℕ-* n k f = pos-injective (sumℕ n (λ i. k * f i)) (k * sumℕ n f) (pos-sumℕ n (λ i. k * f i) ∙ sum-* n (pos k) (λ i. pos (f i)) ∙ sym (ap (λ x. pos k *ℤ x) (pos-sumℕ n f)))
+sumℕ-* n k f = pos-injective (sumℕ n (λ i. k * f i)) (k * sumℕ n f)
+    (pos-sumℕ n (λ i. k * f i) ∙ sum-* n (pos k) (λ i. pos (f i)) ∙ sym (ap (λ x. pos k *ℤ x) (pos-sumℕ n f)))
 
 pub sumℕ-exchange : (m n : ℕ) (f : ℕ → ℕ → ℕ) → sumℕ m (λ i. sumℕ n (f i)) ≡ sumℕ n (λ j. sumℕ m (λ i. f i j))
-sumℕ-exchange m n f = pos-injective (sumℕ m (λ i. sumℕ n (f i))) (sumℕ n (λ j. sumℕ m (λ i. f i j))) (twice m n f ∙ sum-exchange m n (λ i j. pos (f i j)) ∙ sym (twice n m (λ j i. f i j)))
+sumℕ-exchange m n f = pos-injective (sumℕ m (λ i. sumℕ n (f i))) (sumℕ n (λ j. sumℕ m (λ i. f i j)))
+    (twice m n f ∙ sum-exchange m n (λ i j. pos (f i j)) ∙ sym (twice n m (λ j i. f i j)))
   where
     twice : (m n : ℕ) (f : ℕ → ℕ → ℕ) → pos (sumℕ m (λ i. sumℕ n (f i))) ≡ sum m (λ i. sum n (λ j. pos (f i j)))
     twice m n f = pos-sumℕ m (λ i. sumℕ n (f i)) ∙ sum-cong m (λ i l. pos-sumℕ n (f i))
 
 pub sumℕ-but-one : (n p : ℕ) (f g : ℕ → ℕ) → p < n → ((i : ℕ) → i < n → i ≢ p → f i ≡ g i) → sumℕ n f + g p ≡ sumℕ n g + f p
 sumℕ-but-one n p f g l h = pos-injective (sumℕ n f + g p) (sumℕ n g + f p)
-    (ap (λ x. x +ℤ pos (g p)) (pos-sumℕ n f) ∙ sum-but-one n p (λ i. pos (f i)) (λ i. pos (g i)) l (λ i k e. ap pos (h i k e)) ∙ sym (ap (λ x. x +ℤ pos (f p)) (pos-sumℕ n g)))
+    (ap (λ x. x +ℤ pos (g p)) (pos-sumℕ n f) ∙ sum-but-one n p (λ i. pos (f i)) (λ i. pos (g i)) l (λ i k e. ap pos (h i k e))
+    ∙ sym (ap (λ x. x +ℤ pos (f p)) (pos-sumℕ n g)))
 
-pub sumℕ-but-two : (n p q : ℕ) (f g : ℕ → ℕ) → p < q → q < n → ((i : ℕ) → i < n → i ≢ p → i ≢ q → f i ≡ g i) → sumℕ n f + (g p + g q) ≡ sumℕ n g + (f p + f q)
+pub sumℕ-but-two : (n p q : ℕ) (f g : ℕ → ℕ) → p < q → q < n → ((i : ℕ) → i < n → i ≢ p → i ≢ q → f i ≡ g i) →
+    sumℕ n f + (g p + g q) ≡ sumℕ n g + (f p + f q)
 sumℕ-but-two n p q f g l k h = pos-injective (sumℕ n f + (g p + g q)) (sumℕ n g + (f p + f q))
-    (ap (λ x. x +ℤ pos (g p + g q)) (pos-sumℕ n f) ∙ sum-but-two n p q (λ i. pos (f i)) (λ i. pos (g i)) l k (λ i j d e. ap pos (h i j d e)) ∙ sym (ap (λ x. x +ℤ pos (f p + f q)) (pos-sumℕ n g)))
+    (ap (λ x. x +ℤ pos (g p + g q)) (pos-sumℕ n f) ∙ sum-but-two n p q (λ i. pos (f i)) (λ i. pos (g i)) l k (λ i j d e. ap pos (h i j d e))
+    ∙ sym (ap (λ x. x +ℤ pos (f p + f q)) (pos-sumℕ n g)))
 
-pub sumℕ-but-two-≡ : (n p q : ℕ) (f g : ℕ → ℕ) → p < q → q < n → ((i : ℕ) → i < n → i ≢ p → i ≢ q → f i ≡ g i) → f p + f q ≡ g p + g q → sumℕ n f ≡ sumℕ n g
+pub sumℕ-but-two-≡ : (n p q : ℕ) (f g : ℕ → ℕ) → p < q → q < n → ((i : ℕ) → i < n → i ≢ p → i ≢ q → f i ≡ g i) → f p + f q ≡ g p + g q →
+    sumℕ n f ≡ sumℕ n g
 sumℕ-but-two-≡ n p q f g l k h e = omega (arith, sumℕ-but-two n p q f g l k h)
 
-pub sumℕ-but-two-≤ : (n p q : ℕ) (f g : ℕ → ℕ) → p < q → q < n → ((i : ℕ) → i < n → i ≢ p → i ≢ q → f i ≡ g i) → f p + f q ≤ g p + g q → sumℕ n f ≤ sumℕ n g
+pub sumℕ-but-two-≤ : (n p q : ℕ) (f g : ℕ → ℕ) → p < q → q < n → ((i : ℕ) → i < n → i ≢ p → i ≢ q → f i ≡ g i) → f p + f q ≤ g p + g q →
+    sumℕ n f ≤ sumℕ n g
 sumℕ-but-two-≤ n p q f g l k h e = omega (arith, sumℕ-but-two n p q f g l k h)
 
 -- order in ℕ

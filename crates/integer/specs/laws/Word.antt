@@ -42,7 +42,8 @@ pub sign-read : {z : ℤ} {t : Bool} → SFits w64 z → ltZ (toZ w64 (ofZ w64 z
 sign-read f e = rw (toZ-ofZ f) at e
 
 -- a number that is not negative, as a cast to an unsigned one asks for it
-pub unsigned : (z : ℤ) → SFits w64 z → ltZ (toZ w64 (ofZ w64 z)) (pos 0) ≡ false → T (nonNeg (toZ w64 (ofZ w64 z))) × Fits w64 (natAbs (toZ w64 (ofZ w64 z)))
+pub unsigned : (z : ℤ) → SFits w64 z → ltZ (toZ w64 (ofZ w64 z)) (pos 0) ≡ false →
+    T (nonNeg (toZ w64 (ofZ w64 z))) × Fits w64 (natAbs (toZ w64 (ofZ w64 z)))
 unsigned z f e = rw (toZ-ofZ f) (not-negative z (sign-read f e), fits-natAbs tt f)
   where
     not-negative : (z : ℤ) → ltZ z (pos 0) ≡ false → T (nonNeg z)

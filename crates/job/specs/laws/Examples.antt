@@ -60,5 +60,6 @@ examples :
     -- 4: `E 2` after three samples; a byte after the line of `E 3`
     × (jobOf (p-line ++ samples ++ e-line 50) ≡ refused 4 5)
     × (jobOf (p-line ++ samples ++ e-line 51 ++ 10 ∷ []) ≡ refused 4 5)
-unfolding times jobOf split onto allWithin leadingZero valueFrom numberOf before numbersOf isTag recordOf lineOf within parametersInRange sampleInRange withSample nextLine nothing ended judged after begun jobOfLines
+unfolding times jobOf split onto allWithin leadingZero valueFrom numberOf before numbersOf isTag recordOf lineOf within parametersInRange
+    sampleInRange withSample nextLine nothing ended judged after begun jobOfLines
 examples = (refl, refl, refl, refl, refl, refl, refl, refl, refl, refl, refl, refl, refl, refl, refl, refl, refl, refl)

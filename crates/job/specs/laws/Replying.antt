@@ -39,7 +39,8 @@ module _ (f : Job → List ℕ) where
   unfolding replyOf bufferOf
   replies-answered text entry exit a r e h = record { answer = rw e (h .answer); buffer = rw e (h .buffer); short = rw e (h .short) }
 
-  pub replies-refused : (text entry : List ℕ) (number line : ℕ) → readingOf (jobOf text) .outcome ≡ Outcome.Refused number line → Replies f text entry entry (Refused number line)
+  pub replies-refused : (text entry : List ℕ) (number line : ℕ) → readingOf (jobOf text) .outcome ≡ Outcome.Refused number line →
+      Replies f text entry entry (Refused number line)
   unfolding readingOf replyBy bufferBy Short
   replies-refused text entry number line e = replies-answered _ _ _ _ _ refl (by (jobOf text) e)
     where
@@ -54,13 +55,15 @@ module _ (f : Job → List ℕ) where
     written-by (refused number line) n r = let e = r .answer in let x : _≡_ {A = ℕ} 0 1 = cc in absurd (omega arith)
     written-by (accepted j) n r = by-test (leb (length (f j)) (length entry)) refl (r .answer) (r .buffer)
       where
-        by-test : (b : Bool) → leb (length (f j)) (length entry) ≡ b → Written n ≡ cond b (Written (length (f j))) (Refused 12 0) → exit ≡ cond b (f j ++ drop (length (f j)) entry) entry → Put (f j) 0 entry exit n
+        by-test : (b : Bool) → leb (length (f j)) (length entry) ≡ b → Written n ≡ cond b (Written (length (f j))) (Refused 12 0) →
+            exit ≡ cond b (f j ++ drop (length (f j)) entry) entry → Put (f j) 0 entry exit n
         by-test true t e g =
             let q : n ≡ length (f j) = cc in
             record { leaves = g; answer = q ∙ sym (zero-add _); within = rw q (leb-true _ _ t) }
         by-test false t e g = let x : _≡_ {A = ℕ} 0 1 = cc in absurd (omega arith)
 
-    refused-by : (a : Answer) (number line : ℕ) → 2048 ≤ length entry → Answers f a entry exit (Refused number line) → (exit ≡ entry) × (printedBy f a ≡ lineX number line)
+    refused-by : (a : Answer) (number line : ℕ) → 2048 ≤ length entry → Answers f a entry exit (Refused number line) →
+        (exit ≡ entry) × (printedBy f a ≡ lineX number line)
     unfolding replyBy bufferBy fitted printedBy Short
     refused-by (refused number′ line′) number line h r =
         let e = r .answer in
@@ -69,7 +72,8 @@ module _ (f : Job → List ℕ) where
         (r .buffer, rw (p, q))
     refused-by (accepted j) number line h r = by-test (leb (length (f j)) (length entry)) refl (r .answer)
       where
-        by-test : (b : Bool) → leb (length (f j)) (length entry) ≡ b → Refused number line ≡ cond b (Written (length (f j))) (Refused 12 0) → (exit ≡ entry) × (f j ≡ lineX number line)
+        by-test : (b : Bool) → leb (length (f j)) (length entry) ≡ b → Refused number line ≡ cond b (Written (length (f j))) (Refused 12 0) →
+            (exit ≡ entry) × (f j ≡ lineX number line)
         by-test true t e = let x : _≡_ {A = ℕ} 0 1 = cc in absurd (omega arith)
         by-test false t e = absurd (omega (arith, leb-false (length (f j)) (length entry) t, r .short))
 
@@ -82,6 +86,7 @@ module _ (f : Job → List ℕ) where
       unfolding printedOf
       written-printed n e = written-by (jobOf text) n (answers (Written n) e)
 
-      pub refused-printed : (number line : ℕ) → 2048 ≤ length entry → answer ≡ Refused number line → (exit ≡ entry) × (printedOf f text ≡ lineX number line)
+      pub refused-printed : (number line : ℕ) → 2048 ≤ length entry → answer ≡ Refused number line →
+          (exit ≡ entry) × (printedOf f text ≡ lineX number line)
       unfolding printedOf
       refused-printed number line h e = refused-by (jobOf text) number line h (answers (Refused number line) e)

@@ -24,7 +24,8 @@ use Rattle.job.specs.Range.{parametersInRange}
 use Rattle.job_table.specs.Held.{Held, jobIn, sumsFor, tableFor}
 
 module _ (j : Job) (p : Proper j) where
-  ranges : (parametersInRange (j .n) (j .limit) (j .tolerance) ≡ true) × (allWithin 1 100 (j .dilutions) ≡ true) × (allWithin 0 65535 (j .counts) ≡ true)
+  ranges : (parametersInRange (j .n) (j .limit) (j .tolerance) ≡ true) × (allWithin 1 100 (j .dilutions) ≡ true) ×
+      (allWithin 0 65535 (j .counts) ≡ true)
   unfolding inRange
   ranges =
       let b = both _ _ (p .ranges) in

@@ -42,5 +42,6 @@ pub text-of-arrays : (a : arrays.Job) → Held a → (t : Table) → t ≡ table
 unfolding headOf jobIn
 text-of-arrays a h t e =
     rw e
-    (ap (λ k. textOf (pos (a .n) ∷ pos k ∷ pos (tableFor (jobIn a) .e) ∷ []) (a .n) (rowsOf (a .n) (tableFor (jobIn a) .scatter))) (sym (samples-held a h))
+    (ap (λ k. textOf (pos (a .n) ∷ pos k ∷ pos (tableFor (jobIn a) .e) ∷ []) (a .n) (rowsOf (a .n) (tableFor (jobIn a) .scatter)))
+    (sym (samples-held a h))
     ∙ text-of-table (jobIn a) (channels-held a h))

@@ -54,7 +54,8 @@ equal-of x y e = rw e (itself y)
 
 symmetric-same : (n : ℕ) (a : Matrix) → T (symmetric n a) → Symmetric n a
 unfolding symmetric
-symmetric-same n a t i j o m = equal-same (a i j) (a j i) (below (λ j. equal (a i j) (a j i)) n (below (λ i. all (λ j. equal (a i j) (a j i)) n) n t i o) j m)
+symmetric-same n a t i j o m =
+    equal-same (a i j) (a j i) (below (λ j. equal (a i j) (a j i)) n (below (λ i. all (λ j. equal (a i j) (a j i)) n) n t i o) j m)
 
 pub symmetric-of : (n : ℕ) (a : Matrix) → Symmetric n a → T (symmetric n a)
 unfolding symmetric

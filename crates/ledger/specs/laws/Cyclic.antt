@@ -30,7 +30,9 @@ row-pairs n p q (suc count) l h = (record { ordered = l; within = omega arith },
 rows-pairs : (n p count : ℕ) → suc p + count ≤ n → Each n (rowsFrom p count)
 unfolding Each rowsFrom
 rows-pairs n p zero h = tt
-rows-pairs n p (suc count) h = each-++ n (row p (suc p) (suc count)) (rowsFrom (suc p) count) (row-pairs n p (suc p) (suc count) (omega arith) (omega arith)) (rows-pairs n (suc p) count (omega arith))
+rows-pairs n p (suc count) h =
+    each-++ n (row p (suc p) (suc count)) (rowsFrom (suc p) count) (row-pairs n p (suc p) (suc count) (omega arith) (omega arith))
+    (rows-pairs n (suc p) count (omega arith))
 
 -- 'the pairs (1,2), (1,3) .. (n−1,n)': each is a pair of the matrix
 pub cyclic-pairs : (n : ℕ) → Each n (cyclic n)
@@ -46,7 +48,8 @@ row-length p q (suc count) = omega (arith, row-length p (suc q) count)
 rows-length : (p count : ℕ) → suc count * count ≡ 2 * length (rowsFrom p count)
 unfolding rowsFrom
 rows-length p zero = omega arith
-rows-length p (suc count) = omega (arith, length-append (row p (suc p) (suc count)) (rowsFrom (suc p) count), row-length p (suc p) (suc count), rows-length (suc p) count)
+rows-length p (suc count) = omega
+    (arith, length-append (row p (suc p) (suc count)) (rowsFrom (suc p) count), row-length p (suc p) (suc count), rows-length (suc p) count)
 
 -- the number that refusal 11 adds to m
 pub cyclic-length : (n : ℕ) → 1 ≤ n → length (cyclic n) ≡ n * (n - 1) / 2

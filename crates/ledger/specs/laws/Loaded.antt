@@ -29,7 +29,8 @@ I = diagonal (pos 1)
 
 conjugate-identity : (n : ℕ) (A : Matrix) (i j : ℕ) → i < n → j < n → conjugate n I A i j ≡ A i j
 unfolding conjugate I
-conjugate-identity n A i j o m = product-diagonal n (pos 1) (product n I A) i j m ∙ one-*ℤ (product n I A i j) ∙ diagonal-product n (pos 1) A i j o ∙ one-*ℤ (A i j)
+conjugate-identity n A i j o m = product-diagonal n (pos 1) (product n I A) i j m ∙ one-*ℤ (product n I A i j) ∙ diagonal-product n (pos 1) A i j o
+    ∙ one-*ℤ (A i j)
 
 -- the entries in units keep to the bound that holds before any turn
 pub load-size : (n : ℕ) (numbers : List ℤ) → Loads n numbers → squares n (λ i j. pos units *ℤ matrixOf n numbers i j) ≤ matrixBound 0 * matrixBound 0

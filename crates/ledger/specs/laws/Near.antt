@@ -51,7 +51,12 @@ module _ (r : Rotation) (n p q : ℕ) (l : p < q) (k : q < n) (turning : Whole r
 
   -- X′ = R X Rᵀ + D² × E
   pub matrix-near-turn : (A B : Matrix) → Symmetric n B → MatrixNear n m D P A B → MatrixNear n (suc m) (N * D) (product n R P) A (turned r p q B)
-  matrix-near-turn A B h near = rw (squares-cong n (λ i j o m. parts i j)) (omega (arith, halves-+ n (N * N * (7 * m * (D * D))) (7 * (N * N) * (D * D)) (conjugate n R X) (λ i j. pos (D * D) *ℤ E i j) turned-part new-part))
+  matrix-near-turn A B h near = rw (squares-cong n (λ i j o m. parts i j))
+      (omega (
+        arith,
+        halves-+ n (N * N * (7 * m * (D * D))) (7 * (N * N) * (D * D)) (conjugate n R X)
+            (λ i j. pos (D * D) *ℤ E i j) turned-part new-part,
+      ))
     where
       X : Matrix
       X = matrixDifference n D P A B
@@ -68,11 +73,13 @@ module _ (r : Rotation) (n p q : ℕ) (l : p < q) (k : q < n) (turning : Whole r
       turned-part = rw (conjugate-squares r n p q l k turning X) (omega (arith, mul-le-mul-left (N * N * (N * N)) near))
 
       new-part : 4 * squares n (λ i j. pos (D * D) *ℤ E i j) ≤ 7 * (N * N) * (D * D) * (7 * (N * N) * (D * D))
-      new-part = rw (squares-* n (pos (D * D)) E, sq-pos (D * D)) (omega (arith, mul-le-mul-left (D * D * (D * D)) (matrix-error r n p q l k turning b B h)))
+      new-part = rw (squares-* n (pos (D * D)) E, sq-pos (D * D))
+          (omega (arith, mul-le-mul-left (D * D * (D * D)) (matrix-error r n p q l k turning b B h)))
 
   -- Y′ = R Y + D × F
   pub axes-near-turn : (v : Matrix) → AxesNear n m D P v → AxesNear n (suc m) (N * D) (product n R P) (turnedAxes r p q v)
-  axes-near-turn v near = rw (squares-cong n (λ i j o m. parts i j)) (omega (arith, squares-+ n (N * (2 * m * D)) (2 * N * D) (product n R Y) (λ i j. pos D *ℤ F i j) turned-part new-part))
+  axes-near-turn v near = rw (squares-cong n (λ i j o m. parts i j))
+      (omega (arith, squares-+ n (N * (2 * m * D)) (2 * N * D) (product n R Y) (λ i j. pos D *ℤ F i j) turned-part new-part))
     where
       Y : Matrix
       Y = axesDifference D P v

@@ -29,12 +29,15 @@ abbrev pub rowDifference : State → ℕ → ℕ → ℤ
 rowDifference s i k = pos units *ℤ product (s .n) (s .P) (s .A) i k -ℤ s .B i i *ℤ s .P i k
 
 -- u·P_j, where P_i A·P_j is (P A Pᵀ)_ij and P_i·P_j is D² if j = i, else 0
-row-entry : (D : ℕ) (b : ℕ → ℤ) (c : ℤ) (i j : ℕ) → pos units *ℤ c -ℤ b i *ℤ diagonal (pos (D * D)) i j ≡ pos (D * D) *ℤ update b i (pos 0) j +ℤ negℤ (pos (D * D) *ℤ b j -ℤ pos units *ℤ c)
+row-entry : (D : ℕ) (b : ℕ → ℤ) (c : ℤ) (i j : ℕ) →
+    pos units *ℤ c -ℤ b i *ℤ diagonal (pos (D * D)) i j ≡ pos (D * D) *ℤ update b i (pos 0) j +ℤ negℤ (pos (D * D) *ℤ b j -ℤ pos units *ℤ c)
 row-entry D b c i j = cases (ℕ-discrete j i)
   where
-    cases : Dec (j ≡ i) → pos units *ℤ c -ℤ b i *ℤ diagonal (pos (D * D)) i j ≡ pos (D * D) *ℤ update b i (pos 0) j +ℤ negℤ (pos (D * D) *ℤ b j -ℤ pos units *ℤ c)
+    cases : Dec (j ≡ i) → pos units *ℤ c -ℤ b i *ℤ diagonal (pos (D * D)) i j ≡ pos (D * D) *ℤ update b i (pos 0) j +ℤ negℤ
+        (pos (D * D) *ℤ b j -ℤ pos units *ℤ c)
     cases (yes e) = rw (e, diagonal-same (pos (D * D)) i, update-same b i (pos 0)) (ring (pos D ∷ b i ∷ c ∷ []) (search reading depth 20) tt)
-    cases (no d) = rw (diagonal-other (pos (D * D)) i j (λ e. d (sym e)), update-other b i (pos 0) j d) (ring (pos D ∷ b i ∷ b j ∷ c ∷ []) (search reading depth 20) tt)
+    cases (no d) = rw (diagonal-other (pos (D * D)) i j (λ e. d (sym e)), update-other b i (pos 0) j d)
+        (ring (pos D ∷ b i ∷ b j ∷ c ∷ []) (search reading depth 20) tt)
 
 conjugate-entry : (n : ℕ) (P A : Matrix) (i j : ℕ) → dot n (product n P A i) (P j) ≡ conjugate n P A i j
 unfolding conjugate product
@@ -96,4 +99,5 @@ row-near s h i o = le-of-mul-le-mul-left {k = D * D} (le-trans rotated (omega ar
         rounded-up = mul-le-mul-right (D * D) (omega arith)
 
     rotated : D * D * sumℕ n (λ k. sq (rowDifference s i k)) ≤ (D * D * size + D * D * half) * (D * D * size + D * D * half)
-    rotated = rw (sym (h .parseval (rowDifference s i)) ∙ sumℕ-cong n (λ j m. ap sq (entry j m))) (minkowski n (D * D * size) (D * D * half) (λ j. pos (D * D) *ℤ rest j) (λ j. negℤ (X i j)) off-diagonal error)
+    rotated = rw (sym (h .parseval (rowDifference s i)) ∙ sumℕ-cong n (λ j m. ap sq (entry j m)))
+        (minkowski n (D * D * size) (D * D * half) (λ j. pos (D * D) *ℤ rest j) (λ j. negℤ (X i j)) off-diagonal error)

@@ -37,8 +37,10 @@ sound-take s pair h o left (Turn l minus) = record {
   matrix-size = omega (arith, turned-squares r n p q pq qn w (h .high) (s .B) (h .symmetric) (matrixBound (s .m)) (h .matrix-size));
   axes-size = λ j c. omega (arith, axes-column r n p q pq qn w (s .axes) j (axesBound (s .m)) (h .axes-size j c));
   positive = omega (arith, mul-le-mul (w .positive) (h .positive));
-  orthogonal = λ i j c d. exact-keeps-orthogonal r n p q pq qn w (s .P) (s .D * s .D) (h .orthogonal) i j c d ∙ ap (λ k. diagonal (pos k) i j) (regroup (r .n) (s .D));
-  parseval = λ u. exact-dot-squares r n p q pq qn w u (s .P) ∙ ap (λ k. r .n * r .n * k) (h .parseval u) ∙ regrouped (r .n) (s .D) (sumℕ n (λ k. sq (u k)));
+  orthogonal = λ i j c d. exact-keeps-orthogonal r n p q pq qn w (s .P) (s .D * s .D) (h .orthogonal) i j c d
+      ∙ ap (λ k. diagonal (pos k) i j) (regroup (r .n) (s .D));
+  parseval = λ u. exact-dot-squares r n p q pq qn w u (s .P) ∙ ap (λ k. r .n * r .n * k) (h .parseval u)
+      ∙ regrouped (r .n) (s .D) (sumℕ n (λ k. sq (u k)));
   matrix-near = matrix-near-turn r n p q pq qn w (h .high) (s .m) (s .D) (s .P) (s .A) (s .B) (h .symmetric) (h .matrix-near);
   axes-near = axes-near-turn r n p q pq qn w (h .high) (s .m) (s .D) (s .P) (s .axes) (h .axes-near);
 }

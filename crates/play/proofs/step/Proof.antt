@@ -26,7 +26,8 @@ returns-2 c =
     let f = c .before .before in
     let s = f .before .before .before in
     record {
-      is = rw (c .unknown-line .ensures .is) (step-open (s .args .r) (s .args .k) _ _ (f .before .if1 .left) _ (f .find .ensures .is) (c .before .if2 .taken));
+      is = rw (c .unknown-line .ensures .is)
+          (step-open (s .args .r) (s .args .k) _ _ (f .before .if1 .left) _ (f .find .ensures .is) (c .before .if2 .taken));
       short = c .unknown-line .ensures .short;
       moves = λ e. absurd (true≢false (sym e));
       reaches = λ e. absurd (true≢false (sym e));

@@ -39,5 +39,7 @@ examples :
     -- `L 2 -0`, no number; `L 9 -1`: 5, n outside 2..8
     × (played (76 ∷ 9 ∷ 50 ∷ 9 ∷ 45 ∷ 48 ∷ 10 ∷ []) ≡ unknown 49)
     × (played (76 ∷ 9 ∷ 57 ∷ 9 ∷ 45 ∷ 49 ∷ 10 ∷ []) ≡ 88 ∷ 9 ∷ 53 ∷ 9 ∷ 49 ∷ 10 ∷ [])
-unfolding played playedFrom answered unknownLine split onto callOf callOfFields withNumbers callBy loadOf turnOf sweepOf oneOf numbersOf before signedOf positive negative numberOf digitsFrom leadingZero valueFrom allWithin within answerLine shown rowOf afterOf answerOf refusedOf counted fresh refusalOf line further digits digitsBy
+unfolding played playedFrom answered unknownLine split onto callOf callOfFields withNumbers callBy loadOf turnOf sweepOf oneOf numbersOf before
+    signedOf positive negative numberOf digitsFrom leadingZero valueFrom allWithin within answerLine shown rowOf afterOf answerOf refusedOf counted
+    fresh refusalOf line further digits digitsBy
 examples = (refl, refl, refl, refl, refl, refl, refl, refl, refl)

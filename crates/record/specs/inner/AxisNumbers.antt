@@ -1,4 +1,5 @@
--- What private functions promise: The numbers of an axis: a_ii and r_i, which an axis call answers, and the row beside them. How many they are, and that r_i is below 2^63.
+-- What private functions promise: The numbers of an axis: a_ii and r_i, which an axis call answers, and the row beside them. How many they are,
+-- and that r_i is below 2^63.
 use Prim.Native.Nat.{ℕ, suc}
 use mathlib.Core.List.{List, _∷_, _++_}
 use lib.IntN.{ℤ, pos}

@@ -42,7 +42,8 @@ itself-in-use n x zero-outside = λ t i j. entry i j (use-of n i j) t
     entry i j (outside e) = zero-outside i j e ∙ sym (inUse-outside n x i j e)
 
 -- flat and back in rows, every entry stays
-flat-back : (n : ℕ) (a : List (List ℤ)) → n ≤ 8 → ((i j : ℕ) → (ltb i n && ltb j n) ≡ false → at a i j ≡ pos 0) → (i j : ℕ) → at (rowsOf (flatOf (at a))) i j ≡ at a i j
+flat-back : (n : ℕ) (a : List (List ℤ)) → n ≤ 8 → ((i j : ℕ) → (ltb i n && ltb j n) ≡ false → at a i j ≡ pos 0) → (i j : ℕ) →
+    at (rowsOf (flatOf (at a))) i j ≡ at a i j
 flat-back n a b zero-outside i j =
     ap (λ (x : Matrix). at (rowsOf (flatOf x)) i j) itself ∙ at-flat n (at a) b i j ∙ sym (λ t. itself t i j)
   where
@@ -81,7 +82,8 @@ turned-kept r p q k e =
       turns = omega (arith, t .left, work-grows (r .n) (workOf r) pair);
       work =
           worked-kept r (workPair (r .n) (workOf r) pair) (k .size)
-          (work-keeps (r .n) (workOf r) pair (k .size) (k .work) (omega (arith, t .first, t .ordered)) (omega (arith, t .first, t .ordered, t .last)));
+          (work-keeps (r .n) (workOf r) pair (k .size) (k .work) (omega (arith, t .first, t .ordered))
+          (omega (arith, t .first, t .ordered, t .last)));
     }
 
 few : (m n : ℕ) → m + n * (n - 1) / 2 ≤ turnLimit → m + length (cyclic n) ≤ turnLimit

@@ -45,8 +45,10 @@ module _ (n : ℕ) (w : Work) (s : State) (pair : Pair) (b : n ≤ 8) (k : KeptW
       record {
         size = a .size;
         turns = ap suc (a .turns);
-        matrix = λ i j h g. at-array n _ (at (w .a)) b (k .outside) i j ∙ inUse-inside n _ i j h g ∙ turned-same n (pair .p) (pair .q) (o .ordered) (o .within) (at (w .a)) (s .B) (a .matrix) (rotationOf l minus) i j h g;
-        axes = λ i j h g. at-array n _ (at (w .v)) b (k .axes-outside) i j ∙ inUse-inside n _ i j h g ∙ turnedAxes-same n (pair .p) (pair .q) (o .ordered) (o .within) (at (w .v)) (s .axes) (a .axes) (rotationOf l minus) i j h g;
+        matrix = λ i j h g. at-array n _ (at (w .a)) b (k .outside) i j ∙ inUse-inside n _ i j h g
+            ∙ turned-same n (pair .p) (pair .q) (o .ordered) (o .within) (at (w .a)) (s .B) (a .matrix) (rotationOf l minus) i j h g;
+        axes = λ i j h g. at-array n _ (at (w .v)) b (k .axes-outside) i j ∙ inUse-inside n _ i j h g
+            ∙ turnedAxes-same n (pair .p) (pair .q) (o .ordered) (o .within) (at (w .v)) (s .axes) (a .axes) (rotationOf l minus) i j h g;
       }
 
   agree-pair : AgreeWork n (workPair n w pair) (turnPair s pair)
@@ -54,7 +56,8 @@ module _ (n : ℕ) (w : Work) (s : State) (pair : Pair) (b : n ≤ 8) (k : KeptW
   agree-pair =
       rw (choose-same n (pair .p) (pair .q) (o .ordered) (o .within) (at (w .a)) (s .B) (a .matrix)) (by-choice _)
 
-agree-pairs : (n : ℕ) (w : Work) (s : State) (pairs : List Pair) → n ≤ 8 → KeptWork n w → AgreeWork n w s → Each n pairs → AgreeWork n (workPairs n w pairs) (turnPairs s pairs)
+agree-pairs : (n : ℕ) (w : Work) (s : State) (pairs : List Pair) → n ≤ 8 → KeptWork n w → AgreeWork n w s → Each n pairs →
+    AgreeWork n (workPairs n w pairs) (turnPairs s pairs)
 unfolding workPairs turnPairs Each
 agree-pairs n w s [] b k a e = a
 agree-pairs n w s (pair ∷ pairs) b k a e =
@@ -90,8 +93,10 @@ from-work r w s b a =
     record {
       size = sym (a .size);
       turns = a .turns;
-      matrix = λ i j h g. kept-flatOf (at (w .a)) i j (omega (arith, a .size)) (omega (arith, a .size)) ∙ a .matrix i j (rw (a .size) at h) (rw (a .size) at g);
-      axes = λ i j h g. kept-flatOf (at (w .v)) i j (omega (arith, a .size)) (omega (arith, a .size)) ∙ a .axes i j (rw (a .size) at h) (rw (a .size) at g);
+      matrix = λ i j h g. kept-flatOf (at (w .a)) i j (omega (arith, a .size)) (omega (arith, a .size))
+          ∙ a .matrix i j (rw (a .size) at h) (rw (a .size) at g);
+      axes = λ i j h g. kept-flatOf (at (w .v)) i j (omega (arith, a .size)) (omega (arith, a .size))
+          ∙ a .axes i j (rw (a .size) at h) (rw (a .size) at g);
     }
 
 -- a refusal is of n and m alone, and where there is no matrix of n alone
@@ -126,7 +131,8 @@ agree-loaded r n numbers b =
 ten-is-not-zero : _≡_ {A = ℕ} 10 0 → ⊥
 ten-is-not-zero z = omega arith
 
-agree-accepted : (r : Record) (g : Ledger) (call : Call) → Kept r → Agrees r g → refusalOf (r .n) (r .m) call ≡ 0 → Agrees (acceptedOf r call) (accepted g call)
+agree-accepted : (r : Record) (g : Ledger) (call : Call) → Kept r → Agrees r g → refusalOf (r .n) (r .m) call ≡ 0 →
+    Agrees (acceptedOf r call) (accepted g call)
 unfolding Agrees acceptedOf accepted refusalOf turnedOf sweptOf
 agree-accepted r g (load n numbers) k a e = agree-loaded r n numbers (load-accepted (r .n) (r .m) n numbers e .high)
 agree-accepted r empty (turn p q) k a e = absurd (ten-is-not-zero (rw a at e))
@@ -147,6 +153,7 @@ pub agree-step : (r : Record) (g : Ledger) (call : Call) → Kept r → Agrees r
 unfolding afterOf ledgerStep
 agree-step r g call k a = rw (← same-refusal r g call a) (by-refusal (eqb (refusalOf (r .n) (r .m) call) 0) refl)
   where
-    by-refusal : (t : Bool) → eqb (refusalOf (r .n) (r .m) call) 0 ≡ t → Agrees (cond t (acceptedOf r call) (refusedOf r)) (cond t (accepted g call) g)
+    by-refusal : (t : Bool) → eqb (refusalOf (r .n) (r .m) call) 0 ≡ t →
+        Agrees (cond t (acceptedOf r call) (refusedOf r)) (cond t (accepted g call) g)
     by-refusal true e = agree-accepted r g call k a (eqb-true _ _ e)
     by-refusal false e = agree-refused r g a

@@ -23,7 +23,8 @@ unfolding row
 row-among p q zero j h k = absurd (omega arith)
 row-among p q (suc count) j h k = first-or-later (ℕ-discrete j q) (λ l. row-among p (suc q) count j l (omega arith))
   where
-    first-or-later : Dec (j ≡ q) → (suc q ≤ j → Among (record { p = p; q = j }) (row p (suc q) count)) → Among (record { p = p; q = j }) (record { p = p; q = q } ∷ row p (suc q) count)
+    first-or-later : Dec (j ≡ q) → (suc q ≤ j → Among (record { p = p; q = j }) (row p (suc q) count)) →
+        Among (record { p = p; q = j }) (record { p = p; q = q } ∷ row p (suc q) count)
     first-or-later (yes e) later = rw e here
     first-or-later (no d) later = there (later (omega arith))
 
@@ -32,7 +33,8 @@ unfolding rowsFrom
 rows-among p zero i j h k l = absurd (omega arith)
 rows-among p (suc count) i j h k l = first-or-later (ℕ-discrete i p) (λ m. rows-among (suc p) count i j m k (omega arith))
   where
-    first-or-later : Dec (i ≡ p) → (suc p ≤ i → Among (record { p = i; q = j }) (rowsFrom (suc p) count)) → Among (record { p = i; q = j }) (row p (suc p) (suc count) ++ rowsFrom (suc p) count)
+    first-or-later : Dec (i ≡ p) → (suc p ≤ i → Among (record { p = i; q = j }) (rowsFrom (suc p) count)) →
+        Among (record { p = i; q = j }) (row p (suc p) (suc count) ++ rowsFrom (suc p) count)
     first-or-later (yes e) later = rw e (among-left (rowsFrom (suc p) count) (row-among p (suc p) (suc count) j (omega arith) (omega arith)))
     first-or-later (no d) later = among-right (row p (suc p) (suc count)) (later (omega arith))
 

@@ -1,4 +1,5 @@
--- Laws of this subject: The numbers of an axis: a_ii and r_i, which an axis call answers, and the row beside them. How many they are, and that r_i is below 2^63.
+-- Laws of this subject: The numbers of an axis: a_ii and r_i, which an axis call answers, and the row beside them. How many they are, and that
+-- r_i is below 2^63.
 use Prim.Native.Nat.{ℕ, suc, _+_, _-_, _^_, _<_, _≤_}
 use mathlib.Core.Path.{_≡_, refl}
 use mathlib.Core.Bool.{Bool, true, false, cond}
@@ -86,7 +87,13 @@ module _ (r : Record) (i : ℕ) (h : i < r .n) where
   pub error-small : Kept r → errorOf (r .n) (kept (r .a)) (r .m) i < 2 ^ 63
   unfolding errorOf workOf
   error-small k =
-      omega (arith, sumℕ-≤ (r .n) {g = λ j. widest} (λ j l. cond-≤ (eqb j i) {x = 0} (omega arith) (small j l)), sumℕ-const (r .n) widest, k .size, k .turns)
+      omega (
+        arith,
+        sumℕ-≤ (r .n) {g = λ j. widest} (λ j l. cond-≤ (eqb j i) {x = 0} (omega arith) (small j l)),
+        sumℕ-const (r .n) widest,
+        k .size,
+        k .turns,
+      )
     where
       small : (j : ℕ) → j < r .n → natAbs (kept (r .a) i j) ≤ widest
       small j l =

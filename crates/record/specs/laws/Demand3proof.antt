@@ -43,8 +43,10 @@ module _ (r : Record) (s : State) (a : Agree r s) (h : Sound s) where
         near = rw (error-agrees (i - 1) (omega arith), a .matrix (i - 1) (i - 1) (omega arith) (omega arith)) (row-near s h (i - 1) (omega arith));
       }
 
-  same-matrix : squares (s .n) (matrixDifference (s .n) (s .D) (s .P) (s .A) (kept (r .a))) ≡ squares (s .n) (matrixDifference (s .n) (s .D) (s .P) (s .A) (s .B))
-  same-matrix = squares-cong (s .n) (λ i j k l. ap (λ z. pos (s .D * s .D) *ℤ z -ℤ pos units *ℤ conjugate (s .n) (s .P) (s .A) i j) (a .matrix i j k l))
+  same-matrix : squares (s .n) (matrixDifference (s .n) (s .D) (s .P) (s .A) (kept (r .a))) ≡ squares (s .n)
+      (matrixDifference (s .n) (s .D) (s .P) (s .A) (s .B))
+  same-matrix = squares-cong (s .n)
+      (λ i j k l. ap (λ z. pos (s .D * s .D) *ℤ z -ℤ pos units *ℤ conjugate (s .n) (s .P) (s .A) i j) (a .matrix i j k l))
 
   same-axes : squares (s .n) (axesDifference (s .D) (s .P) (kept (r .v))) ≡ squares (s .n) (axesDifference (s .D) (s .P) (s .axes))
   same-axes = squares-cong (s .n) (λ i j k l. ap (λ z. pos (s .D) *ℤ z -ℤ pos whole *ℤ s .P i j) (a .axes i j k l))

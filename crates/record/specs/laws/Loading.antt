@@ -87,7 +87,8 @@ module _ (r : Record) (n : ℕ) (numbers : List ℤ) (l : Loads n numbers) where
         turns = omega arith;
         work =
             record {
-              symmetric = λ i j. matrix i j ∙ inUse-symmetric n entries (λ i j h k. ap (λ z. pos units *ℤ z) (l .same i j h k)) i j ∙ sym (matrix j i);
+              symmetric = λ i j. matrix i j ∙ inUse-symmetric n entries (λ i j h k. ap (λ z. pos units *ℤ z) (l .same i j h k)) i j
+                  ∙ sym (matrix j i);
               outside = λ i j e. matrix i j ∙ inUse-outside n entries i j e;
               axes-outside = λ i j e. axes i j ∙ inUse-outside n _ i j e;
               norm = bound;

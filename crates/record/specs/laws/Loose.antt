@@ -49,11 +49,17 @@ module _ (a : Matrix) (t : ℕ) where
   found-is-loose n p q [] all e = absurd (let z : _≡_ {A = ℕ} 0 1 = cc in omega arith)
   found-is-loose n p q (pair ∷ pairs) all e = by-test (ltb t (size pair)) refl e (found-is-loose n p q pairs (all .1))
     where
-      by-test : (b : Bool) → ltb t (size pair) ≡ b → cond b (PairIs (suc (pair .p)) (suc (pair .q))) (looseOf a t pairs) ≡ PairIs p q → (looseOf a t pairs ≡ PairIs p q → IsLoose n a t p q) → IsLoose n a t p q
+      by-test : (b : Bool) → ltb t (size pair) ≡ b → cond b (PairIs (suc (pair .p)) (suc (pair .q))) (looseOf a t pairs) ≡ PairIs p q →
+          (looseOf a t pairs ≡ PairIs p q → IsLoose n a t p q) → IsLoose n a t p q
       by-test true l e later =
           let first : suc (pair .p) ≡ p = cc in
           let second : suc (pair .q) ≡ q = cc in
-          rw (← first, ← second) (omega arith, omega (arith, all .0 .ordered), omega (arith, all .0 .within), simp unary-clauses (ltb-true t (size pair) l))
+          rw (← first, ← second) (
+            omega arith,
+            omega (arith, all .0 .ordered),
+            omega (arith, all .0 .within),
+            simp unary-clauses (ltb-true t (size pair) l),
+          )
       by-test false l e later = later e
 
   none-above : (pair : Pair) (pairs : List Pair) → Among pair pairs → looseOf a t pairs ≡ NoPair → size pair ≤ t

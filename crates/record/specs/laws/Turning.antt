@@ -40,7 +40,8 @@ module _ (n : ℕ) (w : Work) (pair : Pair) (b : n ≤ 8) (k : KeptWork n w) (pq
   keeps NoTurn = k
   keeps (Turn l minus) =
       record {
-        symmetric = λ i j. matrix i j ∙ inUse-symmetric n _ (λ i j o m. turned-symmetric r (pair .p) (pair .q) (at (w .a)) pq i j (k .symmetric i j)) i j ∙ sym (matrix j i);
+        symmetric = λ i j. matrix i j ∙ inUse-symmetric n _
+            (λ i j o m. turned-symmetric r (pair .p) (pair .q) (at (w .a)) pq i j (k .symmetric i j)) i j ∙ sym (matrix j i);
         outside = λ i j e. matrix i j ∙ inUse-outside n _ i j e;
         axes-outside = λ i j e. axes i j ∙ inUse-outside n _ i j e;
         norm = rw (squares-cong n (λ i j h l. matrix i j ∙ inUse-inside n _ i j h l)) bound;
@@ -59,12 +60,14 @@ module _ (n : ℕ) (w : Work) (pair : Pair) (b : n ≤ 8) (k : KeptWork n w) (pq
       bound : squares n (turned r (pair .p) (pair .q) (at (w .a))) ≤ matrixBound (suc (w .m)) * matrixBound (suc (w .m))
       bound =
           rw grown at
-          (turned-squares r n (pair .p) (pair .q) pq qn (rotationOf-whole l minus) b (at (w .a)) (λ i j o m. k .symmetric i j) (matrixBound (w .m)) (k .norm))
+          (turned-squares r n (pair .p) (pair .q) pq qn (rotationOf-whole l minus) b (at (w .a)) (λ i j o m. k .symmetric i j) (matrixBound (w .m))
+          (k .norm))
         where
           grown : matrixBound (w .m) + 4 ≡ matrixBound (suc (w .m))
           grown = omega arith
 
-      column : (j : ℕ) → Dec (j < n) → sumℕ n (λ i. sq (at (turnAxes n r (pair .p) (pair .q) (w .v)) i j)) ≤ axesBound (suc (w .m)) * axesBound (suc (w .m))
+      column : (j : ℕ) → Dec (j < n) →
+          sumℕ n (λ i. sq (at (turnAxes n r (pair .p) (pair .q) (w .v)) i j)) ≤ axesBound (suc (w .m)) * axesBound (suc (w .m))
       column j (yes h) =
           rw (sumℕ-cong n (λ i l. ap sq (axes i j ∙ inUse-inside n _ i j l h)))
           (rw grown at (axes-column r n (pair .p) (pair .q) pq qn (rotationOf-whole l minus) (at (w .v)) j (axesBound (w .m)) (k .columns j)))

@@ -18,7 +18,9 @@ returns : tie.Need-returns
 returns c = written-printed _ _ _ _ _ (c .before .before .before .report .ensures) _ (c .before .done .given .1)
 
 -- At a refusal the buffer is as it was, and the refusal's line is to be printed.
-denied : (c : tie.After-done2) → (c .before .before .report .last .1 .0 ≡ c .before .before .before .before .before .args .out .now) × (printedOf reportOf (c .before .before .before .before .before .args .text .now) ≡ lineX (c .done2 .given .0 .0) (c .done2 .given .0 .1 .0))
+denied : (c : tie.After-done2) →
+    (c .before .before .report .last .1 .0 ≡ c .before .before .before .before .before .args .out .now) ×
+    (printedOf reportOf (c .before .before .before .before .before .args .text .now) ≡ lineX (c .done2 .given .0 .0) (c .done2 .given .0 .1 .0))
 denied c =
     let done = c .before .before in
     refused-printed _ _ _ _ _ (done .report .ensures) _ _ (room (done .before)) (c .done2 .given .1)

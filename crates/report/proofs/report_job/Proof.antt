@@ -108,15 +108,19 @@ put-text-requires : tie.Need-put-text-requires
 unfolding solved
 put-text-requires c κs =
     let l = c .before .before .before .before in
-    let a = solved l in
-    (high (start a), axes-are-wide a _ (a .solve .ensures .answers), omega (arith, c .before .before .before .if1 .left, l .text-length .ensures .exact))
+    let a = solved l in (
+      high (start a),
+      axes-are-wide a _ (a .solve .ensures .answers),
+      omega (arith, c .before .before .before .if1 .left, l .text-length .ensures .exact),
+    )
 
 returns-2 : tie.Need-returns-2
 unfolding solved
 returns-2 c =
     let l = c .before .before .before .before .before .before .before in
     let a = solved l in
-    put-whole reportOf (j a) (short l) (start a .args .buf .now) _ _ (rw (text a _ (a .solve .ensures .answers)) at (c .before .before .put-text .ensures))
+    put-whole reportOf (j a) (short l) (start a .args .buf .now) _ _
+    (rw (text a _ (a .solve .ensures .answers)) at (c .before .before .put-text .ensures))
 
 pub report-job-spec : {M : Type 1} → statement M
 report-job-spec =

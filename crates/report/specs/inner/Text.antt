@@ -1,4 +1,5 @@
--- What private functions promise: The report's lines from their values, as the writer gets them: the numbers of the R line, the outcome, and eleven numbers for each A line.
+-- What private functions promise: The report's lines from their values, as the writer gets them: the numbers of the R line, the outcome, and
+-- eleven numbers for each A line.
 use Prim.Native.Nat.{ℕ, _+_}
 use mathlib.Core.List.{List, _++_}
 use lib.IntN.{ℤ}

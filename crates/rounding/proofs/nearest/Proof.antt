@@ -20,7 +20,8 @@ module _ (c : tie.After-half-of) where
   step : toZ w64 (ofZ w64 (c .before .sign-of .result)) *ℤ toZ w64 (c .half-of .result) ≡ sign (start .args .u) *ℤ pos (start .args .w / 2)
   step = product _ _ _ _ (start .fits .u) (c .before .sign-of .ensures) (c .half-of .ensures) (start .pre .2)
 
-  moved : toZ w64 (ofZ w64 (start .args .u)) +ℤ toZ w64 (ofZ w64 (toZ w64 (ofZ w64 (c .before .sign-of .result)) *ℤ toZ w64 (c .half-of .result))) ≡ away (start .args .u) (start .args .w / 2)
+  moved : toZ w64 (ofZ w64 (start .args .u)) +ℤ toZ w64
+      (ofZ w64 (toZ w64 (ofZ w64 (c .before .sign-of .result)) *ℤ toZ w64 (c .half-of .result))) ≡ away (start .args .u) (start .args .w / 2)
   moved = total _ _ _ _ (start .fits .u) (c .before .sign-of .ensures) (c .half-of .ensures) (start .pre .2)
 
 mul-result : tie.Need-mul-result

@@ -1,4 +1,5 @@
--- What private functions promise: Document 01, 'A run takes a fresh record of its own, loads a matrix, then repeats: no loose pair, stop as settled; the last sweep made no turn, stop as still; limit reached, stop as spent; else sweep': its outcome, the sweeps run and the record.
+-- What private functions promise: Document 01, 'A run takes a fresh record of its own, loads a matrix, then repeats: no loose pair, stop as
+-- settled; the last sweep made no turn, stop as still; limit reached, stop as spent; else sweep': its outcome, the sweeps run and the record.
 use Rattle.run.specs.declared.Ended.{Ended}
 use Rattle.run.specs.Run.{Ran}
 

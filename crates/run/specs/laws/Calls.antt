@@ -110,7 +110,8 @@ module _ (n t : ℕ) (low : 1 ≤ n) (high : n ≤ 8) (h : t ≤ toleranceLimit)
         swept = rw (k, e) s;
       }
 
-  course-rounds : {left sweeps : ℕ} {idle : Bool} {r : Record} {z : Ran} → Course t left sweeps idle r z → Swept sweeps r → sweeps + left ≤ 16 → Rounds sweeps r z
+  course-rounds : {left sweeps : ℕ} {idle : Bool} {r : Record} {z : Ran} → Course t left sweeps idle r z → Swept sweeps r → sweeps + left ≤ 16 →
+      Rounds sweeps r z
   unfolding NoneRefused rounds afterFrom
   course-rounds (settles e) s l = stopped _ _ _ s refl refl
   course-rounds (is-still e) s l = stopped _ _ _ s refl refl

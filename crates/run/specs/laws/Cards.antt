@@ -22,7 +22,10 @@ use Rattle.run.specs.laws.Running.{run-settled}
 use Rattle.run.specs.Cards.{Cards}
 
 pub cards : Cards
-unfolding runOf runFrom tried noPair noTurn answerOf valueOf afterOf acceptedOf axisOf fresh loadedOf inUse sweptOf workOf workedOf looseOf tabulate kept entriesOf rowsOf flatOf chosen workBy workPair workPairs errorOf cyclic rowsFrom row matrixOf equal symmetric within refusalOf diagonal sumℕ choose smallest fits threshold roundedUp u w minusSign negative rotationOf signed first second turnMatrix turnAxes turnedAxes array eight at turned newp newq newpp newpq newqq hpp hpq hqp hqq atPair rnd
+unfolding runOf runFrom tried noPair noTurn answerOf valueOf afterOf acceptedOf axisOf fresh loadedOf inUse sweptOf workOf workedOf looseOf tabulate
+    kept entriesOf rowsOf flatOf chosen workBy workPair workPairs errorOf cyclic rowsFrom row matrixOf equal symmetric within refusalOf diagonal
+    sumℕ choose smallest fits threshold roundedUp u w minusSign negative rotationOf signed first second turnMatrix turnAxes turnedAxes array
+    eight at turned newp newq newpp newpq newqq hpp hpq hqp hqq atPair rnd
 cards =
     record {
       card5 = record { outcome = refl; sweeps = refl };

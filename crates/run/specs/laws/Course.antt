@@ -17,16 +17,20 @@ use Rattle.run.specs.declared.Outcome.the-variants.{Settled, Still, Spen
 
 -- with tolerance t: sweeps left to the limit, sweeps run, whether the last one made no turn, the record, and how the run ends
 pub data Course (t : ℕ) : ℕ → ℕ → Bool → Record → Ran → Type 0 where
-  settles : {left sweeps : ℕ} {idle : Bool} {r : Record} → noPair (answerOf r (loosePair t)) ≡ true → Course t left sweeps idle r (stop Settled sweeps r)
+  settles : {left sweeps : ℕ} {idle : Bool} {r : Record} → noPair (answerOf r (loosePair t)) ≡ true →
+      Course t left sweeps idle r (stop Settled sweeps r)
   is-still : {left sweeps : ℕ} {r : Record} → noPair (answerOf r (loosePair t)) ≡ false → Course t left sweeps true r (stop Still sweeps r)
   is-spent : {sweeps : ℕ} {r : Record} → noPair (answerOf r (loosePair t)) ≡ false → Course t 0 sweeps false r (stop Spent sweeps r)
-  sweeps-on : {left sweeps : ℕ} {r : Record} {z : Ran} → noPair (answerOf r (loosePair t)) ≡ false → Course t left (suc sweeps) (noTurn (answerOf r sweep)) (afterOf r sweep) z → Course t (suc left) sweeps false r z
+  sweeps-on : {left sweeps : ℕ} {r : Record} {z : Ran} → noPair (answerOf r (loosePair t)) ≡ false →
+      Course t left (suc sweeps) (noTurn (answerOf r sweep)) (afterOf r sweep) z → Course t (suc left) sweeps false r z
 
-tried-course : (t left sweeps : ℕ) (idle : Bool) (r : Record) (later : Ran) → (noPair (answerOf r (loosePair t)) ≡ false → Course t left sweeps false r later) → Course t left sweeps idle r (tried sweeps idle t r later)
+tried-course : (t left sweeps : ℕ) (idle : Bool) (r : Record) (later : Ran) →
+    (noPair (answerOf r (loosePair t)) ≡ false → Course t left sweeps false r later) → Course t left sweeps idle r (tried sweeps idle t r later)
 unfolding tried
 tried-course t left sweeps idle r later c = by-pair (noPair (answerOf r (loosePair t))) refl idle
   where
-    by-pair : (b : Bool) → noPair (answerOf r (loosePair t)) ≡ b → (idle : Bool) → Course t left sweeps idle r (cond b (stop Settled sweeps r) (cond idle (stop Still sweeps r) later))
+    by-pair : (b : Bool) → noPair (answerOf r (loosePair t)) ≡ b → (idle : Bool) →
+        Course t left sweeps idle r (cond b (stop Settled sweeps r) (cond idle (stop Still sweeps r) later))
     by-pair true e idle = settles e
     by-pair false e true = is-still e
     by-pair false e false = c e
@@ -52,7 +56,8 @@ pub record Ends (limit t : ℕ) (z : Ran) : Type 0 where
   pub within : z .sweeps ≤ limit
   pub says : Says (z .outcome) limit t (z .sweeps) (z .last)
 
-course-ends : {t left sweeps : ℕ} {idle : Bool} {r : Record} {z : Ran} → Course t left sweeps idle r z → (idle ≡ true → (1 ≤ sweeps) × AfterIdle r) → Ends (sweeps + left) t z
+course-ends : {t left sweeps : ℕ} {idle : Bool} {r : Record} {z : Ran} → Course t left sweeps idle r z →
+    (idle ≡ true → (1 ≤ sweeps) × AfterIdle r) → Ends (sweeps + left) t z
 unfolding Says
 course-ends (settles e) h = record { within = omega arith; says = e }
 course-ends (is-still e) h = record { within = omega arith; says = (e, h refl .0, h refl .1) }

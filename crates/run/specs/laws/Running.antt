@@ -31,6 +31,7 @@ module _ (left sweeps t : ℕ) (idle : Bool) (r : Record) where
     unfolding runFrom tried
     run-spent i l = rw (l, e, i)
 
-    pub run-sweeps : idle ≡ false → (later : ℕ) → left ≡ later + 1 → runFrom left sweeps idle t r ≡ runFrom later (sweeps + 1) (noTurn (answerOf r sweep)) t (afterOf r sweep)
+    pub run-sweeps : idle ≡ false → (later : ℕ) → left ≡ later + 1 →
+        runFrom left sweeps idle t r ≡ runFrom later (sweeps + 1) (noTurn (answerOf r sweep)) t (afterOf r sweep)
     unfolding runFrom tried
     run-sweeps i later l = rw (l, add-one later, add-one sweeps, e, i)

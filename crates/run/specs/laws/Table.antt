@@ -28,5 +28,6 @@ module _ (n : ℕ) (t : Sums) (low : 2 ≤ n) (high : n ≤ 8) where
   pub table-accepted : refusalOf 0 0 (load n (take (n * n) (tableOf n t .entries))) ≡ 0
   table-accepted = rw (table-entries n t high) (load-accepted 0 0 n _ entries-load)
 
-  pub table-allowed : (limit tolerance : ℕ) → limit ≤ 16 → tolerance ≤ toleranceLimit → Allowed n (take (n * n) (tableOf n t .entries)) limit tolerance
+  pub table-allowed : (limit tolerance : ℕ) → limit ≤ 16 → tolerance ≤ toleranceLimit →
+      Allowed n (take (n * n) (tableOf n t .entries)) limit tolerance
   table-allowed limit tolerance l k = record { matrix = table-accepted; sweeps = l; tolerance = k }

@@ -15,7 +15,8 @@ unfolding tabulate samples sampleAt sumsOf sumsAt sum products z S scatter large
 card-8 = (refl, refl)
 
 -- 'Greatest |S| 1,048,576: e = 0. With 1,048,577: e = 1, entry 524,289.'
-pub card-10 : (us : List ℤ) → (largest us ≡ 1_048_576 → shift us ≡ 0) × (largest us ≡ 1_048_577 → (shift us ≡ 1) × (rnd (pos 1_048_577) (2 ^ shift us) ≡ pos 524_289))
+pub card-10 : (us : List ℤ) → (largest us ≡ 1_048_576 → shift us ≡ 0) ×
+    (largest us ≡ 1_048_577 → (shift us ≡ 1) × (rnd (pos 1_048_577) (2 ^ shift us) ≡ pos 524_289))
 unfolding smallest shift rnd
 card-10 us = ((λ h. rw h), (λ h. (rw h, rw h)))
 

@@ -37,7 +37,8 @@ entry-at us p =
 pub entries-within : (us : List ℤ) (p : ℕ) → natAbs (getD (entries us) p (pos 0)) ≤ entryLimit
 entries-within us p = rw entry-at (rnd-bound (getD us p (pos 0)) (2 ^ shift us) entryLimit (pow-pos (shift us)) (shift-smallest us .within p))
 
-pub entries-symmetric : (n : ℕ) (t : Sums) (i j : ℕ) → i < n → j < n → getD (entries (scatter n t)) (i * n + j) (pos 0) ≡ getD (entries (scatter n t)) (j * n + i) (pos 0)
+pub entries-symmetric : (n : ℕ) (t : Sums) (i j : ℕ) → i < n → j < n →
+    getD (entries (scatter n t)) (i * n + j) (pos 0) ≡ getD (entries (scatter n t)) (j * n + i) (pos 0)
 entries-symmetric n t i j h g = rw (entry-at, entry-at, scatter-at n t i j h g, scatter-at n t j i g h, S-symmetric t i j)
 
 pub padded-at : (us : List ℤ) (p : ℕ) → p < 64 → getD (padded us) p (pos 0) ≡ getD us p (pos 0)
@@ -64,10 +65,12 @@ length-entries n t = length-map (scatter n t) _ ∙ length-scatter n t
 take-padded : (us : List ℤ) → length us ≤ 64 → take (length us) (padded us) ≡ us
 take-padded us h =
     ext-getD (pos 0) _ us (length-take-le (length us) (padded us) (rw length-padded h))
-    (λ p b. let i : p < length us = rw (length-take-le (length us) (padded us) (rw length-padded h)) at b in getD-take (length us) (padded us) p (pos 0) i ∙ padded-at us p (omega arith))
+    (λ p b. let i : p < length us = rw (length-take-le (length us) (padded us) (rw length-padded h)) at b in
+    getD-take (length us) (padded us) p (pos 0) i ∙ padded-at us p (omega arith))
 
 pub largest-padded : (us : List ℤ) → length us ≤ 64 → largest (padded us) ≡ largest us
-largest-padded us h = sym (largest-is (padded us) (largest us) (largest-least us (largest (padded us)) (λ p. inside p (decLt p (length us)))) (λ p b. rw (padded-at us p (rw length-padded at b)) (largest-bounds us p)))
+largest-padded us h = sym (largest-is (padded us) (largest us) (largest-least us (largest (padded us)) (λ p. inside p (decLt p (length us))))
+    (λ p b. rw (padded-at us p (rw length-padded at b)) (largest-bounds us p)))
   where
     inside : (p : ℕ) → Dec (p < length us) → natAbs (getD us p (pos 0)) ≤ largest (padded us)
     inside p (yes i) = rw (← padded-at us p (omega arith)) (largest-bounds (padded us) p)
@@ -84,10 +87,12 @@ module _ (n : ℕ) (t : Sums) (h : n ≤ 8) where
   table-loadable =
       record {
         within = padded-within (entries (scatter n t)) (entries-within (scatter n t));
-        symmetric = λ i j g f. padded-at (entries (scatter n t)) (i * n + j) (place-below n i j h g f) ∙ entries-symmetric n t i j g f ∙ sym (padded-at (entries (scatter n t)) (j * n + i) (place-below n j i h f g));
+        symmetric = λ i j g f. padded-at (entries (scatter n t)) (i * n + j) (place-below n i j h g f) ∙ entries-symmetric n t i j g f
+            ∙ sym (padded-at (entries (scatter n t)) (j * n + i) (place-below n j i h f g));
       }
 
   -- the first n × n numbers of a table are its entries
   pub table-entries : take (n * n) (tableOf n t .entries) ≡ entries (scatter n t)
   unfolding tableOf
-  table-entries = ap (λ m. take m (padded (entries (scatter n t)))) (sym (length-entries n t)) ∙ take-padded (entries (scatter n t)) (rw length-entries (places n h))
+  table-entries = ap (λ m. take m (padded (entries (scatter n t)))) (sym (length-entries n t))
+      ∙ take-padded (entries (scatter n t)) (rw length-entries (places n h))

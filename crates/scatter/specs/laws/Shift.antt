@@ -48,7 +48,8 @@ below-pow zero = omega arith
 below-pow (suc m) = rw two-pow-succ (omega (arith, below-pow m))
 
 module _ (m : ℕ) where
-  searched : (tries e : ℕ) (enough : Bool) → leb m (entryLimit * 2 ^ e) ≡ enough → m ≤ entryLimit * 2 ^ (e + tries) → ((d : ℕ) → d < e → entryLimit * 2 ^ d < m) → Smallest m (smallest tries enough m e)
+  searched : (tries e : ℕ) (enough : Bool) → leb m (entryLimit * 2 ^ e) ≡ enough → m ≤ entryLimit * 2 ^ (e + tries) →
+      ((d : ℕ) → d < e → entryLimit * 2 ^ d < m) → Smallest m (smallest tries enough m e)
   unfolding smallest
   searched zero e enough t h l = record { enough = rw add-zero at h; least = l }
   searched (suc tries) e true t h l = record { enough = leb-true _ _ t; least = l }
@@ -78,7 +79,8 @@ shift-is us e s = smallest-unique s (smallest-found (largest us))
 
 -- and no other number is
 pub shift-unique : (us : List ℤ) (e : ℕ) → IsShift us e → e ≡ shift us
-shift-unique us e s = shift-is us e (record { enough = largest-least us (entryLimit * 2 ^ e) (s .within); least = λ d b. least d b (decLt (entryLimit * 2 ^ d) (largest us)) })
+shift-unique us e s = shift-is us e
+    (record { enough = largest-least us (entryLimit * 2 ^ e) (s .within); least = λ d b. least d b (decLt (entryLimit * 2 ^ d) (largest us)) })
   where
     least : (d : ℕ) → d < e → Dec (entryLimit * 2 ^ d < largest us) → entryLimit * 2 ^ d < largest us
     least d b (yes h) = h

@@ -20,7 +20,8 @@ Sofar dilution counts start cross at = Filled 0 (raised 64 (products (sample dil
 -- The inner loop knows the sums as they were where it began: it takes those of any start on.
 abbrev Inv-loop2 : tie.InvT-loop2
 Inv-loop2 dilution counts cross₀ i factor row j₀ cross j =
-    (i ≤ j) × (j ≤ length counts) × ((start : List ℕ) → length start ≡ 64 → Sofar dilution counts start cross₀ (8 * i + i) → Sofar dilution counts start cross (8 * i + j))
+    (i ≤ j) × (j ≤ length counts) ×
+    ((start : List ℕ) → length start ≡ 64 → Sofar dilution counts start cross₀ (8 * i + i) → Sofar dilution counts start cross (8 * i + j))
 
 abbrev μ-loop2 : tie.MeasureT-loop2
 μ-loop2 dilution counts cross₀ i factor row j₀ cross j = length counts - j
@@ -40,7 +41,8 @@ module _ (s : tie.Start Inv-loop2 μ-loop2 Inv-loop μ-loop) where
   factor : (i : ℕ) → getD (s .args .counts .now) i 0 * s .args .dilution * s .args .dilution ≤ 655_350_000
   factor i = mul-le-mul (value i) (s .pre .0 .dilution)
 
-  product : (i j : ℕ) → getD (s .args .counts .now) i 0 * s .args .dilution * s .args .dilution * getD (s .args .counts .now) j 0 ≤ 6_553_500 * 6_553_500
+  product : (i j : ℕ) → getD (s .args .counts .now) i 0 * s .args .dilution * s .args .dilution * getD
+      (s .args .counts .now) j 0 ≤ 6_553_500 * 6_553_500
   product i j = mul-le-mul (factor i) (s .pre .0 .count j)
 
 mul-factor-2 : tie.Need-mul-factor-2 Inv-loop2 μ-loop2 Inv-loop μ-loop
@@ -56,7 +58,15 @@ add-cross-2 c =
     let o = t .before .before .before .before .loop in
     let j = t .before .loop2 .j in
     let l = t .before .loop2 .inv .2 (s .args .cross .now) (s .pre .1 .size) (o .inv .1) in
-    record { fits = omega (arith, product s (o .i) j, c .before .product .ensures, s .pre .1 .most (8 * o .i + j), l .after (8 * o .i + j) (le-refl (8 * o .i + j))) }
+    record {
+      fits = omega (
+        arith,
+        product s (o .i) j,
+        c .before .product .ensures,
+        s .pre .1 .most (8 * o .i + j),
+        l .after (8 * o .i + j) (le-refl (8 * o .i + j)),
+      );
+    }
 
 loop2-again : tie.Need-loop2-again Inv-loop2 μ-loop2 Inv-loop μ-loop
 loop2-again c =
@@ -78,7 +88,8 @@ loop-again c =
     let o = c .before .before .before .before .loop in
     let r = sample (s .args .dilution) (s .args .counts .now) in (
       search needs,
-      raised-skip 64 (products r) (s .args .cross .now) (s .pre .1 .size) (c .before .loop2 .inv .2 (s .args .cross .now) (s .pre .1 .size) (o .inv .1)) (8 * (o .i + 1) + (o .i + 1)) (omega arith)
+      raised-skip 64 (products r) (s .args .cross .now) (s .pre .1 .size)
+          (c .before .loop2 .inv .2 (s .args .cross .now) (s .pre .1 .size) (o .inv .1)) (8 * (o .i + 1) + (o .i + 1)) (omega arith)
           (λ p a b. no-product r p (λ h. omega arith)),
     )
 
@@ -87,7 +98,8 @@ returns c =
     let s = c .before .before .before in
     let r = sample (s .args .dilution) (s .args .counts .now) in
     raised-all 64 (products r) (s .args .cross .now) (s .pre .1 .size)
-    (raised-skip 64 (products r) (s .args .cross .now) (s .pre .1 .size) (c .before .loop .inv .1) 72 (omega arith) (λ p a b. no-product r p (λ h. omega arith)))
+    (raised-skip 64 (products r) (s .args .cross .now) (s .pre .1 .size) (c .before .loop .inv .1) 72 (omega arith)
+    (λ p a b. no-product r p (λ h. omega arith)))
     (omega arith)
 
 pub add-products-spec : {M : Type 1} → statement M

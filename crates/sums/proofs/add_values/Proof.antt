@@ -24,21 +24,33 @@ add-channel c =
     let l = c .before .before .before .before in
     let s = l .before .before in
     let i = l .loop .i in
-    record { fits = omega (arith, mul-le-mul (s .pre .0 .count i) (s .pre .0 .dilution), c .before .product .ensures, s .pre .1 .most i, l .loop .inv .1 .after i (le-refl i)) }
+    record {
+      fits = omega (
+        arith,
+        mul-le-mul (s .pre .0 .count i) (s .pre .0 .dilution),
+        c .before .product .ensures,
+        s .pre .1 .most i,
+        l .loop .inv .1 .after i (le-refl i),
+      );
+    }
 
 loop-again : tie.Need-loop-again Inv-loop μ-loop
 unfolding z
 loop-again c =
     let s = c .before .before .before .before .before .before in
-    let l = c .before .before .before .before .loop in
-    (search needs, raised-more 8 (z (sample (s .args .dilution) (s .args .counts .now))) (s .args .channel .now) (s .pre .1 .size) (l .inv .1) (l .i) (l .i + 1) _ refl (omega arith) (omega arith) (c .before .product .ensures))
+    let l = c .before .before .before .before .loop in (
+      search needs,
+      raised-more 8 (z (sample (s .args .dilution) (s .args .counts .now))) (s .args .channel .now) (s .pre .1 .size) (l .inv .1)
+          (l .i) (l .i + 1) _ refl (omega arith) (omega arith) (c .before .product .ensures),
+    )
 
 returns : tie.Need-returns Inv-loop μ-loop
 returns c =
     let s = c .before .before .before in
     let f = z (sample (s .args .dilution) (s .args .counts .now)) in
     raised-all 8 f (s .args .channel .now) (s .pre .1 .size)
-    (raised-skip 8 f (s .args .channel .now) (s .pre .1 .size) (c .before .loop .inv .1) 8 (omega arith) (λ p a b. no-value (sample (s .args .dilution) (s .args .counts .now)) p (omega arith))) (omega arith)
+    (raised-skip 8 f (s .args .channel .now) (s .pre .1 .size) (c .before .loop .inv .1) 8 (omega arith)
+    (λ p a b. no-value (sample (s .args .dilution) (s .args .counts .now)) p (omega arith))) (omega arith)
 
 pub add-values-spec : {M : Type 1} → statement M
 add-values-spec =

@@ -15,7 +15,8 @@ use Rattle.sums.proofs.sums_of.Tie as tie
 
 abbrev Inv-loop : tie.InvT-loop
 Inv-loop n dilutions counts channel₀ cross₀ s₀ start₀ channel cross s start =
-    (s ≤ length dilutions) × (start ≡ n * s) × (channel ≡ sumsAt 8 z (tabulate s (sampleAt n dilutions counts))) × (cross ≡ sumsAt 64 products (tabulate s (sampleAt n dilutions counts)))
+    (s ≤ length dilutions) × (start ≡ n * s) × (channel ≡ sumsAt 8 z (tabulate s (sampleAt n dilutions counts))) ×
+    (cross ≡ sumsAt 64 products (tabulate s (sampleAt n dilutions counts)))
 
 abbrev μ-loop : tie.MeasureT-loop
 μ-loop n dilutions counts channel₀ cross₀ s₀ start₀ channel cross s start = length dilutions - s
@@ -24,7 +25,8 @@ loop-holds : tie.Need-loop-holds Inv-loop μ-loop
 unfolding sumsAt tabulate sum
 loop-holds c = (search needs, sym (mul-zero _), refl, refl)
 
-part : (c : tie.In-loop Inv-loop μ-loop) → c .before .loop .start + c .before .before .before .before .args .n ≤ length (c .before .before .before .before .args .counts .now)
+part : (c : tie.In-loop Inv-loop μ-loop) →
+    c .before .loop .start + c .before .before .before .before .args .n ≤ length (c .before .before .before .before .args .counts .now)
 part c = part-fits _ _ _ (c .before .before .before .before .pre) _ _ (c .loop-test .taken) (c .before .loop .inv .1)
 
 add-end : tie.Need-add-end Inv-loop μ-loop
@@ -36,14 +38,18 @@ mul-sample c = record { fits = omega (arith, part c) }
 add-values-requires : tie.Need-add-values-requires Inv-loop μ-loop
 add-values-requires c κs =
     let t = c .before .before .before in
-    let r = t .before .before .before .before .pre in
-    (in-range _ _ _ r _ _ (t .loop-test .taken) (t .before .loop .inv .1), sums-room _ _ _ r _ _ (t .loop-test .taken) (t .before .loop .inv .1) 8 z (t .before .loop .inv .2) zLimit z-bound)
+    let r = t .before .before .before .before .pre in (
+      in-range _ _ _ r _ _ (t .loop-test .taken) (t .before .loop .inv .1),
+      sums-room _ _ _ r _ _ (t .loop-test .taken) (t .before .loop .inv .1) 8 z (t .before .loop .inv .2) zLimit z-bound,
+    )
 
 add-products-requires : tie.Need-add-products-requires Inv-loop μ-loop
 add-products-requires c κs =
     let t = c .before .before .before .before .before .before in
-    let r = t .before .before .before .before .pre in
-    (in-range _ _ _ r _ _ (t .loop-test .taken) (t .before .loop .inv .1), sums-room _ _ _ r _ _ (t .loop-test .taken) (t .before .loop .inv .1) 64 products (t .before .loop .inv .3) (zLimit * zLimit) products-bound)
+    let r = t .before .before .before .before .pre in (
+      in-range _ _ _ r _ _ (t .loop-test .taken) (t .before .loop .inv .1),
+      sums-room _ _ _ r _ _ (t .loop-test .taken) (t .before .loop .inv .1) 64 products (t .before .loop .inv .3) (zLimit * zLimit) products-bound,
+    )
 
 loop-again : tie.Need-loop-again Inv-loop μ-loop
 loop-again c =
@@ -51,7 +57,8 @@ loop-again c =
     let r = t .before .before .before .before .pre in (
       search needs,
       next-start _ _ _ r _ _ (t .loop-test .taken) (t .before .loop .inv .1),
-      sums-next _ _ _ r _ _ (t .loop-test .taken) (t .before .loop .inv .1) 8 z (t .before .loop .inv .2) (c .before .before .before .add-values .ensures),
+      sums-next _ _ _ r _ _ (t .loop-test .taken) (t .before .loop .inv .1) 8 z (t .before .loop .inv .2)
+          (c .before .before .before .add-values .ensures),
       sums-next _ _ _ r _ _ (t .loop-test .taken) (t .before .loop .inv .1) 64 products (t .before .loop .inv .3) (c .add-products .ensures),
     )
 

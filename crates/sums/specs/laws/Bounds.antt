@@ -21,14 +21,16 @@ z-bound s r i = mul-le-mul (r .count i) (r .dilution)
 pub products-bound : (s : Sample) → InRange s → (p : ℕ) → products s p ≤ zLimit * zLimit
 unfolding products
 products-bound s r p =
-    elim (leb (p / 8) (p % 8)) as (λ t. cond t (z s (p / 8) * z s (p % 8)) 0 ≤ zLimit * zLimit) [ true ↦ mul-le-mul (z-bound s r (p / 8)) (z-bound s r (p % 8)) | false ↦ omega arith ]
+    elim (leb (p / 8) (p % 8)) as (λ t. cond t (z s (p / 8) * z s (p % 8)) 0 ≤ zLimit * zLimit)
+    [ true ↦ mul-le-mul (z-bound s r (p / 8)) (z-bound s r (p % 8)) | false ↦ omega arith ]
 
 sum-bound : (f : Sample → ℕ) (b : ℕ) (ss : List Sample) → ((s : ℕ) → f (getD ss s noSample) ≤ b) → sum f ss ≤ length ss * b
 unfolding sum
 sum-bound f b [] h = omega arith
 sum-bound f b (s ∷ ss) h = rw suc-mul (omega (arith, h zero, sum-bound f b ss (λ q. h (suc q))))
 
-pub sumsAt-bound : (m : ℕ) (v : Sample → ℕ → ℕ) (b : ℕ) → ((s : Sample) → InRange s → (p : ℕ) → v s p ≤ b) → (ss : List Sample) → AllInRange ss → (p : ℕ) → getD (sumsAt m v ss) p 0 ≤ length ss * b
+pub sumsAt-bound : (m : ℕ) (v : Sample → ℕ → ℕ) (b : ℕ) → ((s : Sample) → InRange s → (p : ℕ) → v s p ≤ b) → (ss : List Sample) → AllInRange ss →
+    (p : ℕ) → getD (sumsAt m v ss) p 0 ≤ length ss * b
 unfolding sumsAt
 sumsAt-bound m v b h ss r =
     tabulate-all (λ x. x ≤ length ss * b) m (λ p. sum (λ s. v s p) ss) 0 (omega arith) (λ p. sum-bound (λ s. v s p) b ss (λ s. h _ (r s) p))
@@ -57,7 +59,8 @@ module _ (n : ℕ) (dilutions counts : List ℕ) (r : Readings n dilutions count
 
   pub all-in-range : (m : ℕ) → AllInRange (tabulate m (sampleAt n dilutions counts))
   unfolding noSample
-  all-in-range m = tabulate-all InRange m (sampleAt n dilutions counts) noSample (record { channels = omega arith; dilution = omega arith; count = λ i. omega arith }) sample-in-range
+  all-in-range m = tabulate-all InRange m (sampleAt n dilutions counts) noSample
+      (record { channels = omega arith; dilution = omega arith; count = λ i. omega arith }) sample-in-range
 
   pub readings-bounded : Bounded (sumsOf (samples n dilutions counts))
   unfolding samples

@@ -26,7 +26,8 @@ module _ (f : ℕ → List ℕ) where
   line-within zero i h = absurd (omega arith)
   line-within (suc k) i h = by-place (line-within k i) (decLt i k)
     where
-      by-place : (i < k → length (lines f i) + length (f i) ≤ length (lines f k)) → Dec (i < k) → length (lines f i) + length (f i) ≤ length (lines f k ++ f k)
+      by-place : (i < k → length (lines f i) + length (f i) ≤ length (lines f k)) → Dec (i < k) →
+          length (lines f i) + length (f i) ≤ length (lines f k ++ f k)
       by-place below (yes l) = rw length-append (omega (arith, below l))
       by-place below (no l) = let e : i ≡ k = omega arith in rw (e, length-append) (omega arith)
 

@@ -1,4 +1,5 @@
--- Laws of this subject: What a writer does to a lent buffer, of bytes or of numbers: what it writes stands from the place on that it was given, everything else stays,.
+-- Laws of this subject: What a writer does to a lent buffer, of bytes or of numbers: what it writes stands from the place on that it was given,
+-- everything else stays,.
 use Prim.Native.Nat.{ℕ, _+_, _-_, _<_, _≤_}
 use mathlib.Core.Path.{_≡_, sym, _∙_}
 use mathlib.Core.List.{List, [], _++_, append-assoc, append-nil}
@@ -64,6 +65,7 @@ front-length p = p .answer ∙ zero-add _
 pub all-put : {X : Type 0} {t e x : List X} {at i : ℕ} → x ≡ paste e at t i → i ≡ length t → at + i ≤ length e → Put t at e x (at + i)
 all-put {t = t} {e} {x} {at} h i w = record { leaves = rw (h, i, take-length, append-assoc, drop-drop); answer = rw i; within = w }
 
-pub one-more : {X : Type 0} {x : List X} (e : List X) (at : ℕ) (t : List X) (i : ℕ) (d : X) → x ≡ paste e at t i → i < length t → at + length t ≤ length e
+pub one-more : {X : Type 0} {x : List X} (e : List X) (at : ℕ) (t : List X) (i : ℕ) (d : X) → x ≡ paste e at t i → i < length t →
+    at + length t ≤ length e
     → set x (at + i) (getD t i d) ≡ paste e at t (i + 1)
 one-more e at t i d h k room = rw (h, add-one) (paste-suc e at t i d (omega arith) k)

@@ -44,7 +44,8 @@ turned-requires c κs =
     let s = l .before .before in (
       s .pre .3 .positive,
       rw (entry l h (s .args .p) (omega arith), entry l h (s .args .q) (omega arith))
-          (room (s .args .r) widest (at (v l h) (s .args .p) (l .loop .j)) (at (v l h) (s .args .q) (l .loop .j)) (s .pre .4 .small (s .args .p) (l .loop .j)) (s .pre .4 .small (s .args .q) (l .loop .j)) (s .pre .3 .first-pass)),
+          (room (s .args .r) widest (at (v l h) (s .args .p) (l .loop .j)) (at (v l h) (s .args .q) (l .loop .j))
+          (s .pre .4 .small (s .args .p) (l .loop .j)) (s .pre .4 .small (s .args .q) (l .loop .j)) (s .pre .3 .first-pass)),
     )
 
 turned-requires-2 : tie.Need-turned-requires-2 Inv-loop μ-loop
@@ -56,7 +57,8 @@ turned-requires-2 c κs =
     let back = back-of _ _ (s .pre .3) (l .before .inverse .ensures) .turns in (
       back .positive,
       rw (← entry l h (s .args .p) (omega arith), ← entry l h (s .args .q) (omega arith)) at
-          (room (l .before .inverse .result) widest (at (v l h) (s .args .q) (l .loop .j)) (at (v l h) (s .args .p) (l .loop .j)) (s .pre .4 .small (s .args .q) (l .loop .j)) (s .pre .4 .small (s .args .p) (l .loop .j)) (back .first-pass)),
+          (room (l .before .inverse .result) widest (at (v l h) (s .args .q) (l .loop .j)) (at (v l h) (s .args .p) (l .loop .j))
+          (s .pre .4 .small (s .args .q) (l .loop .j)) (s .pre .4 .small (s .args .p) (l .loop .j)) (back .first-pass)),
     )
 
 loop-again : tie.Need-loop-again Inv-loop μ-loop
@@ -72,7 +74,8 @@ loop-again c =
       omega arith,
       columns-more _ _ _ _ _ _ (l .loop .inv .1) (omega arith) (s .pre .0) (omega arith) _ _
           (word f (x .ensures ∙ (λ i. first (s .args .r) (entry l h (s .args .p) (omega arith) i) (entry l h (s .args .q) (omega arith) i))))
-          (word g (y .ensures ∙ (λ i. first (l .before .inverse .ensures i) (entry l h (s .args .q) (omega arith) i) (entry l h (s .args .p) (omega arith) i)))),
+          (word g (y .ensures ∙ (λ i. first (l .before .inverse .ensures i) (entry l h (s .args .q) (omega arith) i)
+          (entry l h (s .args .p) (omega arith) i)))),
     )
 
 returns : tie.Need-returns Inv-loop μ-loop

@@ -55,7 +55,8 @@ turned-requires c κs =
     let s = start c in (
       s .pre .2 .positive,
       rw (toZ-ofZ (pp c), toZ-ofZ (pq c))
-          (room (r c) (passed (r c) widest) (entry c (s .args .p) (s .args .p)) (entry c (s .args .p) (s .args .q)) (s .pre .3 .pp) (s .pre .3 .pq) (s .pre .2 .second-pass)),
+          (room (r c) (passed (r c) widest) (entry c (s .args .p) (s .args .p)) (entry c (s .args .p) (s .args .q)) (s .pre .3 .pp) (s .pre .3 .pq)
+          (s .pre .2 .second-pass)),
     )
 
 turned-requires-2 : tie.Need-turned-requires-2
@@ -65,7 +66,8 @@ turned-requires-2 c κs =
     let s = start i in (
       back i .turns .positive,
       rw (toZ-ofZ (pq i), toZ-ofZ (pp i))
-          (room (i .inverse .result) (passed (r i) widest) (entry i (s .args .p) (s .args .q)) (entry i (s .args .p) (s .args .p)) (s .pre .3 .pq) (s .pre .3 .pp) (rw (back i .same) at (back i .turns .second-pass))),
+          (room (i .inverse .result) (passed (r i) widest) (entry i (s .args .p) (s .args .q)) (entry i (s .args .p) (s .args .p)) (s .pre .3 .pq)
+          (s .pre .3 .pp) (rw (back i .same) at (back i .turns .second-pass))),
     )
 
 turned-requires-3 : tie.Need-turned-requires-3
@@ -75,7 +77,8 @@ turned-requires-3 c κs =
     let s = start i in (
       back i .turns .positive,
       rw (toZ-ofZ (qq i), toZ-ofZ (qp i))
-          (room (i .inverse .result) (passed (r i) widest) (entry i (s .args .q) (s .args .q)) (entry i (s .args .q) (s .args .p)) (s .pre .3 .qq) (s .pre .3 .qp) (rw (back i .same) at (back i .turns .second-pass))),
+          (room (i .inverse .result) (passed (r i) widest) (entry i (s .args .q) (s .args .q)) (entry i (s .args .q) (s .args .p)) (s .pre .3 .qq)
+          (s .pre .3 .qp) (rw (back i .same) at (back i .turns .second-pass))),
     )
 
 -- the second entry of a pair, from the inverse rotation

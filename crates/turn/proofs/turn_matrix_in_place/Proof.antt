@@ -15,7 +15,8 @@ turn-block-requires c κs =
       search needs,
       omega arith,
       search needs,
-      rw rows (pass (s .args .n) (s .args .r) (s .args .p) (s .args .q) (s .args .a .now) (s .pre .0) (s .pre .1) (s .pre .2) (s .pre .4) (s .pre .3)),
+      rw rows (pass (s .args .n) (s .args .r) (s .args .p) (s .args .q) (s .args .a .now) (s .pre .0) (s .pre .1) (s .pre .2) (s .pre .4)
+          (s .pre .3)),
       rw rows (shaped-axes-of (s .args .r) (s .args .p) (s .args .q) (s .args .a .now) (s .args .n)),
     )
 

@@ -8,5 +8,6 @@ use Rattle.turn.specs.Turn.{turnMatrix, array, eight, at, turned, newp, 
 use Rattle.turn.specs.Cards.{Card7}
 
 pub card7 : Card7
-unfolding choose smallest fits threshold roundedUp u w minusSign negative turnMatrix array eight at turned newp newq newpp newpq newqq hpp hpq hqp hqq atPair rotationOf signed first second rnd
+unfolding choose smallest fits threshold roundedUp u w minusSign negative turnMatrix array eight at turned newp newq newpp newpq newqq hpp hpq hqp
+    hqq atPair rotationOf signed first second rnd
 card7 = record { chosen = refl; turns = refl }

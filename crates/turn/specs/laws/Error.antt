@@ -1,4 +1,5 @@
--- How far one turn, with its roundings, is from the exact rotation: at most 7/2 for the matrix and 2 for the axes. In whole numbers: N² and N times so far.
+-- How far one turn, with its roundings, is from the exact rotation: at most 7/2 for the matrix and 2 for the axes. In whole numbers: N² and N
+-- times so far.
 use mathlib.Core.Path.{_≡_, sym, _∙_, ap}
 use mathlib.Core.Logic.{_≢_}
 use mathlib.Core.List.{[], _∷_}
@@ -45,7 +46,14 @@ weight p q i j = inPair p q i + inPair p q j + 4 * (inPair p q i * inPair p q j)
 weight-row : (n p q i : ℕ) → p < q → q < n → sumℕ n (weight p q i) ≡ (n + 8) * inPair p q i + 2
 unfolding weight
 weight-row n p q i l k =
-    rw (sumℕ-+ n (λ j. inPair p q i + inPair p q j) (λ j. 4 * (inPair p q i * inPair p q j)), sumℕ-+ n (λ j. inPair p q i) (inPair p q), sumℕ-* n 4 (λ j. inPair p q i * inPair p q j), sumℕ-* n (inPair p q i) (inPair p q), sumℕ-const n (inPair p q i), sum-inPair n p q l k)
+    rw (
+      sumℕ-+ n (λ j. inPair p q i + inPair p q j) (λ j. 4 * (inPair p q i * inPair p q j)),
+      sumℕ-+ n (λ j. inPair p q i) (inPair p q),
+      sumℕ-* n 4 (λ j. inPair p q i * inPair p q j),
+      sumℕ-* n (inPair p q i) (inPair p q),
+      sumℕ-const n (inPair p q i),
+      sum-inPair n p q l k,
+    )
     (omega arith)
 
 weight-total : (n p q : ℕ) → p < q → q < n → sumℕ n (λ i. sumℕ n (weight p q i)) ≡ 4 * n + 16
@@ -55,7 +63,8 @@ weight-total n p q l k =
 
 module _ (r : Rotation) (n p q : ℕ) (l : p < q) (k : q < n) (whole : Whole r) where
   -- one entry of the new matrix
-  entry-error : (a : Matrix) → Symmetric n a → (i j : ℕ) → i < n → j < n → 4 * sq (matrixError n r p q a i j) ≤ weight p q i j * (r .n * r .n * (r .n * r .n))
+  entry-error : (a : Matrix) → Symmetric n a → (i j : ℕ) → i < n → j < n →
+      4 * sq (matrixError n r p q a i j) ≤ weight p q i j * (r .n * r .n * (r .n * r .n))
   unfolding weight inPair turned newp newq newpp newpq newqq hpp hpq hqp hqq first second conjugate
   entry-error a h i j = cases (place p q i) (place p q j)
     where
@@ -81,7 +90,8 @@ module _ (r : Rotation) (n p q : ℕ) (l : p < q) (k : q < n) (whole : Whole r) 
       once : (i j : ℕ) → weight p q i j ≡ 1 → turned r p q a i j ≡ rnd (H i j) N → conjugate n (exact r p q) a i j ≡ pos N *ℤ H i j → Bounded i j
       once i j d e f = rw (d, e, f) (omega (arith, rounded-once (H i j) N (whole .positive)))
 
-      twice : (i j : ℕ) (α β : ℤ) → α *ℤ α +ℤ β *ℤ β ≡ pos (N * N) → weight p q i j ≡ 6 → turned r p q a i j ≡ rnd (α *ℤ rnd (H i p) N +ℤ β *ℤ rnd (H i q) N) N →
+      twice : (i j : ℕ) (α β : ℤ) → α *ℤ α +ℤ β *ℤ β ≡ pos (N * N) → weight p q i j ≡ 6 →
+          turned r p q a i j ≡ rnd (α *ℤ rnd (H i p) N +ℤ β *ℤ rnd (H i q) N) N →
           conjugate n (exact r p q) a i j ≡ α *ℤ H i p +ℤ β *ℤ H i q → Bounded i j
       twice i j α β g d e f = rw (d, e, f) (rounded-twice α β (H i p) (H i q) N (whole .positive) g)
 
@@ -89,7 +99,8 @@ module _ (r : Rotation) (n p q : ℕ) (l : p < q) (k : q < n) (whole : Whole r) 
       second-norm = linear-combination (r .c ∷ r .s ∷ pos N ∷ []) (pos 1) (whole .norm) (search reading depth 20) tt
 
       pq : Bounded p q
-      pq = twice p q (negℤ (r .s)) (r .c) second-norm (simp places) (rw (rows p .first, rows q .first, h q p k (omega arith)) (simp places)) (columns p .second)
+      pq = twice p q (negℤ (r .s)) (r .c) second-norm (simp places) (rw (rows p .first, rows q .first, h q p k (omega arith)) (simp places))
+          (columns p .second)
 
       pj : {j : ℕ} → j ≢ p → j ≢ q → j < n → Bounded p j
       pj {j} d e o = once p j (simp places) (rw (rows j .first) (simp places)) (columns p .other j o d e)
@@ -101,16 +112,19 @@ module _ (r : Rotation) (n p q : ℕ) (l : p < q) (k : q < n) (whole : Whole r) 
       ij d e f g = simp places
 
       cases : {i j : ℕ} → Place p q i → Place p q j → i < n → j < n → Bounded i j
-      cases at-p at-p o m = twice p p (r .c) (r .s) (whole .norm) (simp places) (rw (rows p .first, rows q .first, h q p k (omega arith)) (simp places)) (columns p .first)
+      cases at-p at-p o m = twice p p (r .c) (r .s) (whole .norm) (simp places)
+          (rw (rows p .first, rows q .first, h q p k (omega arith)) (simp places)) (columns p .first)
       cases at-p at-q o m = pq
       cases at-q at-p o m = mirror q p o m pq
-      cases at-q at-q o m = twice q q (negℤ (r .s)) (r .c) second-norm (simp places) (rw (rows p .second, rows q .second, h q p k (omega arith)) (simp places)) (columns q .second)
+      cases at-q at-q o m = twice q q (negℤ (r .s)) (r .c) second-norm (simp places)
+          (rw (rows p .second, rows q .second, h q p k (omega arith)) (simp places)) (columns q .second)
       cases at-p (neither d e) o m = pj d e m
       cases at-q (neither d e) o m = qj d e m
       cases (neither {i} d e) at-p o m = mirror i p o m (pj d e o)
       cases (neither {i} d e) at-q o m = mirror i q o m (qj d e o)
       cases (neither {i} d e) (neither {i = j} f g) o m =
-          unmoved _ _ _ (ap (λ z. pos (N * N) *ℤ z) (ij d e f g) ∙ *ℤ-assoc (pos N) (pos N) (a i j) ∙ sym (columns i .other j m f g ∙ ap (λ z. pos N *ℤ z) (rows j .other i o d e)))
+          unmoved _ _ _ (ap (λ z. pos (N * N) *ℤ z) (ij d e f g) ∙ *ℤ-assoc (pos N) (pos N) (a i j)
+          ∙ sym (columns i .other j m f g ∙ ap (λ z. pos N *ℤ z) (rows j .other i o d e)))
 
   -- The matrix is moved by at most 7/2 in norm
   pub matrix-error : n ≤ 8 → (a : Matrix) → Symmetric n a → 4 * squares n (matrixError n r p q a) ≤ 49 * (r .n * r .n * (r .n * r .n))
@@ -128,7 +142,8 @@ module _ (r : Rotation) (n p q : ℕ) (l : p < q) (k : q < n) (whole : Whole r) 
       rows : Rotated n p q (r .n) (r .c) (r .s) (λ i. v i j) (λ i. product n (exact r p q) v i j)
       rows = exact-rows r n p q l k v j
 
-      once : (i : ℕ) (u : ℤ) → inPair p q i ≡ 1 → turnedAxes r p q v i j ≡ rnd u (r .n) → product n (exact r p q) v i j ≡ u → 4 * sq (axesError n r p q v i j) ≤ inPair p q i * (r .n * r .n)
+      once : (i : ℕ) (u : ℤ) → inPair p q i ≡ 1 → turnedAxes r p q v i j ≡ rnd u (r .n) → product n (exact r p q) v i j ≡ u →
+          4 * sq (axesError n r p q v i j) ≤ inPair p q i * (r .n * r .n)
       once i u d e f = rw (d, e, f) (omega (arith, rounded u (r .n) (whole .positive)))
 
       stays : {i : ℕ} → i ≢ p → i ≢ q → turnedAxes r p q v i j ≡ v i j
@@ -141,12 +156,16 @@ module _ (r : Rotation) (n p q : ℕ) (l : p < q) (k : q < n) (whole : Whole r) 
 
   -- each column of the axes
   pub axes-column-error : (v : Matrix) (j : ℕ) → 2 * sumℕ n (λ i. sq (axesError n r p q v i j)) ≤ r .n * r .n
-  axes-column-error v j = omega (arith, rw (sum-inPair n p q l k) at (sum-bound n 4 (r .n * r .n) (λ i. sq (axesError n r p q v i j)) (inPair p q) (λ i o. axis-error v i j o)))
+  axes-column-error v j = omega (
+    arith,
+    rw (sum-inPair n p q l k) at (sum-bound n 4 (r .n * r .n) (λ i. sq (axesError n r p q v i j)) (inPair p q) (λ i o. axis-error v i j o)),
+  )
 
   -- The axes are moved by at most 2 in norm
   pub axes-error : n ≤ 8 → (v : Matrix) → squares n (axesError n r p q v) ≤ 4 * (r .n * r .n)
   unfolding squares
-  axes-error b v = rw (sumℕ-exchange n n (λ i j. sq (axesError n r p q v i j))) (omega (arith, rw (sumℕ-const n 1) at sums, mul-le-mul-right (r .n * r .n) b))
+  axes-error b v = rw (sumℕ-exchange n n (λ i j. sq (axesError n r p q v i j)))
+      (omega (arith, rw (sumℕ-const n 1) at sums, mul-le-mul-right (r .n * r .n) b))
     where
       sums : 2 * sumℕ n (λ j. sumℕ n (λ i. sq (axesError n r p q v i j))) ≤ sumℕ n (λ j. 1) * (r .n * r .n)
       sums = sum-bound n 2 (r .n * r .n) _ _ (λ j o. omega (arith, axes-column-error v j))

@@ -1,4 +1,5 @@
--- Laws of this subject: Document 01's exact rotation R, written whole, that is N times it: it multiplies sums of squares by N², and R Rᵀ is N² times the identity.
+-- Laws of this subject: Document 01's exact rotation R, written whole, that is N times it: it multiplies sums of squares by N², and R Rᵀ is N²
+-- times the identity.
 use mathlib.Core.Path.{_≡_, refl, sym, _∙_, ap}
 use mathlib.Core.Logic.{_≢_}
 use mathlib.Core.Bool.{Bool, true, false}
@@ -42,7 +43,8 @@ signed-square false x = refl
 pub rotationOf-whole : (l : ℕ) (minus : Bool) → Whole (rotationOf l minus)
 unfolding rotationOf
 rotationOf-whole l minus = record {
-  norm = rw (signed-square minus (2 ^ (l + 1)), add-one l, pow-suc 2 l) (linear-combination (pos (4 ^ l) ∷ pos (2 ^ l) ∷ []) (pos 4) (ap pos (square-of-power l)) (search reading depth 20) tt);
+  norm = rw (signed-square minus (2 ^ (l + 1)), add-one l, pow-suc 2 l)
+      (linear-combination (pos (4 ^ l) ∷ pos (2 ^ l) ∷ []) (pos 4) (ap pos (square-of-power l)) (search reading depth 20) tt);
   positive = omega arith;
 }
 
@@ -98,7 +100,8 @@ module _ (r : Rotation) (n p q : ℕ) (l : p < q) (k : q < n) where
 
     pub conjugate-squares : (X : Matrix) → squares n (conjugate n (exact r p q) X) ≡ r .n * r .n * (r .n * r .n) * squares n X
     unfolding squares conjugate
-    conjugate-squares X = rotated-matrix X (product n (exact r p q) X) (conjugate n (exact r p q) X) rotation (λ j o. exact-rows X j) (λ i o. exact-columns (product n (exact r p q) X) i)
+    conjugate-squares X = rotated-matrix X (product n (exact r p q) X) (conjugate n (exact r p q) X) rotation (λ j o. exact-rows X j)
+        (λ i o. exact-columns (product n (exact r p q) X) i)
 
     -- R Rᵀ is N² on the diagonal
     pub exact-orthogonal : (i j : ℕ) → i < n → j < n → product n (exact r p q) (transpose (exact r p q)) i j ≡ diagonal (pos (r .n * r .n)) i j
@@ -114,7 +117,8 @@ module _ (r : Rotation) (n p q : ℕ) (l : p < q) (k : q < n) where
         mirror i j h = sym (λ t. product-transpose n R (transpose R) t i j) ∙ h ∙ diagonal-transpose (pos (r .n * r .n)) i j
 
         pair : Entry p q
-        pair = rw (diagonal-other (pos (r .n * r .n)) p q (omega arith)) (exact-rows (transpose R) q .first ∙ simp (row-q, places) (ring (r .c ∷ r .s ∷ []) (search reading depth 20) tt))
+        pair = rw (diagonal-other (pos (r .n * r .n)) p q (omega arith))
+            (exact-rows (transpose R) q .first ∙ simp (row-q, places) (ring (r .c ∷ r .s ∷ []) (search reading depth 20) tt))
 
         column : {i j : ℕ} → i ≢ p → i ≢ q → Place p q j → R j i ≡ diagonal (pos (r .n)) i j
         column {i} d e at-p = rw (diagonal-other (pos (r .n)) i p d) (simp (row-p, places))
@@ -122,13 +126,15 @@ module _ (r : Rotation) (n p q : ℕ) (l : p < q) (k : q < n) where
         column {i} d e (neither {i = j} f g) = row-neither j i f g ∙ diagonal-transpose (pos (r .n)) i j
 
         rest : {i j : ℕ} → i ≢ p → i ≢ q → Place p q j → i < n → Entry i j
-        rest {i} {j} d e v o = exact-rows (transpose R) j .other i o d e ∙ ap (λ z. pos (r .n) *ℤ z) (column d e v) ∙ diagonal-* (pos (r .n)) (pos (r .n)) i j
+        rest {i} {j} d e v o = exact-rows (transpose R) j .other i o d e ∙ ap (λ z. pos (r .n) *ℤ z) (column d e v)
+            ∙ diagonal-* (pos (r .n)) (pos (r .n)) i j
 
         cases : {i j : ℕ} → Place p q i → Place p q j → i < n → j < n → Entry i j
         cases at-p at-p o m = exact-rows (transpose R) p .first ∙ simp (row-p, places, diagonal-same) (w .norm)
         cases at-p at-q o m = pair
         cases at-q at-p o m = mirror q p pair
-        cases at-q at-q o m = exact-rows (transpose R) q .second ∙ simp (row-q, places, diagonal-same) (linear-combination (r .c ∷ r .s ∷ pos (r .n) ∷ []) (pos 1) (w .norm) (search reading depth 20) tt)
+        cases at-q at-q o m = exact-rows (transpose R) q .second
+            ∙ simp (row-q, places, diagonal-same) (linear-combination (r .c ∷ r .s ∷ pos (r .n) ∷ []) (pos 1) (w .norm) (search reading depth 20) tt)
         cases at-p (neither {i = j} d e) o m = mirror p j (rest d e at-p m)
         cases at-q (neither {i = j} d e) o m = mirror q j (rest d e at-q m)
         cases (neither d e) v o m = rest d e v o
@@ -141,5 +147,7 @@ module _ (r : Rotation) (n p q : ℕ) (l : p < q) (k : q < n) where
         ∙ ap (λ z. pos k *ℤ z) (exact-orthogonal i j o m) ∙ diagonal-* (pos k) (pos (r .n * r .n)) i j
 
     -- The products of a vector with the rows of R P: their squares sum to N² times those with the rows of P
-    pub exact-dot-squares : (u : ℕ → ℤ) (P : Matrix) → sumℕ n (λ i. sq (dot n u (product n (exact r p q) P i))) ≡ r .n * r .n * sumℕ n (λ i. sq (dot n u (P i)))
-    exact-dot-squares u P = rotated-squares (λ i. dot n u (P i)) (λ i. dot n u (product n (exact r p q) P i)) rotation (dot-rotated n u P (product n (exact r p q) P) (λ j o. exact-rows P j))
+    pub exact-dot-squares : (u : ℕ → ℤ) (P : Matrix) →
+        sumℕ n (λ i. sq (dot n u (product n (exact r p q) P i))) ≡ r .n * r .n * sumℕ n (λ i. sq (dot n u (P i)))
+    exact-dot-squares u P = rotated-squares (λ i. dot n u (P i)) (λ i. dot n u (product n (exact r p q) P i)) rotation
+        (dot-rotated n u P (product n (exact r p q) P) (λ j o. exact-rows P j))

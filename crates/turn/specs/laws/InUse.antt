@@ -46,7 +46,8 @@ unfolding inUse
 inUse-outside n x i j e = rw e
 
 -- a matrix that is 0 outside, after a change inside
-pub at-array : (n : ℕ) (new old : Matrix) → n ≤ 8 → ((i j : ℕ) → (ltb i n && ltb j n) ≡ false → old i j ≡ pos 0) → (i j : ℕ) → at (array n new old) i j ≡ inUse n new i j
+pub at-array : (n : ℕ) (new old : Matrix) → n ≤ 8 → ((i j : ℕ) → (ltb i n && ltb j n) ≡ false → old i j ≡ pos 0) → (i j : ℕ) →
+    at (array n new old) i j ≡ inUse n new i j
 unfolding array inUse
 at-array n new old b zero-outside i j = at-square _ i j ∙ by-use (use-of n i j)
   where

@@ -28,7 +28,8 @@ module _ (r : Rotation) (n p q : ℕ) (l : p < q) (k : q < n) (whole : Whole r) 
   pub turned-squares : n ≤ 8 → (a : Matrix) → Symmetric n a → (α : ℕ) → squares n a ≤ α * α → squares n (turned r p q a) ≤ (α + 4) * (α + 4)
   turned-squares b a h α g =
       kept (2 * K) _ (α + 4) (2 * K * α + 7 * K) (omega (arith, mul-le-mul (whole .positive) (whole .positive)))
-      (rw multiplied (squares-+ n (2 * K * α) (7 * K) (λ i j. pos 2 *ℤ C i j) (λ i j. pos 2 *ℤ matrixError n r p q a i j) exactly error)) (omega arith)
+      (rw multiplied (squares-+ n (2 * K * α) (7 * K) (λ i j. pos 2 *ℤ C i j) (λ i j. pos 2 *ℤ matrixError n r p q a i j) exactly error))
+      (omega arith)
     where
       K : ℕ
       K = r .n * r .n
@@ -51,7 +52,9 @@ module _ (r : Rotation) (n p q : ℕ) (l : p < q) (k : q < n) (whole : Whole r) 
   -- The norm of each column of the axes grows by at most 1 in a turn
   pub axes-column : (v : Matrix) (j β : ℕ) → sumℕ n (λ i. sq (v i j)) ≤ β * β → sumℕ n (λ i. sq (turnedAxes r p q v i j)) ≤ (β + 1) * (β + 1)
   axes-column v j β g =
-      kept N _ (β + 1) (N * β + N) (whole .positive) (rw multiplied (minkowski n (N * β) N RV (λ i. axesError n r p q v i j) exactly (omega (arith, axes-column-error r n p q l k whole v j)))) (omega arith)
+      kept N _ (β + 1) (N * β + N) (whole .positive)
+      (rw multiplied (minkowski n (N * β) N RV (λ i. axesError n r p q v i j) exactly (omega (arith, axes-column-error r n p q l k whole v j))))
+      (omega arith)
     where
       N : ℕ
       N = r .n

@@ -43,4 +43,8 @@ inPair p q i = atPair p q i 1 1 0
 
 pub sum-inPair : (n p q : ℕ) → p < q → q < n → sumℕ n (inPair p q) ≡ 2
 unfolding inPair
-sum-inPair n p q l k = omega (arith, rw (atPair-p, atPair-q) at (sumℕ-but-two n p q (inPair p q) (λ i. 0) l k (λ i o. atPair-neither p q i 1 1 0)), sumℕ-const n 0)
+sum-inPair n p q l k = omega (
+  arith,
+  rw (atPair-p, atPair-q) at (sumℕ-but-two n p q (inPair p q) (λ i. 0) l k (λ i o. atPair-neither p q i 1 1 0)),
+  sumℕ-const n 0,
+)

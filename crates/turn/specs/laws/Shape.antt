@@ -14,7 +14,8 @@ use mir.Syntax.{w64}
 use mir.Val.{Val}
 use Rattle.turn.specs.Shape.{Shaped}
 
-each-wide : (f : ℤ → List Val → Fml) (a : List (List ℤ)) (us : List Val) → shadow (each (List ℤ) (inArray ℤ f 8) a us) → (i : ℕ) → i < length a → length (getD a i []) ≡ 8
+each-wide : (f : ℤ → List Val → Fml) (a : List (List ℤ)) (us : List Val) → shadow (each (List ℤ) (inArray ℤ f 8) a us) → (i : ℕ) → i < length a →
+    length (getD a i []) ≡ 8
 each-wide f [] us p i h = absurd (not-suc-le-zero h)
 each-wide f (x ∷ a) [] p i h = absurd p
 each-wide f (x ∷ a) (u ∷ us) p zero h = p .0 .1 .0 .1

@@ -1,4 +1,5 @@
--- `field::digits` meets its contract. The invariant: the field read from its first byte is the field read from byte i with the value so far, which has i digits.
+-- `field::digits` meets its contract. The invariant: the field read from its first byte is the field read from byte i with the value so far,
+-- which has i digits.
 use Prim.Native.Nat.{_-_, _^_, _≤_, _<_}
 use mathlib.Core.Path.{_≡_}
 use lib.ListN.{length, drop}

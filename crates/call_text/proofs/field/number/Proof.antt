@@ -35,7 +35,8 @@ returns-4 c =
     let s = t .before .before .before .before .args .field .now in
     let f : SFits w64 (c .with-sign .result) = search needs in
     rw (toZ-ofZ f)
-    (minus-some s _ (t .before .before .if1 .left) _ (n .natural .ensures) (t .if2 .taken) (rest-all 1 s) _ _ (x .x .given .1) (c .before .if3 .left) (c .with-sign .ensures))
+    (minus-some s _ (t .before .before .if1 .left) _ (n .natural .ensures) (t .if2 .taken) (rest-all 1 s) _ _ (x .x .given .1)
+    (c .before .if3 .left) (c .with-sign .ensures))
 
 returns-5 : tie.Need-returns-5
 returns-5 c =

@@ -38,7 +38,8 @@ returns-2 c =
     let t = f .before in
     rw (c .no-line2 .ensures)
     (record {
-      reads = sym (line-bad _ _ _ _ _ _ (t .before .loop .inv .3) (t .loop-test .taken) _ (f .find2 .ensures .is) _ (n .number .ensures) (c .before .enum-told .given .1));
+      reads = sym (line-bad _ _ _ _ _ _ (t .before .loop .inv .3) (t .loop-test .taken) _ (f .find2 .ensures .is) _ (n .number .ensures)
+          (c .before .enum-told .given .1));
       within = omega arith;
     })
 
@@ -68,7 +69,8 @@ loop-again c =
       search needs,
       search needs,
       rw (toZ-ofZ z)
-          (line-more _ _ _ _ _ _ (t .before .loop .inv .3) (t .loop-test .taken) _ (f .find2 .ensures .is) _ (n .number .ensures) (c .if2 .left) (t .before .loop .inv .2) _ (x .x .given .1)),
+          (line-more _ _ _ _ _ _ (t .before .loop .inv .3) (t .loop-test .taken) _ (f .find2 .ensures .is) _ (n .number .ensures) (c .if2 .left)
+          (t .before .loop .inv .2) _ (x .x .given .1)),
     )
 
 returns-4 : tie.Need-returns-4 Inv-loop μ-loop

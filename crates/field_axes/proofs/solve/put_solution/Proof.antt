@@ -56,9 +56,11 @@ returns c =
     let a = s .args in
     let f : SFits w64 (outcome .outcome-number .result) = search needs in
     let as-calls = run-calls (a .n) (a .numbers .now) (a .limit) (a .tolerance) (s .pre .allowed) in
-    let axes-are = used-axes (a .n) (runOf (a .n) (a .numbers .now) (a .limit) (a .tolerance) .last) (as-calls .channels) (channels _ _ _ _ _ (s .pre)) (a .n) (omega arith) in
+    let axes-are = used-axes (a .n) (runOf (a .n) (a .numbers .now) (a .limit) (a .tolerance) .last) (as-calls .channels)
+    (channels _ _ _ _ _ (s .pre)) (a .n) (omega arith) in
     put-then
-    (rw (toZ-ofZ f, outcome .outcome-number .ensures, toZ-pos w64 (sweeps run), toZ-pos w64 (turns run), run .run .ensures .ends) at (put .put .ensures))
+    (rw (toZ-ofZ f, outcome .outcome-number .ensures, toZ-pos w64 (sweeps run), toZ-pos w64 (turns run), run .run .ensures .ends) at
+    (put .put .ensures))
     (rw (run .run .ensures .answers, axes-are) at (c .before .put-axes .ensures))
 
 pub put-solution-spec : {M : Type 1} → statement M

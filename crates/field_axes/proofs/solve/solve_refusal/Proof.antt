@@ -31,13 +31,16 @@ returns-3 : tie.Need-returns-3
 returns-3 c = limit-high _ _ _ _ _ (taken (c .before .before .before) (c .before .before .if1 .left)) (omega arith) (c .if3 .taken)
 
 returns-4 : tie.Need-returns-4
-returns-4 c = tolerance-high _ _ _ _ _ (taken (c .before .before .before .before) (c .before .before .before .if1 .left)) (omega arith) (omega arith) (c .if4 .taken)
+returns-4 c = tolerance-high _ _ _ _ _ (taken (c .before .before .before .before) (c .before .before .before .if1 .left)) (omega arith)
+    (omega arith) (c .if4 .taken)
 
 returns-5 : tie.Need-returns-5
-returns-5 c = buffer-short _ _ _ _ _ (taken (c .before .before .before .before .before) (c .before .before .before .before .if1 .left)) (omega arith) (omega arith) (omega arith) (c .if5 .taken)
+returns-5 c = buffer-short _ _ _ _ _ (taken (c .before .before .before .before .before) (c .before .before .before .before .if1 .left))
+    (omega arith) (omega arith) (omega arith) (c .if5 .taken)
 
 returns-6 : tie.Need-returns-6
-returns-6 c = none-refused _ _ _ _ _ (taken (c .before .before .before .before .before) (c .before .before .before .before .if1 .left)) (omega arith) (omega arith) (omega arith) (c .if5 .left)
+returns-6 c = none-refused _ _ _ _ _ (taken (c .before .before .before .before .before) (c .before .before .before .before .if1 .left))
+    (omega arith) (omega arith) (omega arith) (c .if5 .left)
 
 pub solve-refusal-spec : {M : Type 1} → statement M
 solve-refusal-spec =

@@ -30,22 +30,39 @@ module _ (c : tie.After-table-of-readings) where
 put-requires-2 : tie.Need-put-requires-2
 put-requires-2 c κs =
     let head = c .before .before .before .put .ensures in
-    rw (sums (c .before .before .before .before .before .before .before .before .before)) (omega (arith, head .answer, same-size head, c .before .before .before .before .before .before .before .before .before .before .before .before .pre .room))
+    rw (sums (c .before .before .before .before .before .before .before .before .before))
+    (omega (
+      arith,
+      head .answer,
+      same-size head,
+      c .before .before .before .before .before .before .before .before .before .before .before .before .pre .room,
+    ))
 
 put-requires-3 : tie.Need-put-requires-3
 put-requires-3 c κs =
     let head = c .before .before .before .before .before .before .before .put .ensures in
     let put = c .before .before .before .put2 .ensures in
     rw (entries (c .before .before .before .before .before .before .before .before .before .before .before .before .before))
-    (omega (arith, head .answer, same-size head, put .answer, same-size put, sums (c .before .before .before .before .before .before .before .before .before .before .before .before .before), c .before .before .before .before .before .before .before .before .before .before .before .before .before .before .before .before .pre .room))
+    (omega (
+      arith,
+      head .answer,
+      same-size head,
+      put .answer,
+      same-size put,
+      sums (c .before .before .before .before .before .before .before .before .before .before .before .before .before),
+      c .before .before .before .before .before .before .before .before .before .before .before .before .before .before .before .before .pre
+          .room,
+    ))
 
 returns : tie.Need-returns
 unfolding tableNumbersOf tableNumbers
 returns c =
-    let table = c .before .before .before .before .before .before .before .before .before .before .before .before .before .before .before .table-of-readings in
+    let table = c .before .before .before .before .before .before .before .before .before .before .before .before .before .before .before
+    .table-of-readings in
     let small : table .result .e < 2 ^ 63 = omega arith in
     rw (← table .ensures)
-    (put-then (rw (toZ-pos w64 small) at (c .before .before .before .before .before .before .before .before .before .put .ensures)) (put-then (c .before .before .before .before .before .put2 .ensures) (c .before .put3 .ensures)))
+    (put-then (rw (toZ-pos w64 small) at (c .before .before .before .before .before .before .before .before .before .put .ensures))
+    (put-then (c .before .before .before .before .before .put2 .ensures) (c .before .put3 .ensures)))
 
 pub put-table-spec : {M : Type 1} → statement M
 put-table-spec =

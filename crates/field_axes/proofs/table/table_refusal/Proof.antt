@@ -21,14 +21,16 @@ returns-2 c = n-high _ _ _ _ (c .before .if1 .left) (c .if2 .taken)
 
 returns-3 : tie.Need-returns-3
 returns-3 c =
-    dilution-off _ _ _ _ (c .before .before .before .if1 .left) (c .before .before .if2 .left) (sym (c .before .all-within .ensures) ∙ not-true _ (c .if3 .taken))
+    dilution-off _ _ _ _ (c .before .before .before .if1 .left) (c .before .before .if2 .left)
+    (sym (c .before .all-within .ensures) ∙ not-true _ (c .if3 .taken))
 
 dilutions-good : (c : tie.Else3) → allWithin 1 100 (c .before .before .before .before .before .before .args .dilutions .now) ≡ true
 dilutions-good c = sym (c .before .all-within .ensures) ∙ not-false _ (c .if3 .left)
 
 returns-4 : tie.Need-returns-4
 returns-4 c =
-    count-off _ _ _ _ (c .before .before .before .before .before .if1 .left) (c .before .before .before .before .if2 .left) (dilutions-good (c .before .before))
+    count-off _ _ _ _ (c .before .before .before .before .before .if1 .left) (c .before .before .before .before .if2 .left)
+    (dilutions-good (c .before .before))
     (sym (c .before .all-within2 .ensures) ∙ not-true _ (c .if4 .taken))
 
 -- every value is in its range
@@ -36,7 +38,8 @@ module _ (c : tie.Else4) where
   low : 2 ≤ c .before .before .before .before .before .before .before .before .args .n
   low = c .before .before .before .before .before .if1 .left
 
-  good : (let a = c .before .before .before .before .before .before .before .before .args in valuesWithin (a .n) (a .dilutions .now) (a .counts .now) ≡ true)
+  good : (let a = c .before .before .before .before .before .before .before .before .args in
+      valuesWithin (a .n) (a .dilutions .now) (a .counts .now) ≡ true)
   good =
       values-good _ _ _ 0 low (c .before .before .before .before .if2 .left) (dilutions-good (c .before .before))
       (sym (c .before .all-within2 .ensures) ∙ not-false _ (c .if4 .left))
@@ -49,23 +52,30 @@ returns-6 c = other-number _ _ _ _ (low (c .before .before)) (good (c .before .b
 
 returns-7 : tie.Need-returns-7
 returns-7 c =
-    few-samples _ _ _ _ (low (c .before .before .before)) (good (c .before .before .before)) (c .before .before .if5 .left) (c .before .if6 .left) (c .if7 .taken)
+    few-samples _ _ _ _ (low (c .before .before .before)) (good (c .before .before .before)) (c .before .before .if5 .left) (c .before .if6 .left)
+    (c .if7 .taken)
 
 returns-8 : tie.Need-returns-8
 returns-8 c =
-    many-samples _ _ _ _ (low (c .before .before .before .before)) (good (c .before .before .before .before)) (c .before .before .before .if5 .left) (c .before .before .if6 .left) (c .before .if7 .left) (c .if8 .taken)
+    many-samples _ _ _ _ (low (c .before .before .before .before)) (good (c .before .before .before .before)) (c .before .before .before .if5 .left)
+    (c .before .before .if6 .left) (c .before .if7 .left) (c .if8 .taken)
 
 -- the numbers of a table are few
-few : (c : tie.Else8) → (let n = c .before .before .before .before .before .before .before .before .before .before .before .before .args .n in n * n ≤ 64)
+few : (c : tie.Else8) → (let n = c .before .before .before .before .before .before .before .before .before .before .before .before .args .n in
+    n * n ≤ 64)
 few c = places _ (c .before .before .before .before .before .before .before .before .if2 .left)
 
 returns-9 : tie.Need-returns-9
 returns-9 c =
-    buffer-short _ _ _ _ (low (c .before .before .before .before .before)) (good (c .before .before .before .before .before)) (c .before .before .before .before .if5 .left) (c .before .before .before .if6 .left) (c .before .before .if7 .left) (c .before .if8 .left) (c .if9 .taken)
+    buffer-short _ _ _ _ (low (c .before .before .before .before .before)) (good (c .before .before .before .before .before))
+    (c .before .before .before .before .if5 .left) (c .before .before .before .if6 .left) (c .before .before .if7 .left) (c .before .if8 .left)
+    (c .if9 .taken)
 
 returns-10 : tie.Need-returns-10
 returns-10 c =
-    none-refused _ _ _ _ (low (c .before .before .before .before .before)) (good (c .before .before .before .before .before)) (c .before .before .before .before .if5 .left) (c .before .before .before .if6 .left) (c .before .before .if7 .left) (c .before .if8 .left) (c .if9 .left)
+    none-refused _ _ _ _ (low (c .before .before .before .before .before)) (good (c .before .before .before .before .before))
+    (c .before .before .before .before .if5 .left) (c .before .before .before .if6 .left) (c .before .before .if7 .left) (c .before .if8 .left)
+    (c .if9 .left)
 
 pub table-refusal-spec : {M : Type 1} → statement M
 table-refusal-spec =

@@ -45,7 +45,8 @@ whole : (c : tie.After-known-told3) →
     let l = c .before .before .before .before .before in
     let n = l .before .before .before .before in
     let t = c .before .tolerance .given .0 in
-    cond (parametersInRange (n .n .given .0 .0) (l .limit .given .0 .0) (t .0)) (Read (n .n .given .0 .0) (l .limit .given .0 .0) (t .0) (t .1 .0)) (Refused 2)
+    cond (parametersInRange (n .n .given .0 .0) (l .limit .given .0 .0) (t .0)) (Read (n .n .given .0 .0) (l .limit .given .0 .0) (t .0) (t .1 .0))
+    (Refused 2)
     ≡ parametersAt (now (n .before .before .before .before .before .before .args .text))
 whole c =
     let t = c .before in

@@ -31,7 +31,8 @@ returns-2 c =
 whole : (c : tie.After-known-told) →
     let s = c .before .before .before .before .before .before .before .args in
     let v = c .before .count .given .0 in
-    endingAt (now (s .text)) (s .at) (s .k) ≡ cond (ltb (s .k) 2) (Refused 3) (cond (eqb (v .0) (s .k) && leb (length (now (s .text))) (v .1 .0)) Accepted (Refused 4))
+    endingAt (now (s .text)) (s .at) (s .k) ≡ cond (ltb (s .k) 2) (Refused 3)
+    (cond (eqb (v .0) (s .k) && leb (length (now (s .text))) (v .1 .0)) Accepted (Refused 4))
 whole c =
     let v = c .before in
     let a = v .before .before in

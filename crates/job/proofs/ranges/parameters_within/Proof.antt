@@ -20,7 +20,8 @@ unfolding parametersInRange
 returns-3 c =
     let g = c .before .before in
     let f = g .before in
-    simp (granted _ _ (f .before .is-within .ensures) (f .if1 .left), granted _ _ (g .is-within2 .ensures) (c .before .if2 .left)) (c .is-within3 .ensures)
+    simp (granted _ _ (f .before .is-within .ensures) (f .if1 .left), granted _ _ (g .is-within2 .ensures) (c .before .if2 .left))
+    (c .is-within3 .ensures)
 
 pub parameters-within-spec : {M : Type 1} → statement M
 parameters-within-spec =

@@ -20,7 +20,8 @@ returns : tie.Need-returns Inv-loop μ-loop
 returns c =
     let m = c .before in
     let t = m .before .before in
-    c .malformed .ensures ∙ numbers-broken _ _ _ _ _ _ (t .before .loop .inv .2) _ (m .before .number .ensures) (t .loop-test .taken) (m .match .keys2)
+    c .malformed .ensures ∙ numbers-broken _ _ _ _ _ _ (t .before .loop .inv .2) _ (m .before .number .ensures) (t .loop-test .taken)
+    (m .match .keys2)
 
 loop-again : tie.Need-loop-again Inv-loop μ-loop
 loop-again c =
@@ -36,7 +37,8 @@ returns-2 : tie.Need-returns-2 Inv-loop μ-loop
 returns-2 c =
     let m = c .before in
     let t = m .before .before in
-    c .malformed2 .ensures ∙ numbers-unended _ _ _ _ _ _ (t .before .loop .inv .2) _ (m .before .number2 .ensures) (t .loop-test .left) (m .match2 .keys2)
+    c .malformed2 .ensures ∙ numbers-unended _ _ _ _ _ _ (t .before .loop .inv .2) _ (m .before .number2 .ensures) (t .loop-test .left)
+    (m .match2 .keys2)
 
 returns-3 : tie.Need-returns-3 Inv-loop μ-loop
 returns-3 c =

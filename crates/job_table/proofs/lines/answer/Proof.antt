@@ -18,7 +18,10 @@ returns : tie.Need-returns
 returns c = written-printed _ _ _ _ _ (c .before .before .before .table-text .ensures) _ (c .before .tabled .given .1)
 
 -- At a refusal the buffer is as it was, and the refusal's line is to be printed.
-denied : (c : tie.After-tabled2) → (c .before .before .table-text .last .1 .0 ≡ c .before .before .before .before .before .args .out .now) × (printedOf tableText (c .before .before .before .before .before .args .text .now) ≡ lineX (c .tabled2 .given .0 .0) (c .tabled2 .given .0 .1 .0))
+denied : (c : tie.After-tabled2) →
+    (c .before .before .table-text .last .1 .0 ≡ c .before .before .before .before .before .args .out .now) ×
+    (printedOf tableText (c .before .before .before .before .before .args .text .now) ≡ lineX (c .tabled2 .given .0 .0)
+    (c .tabled2 .given .0 .1 .0))
 denied c =
     let tabled = c .before .before in
     refused-printed _ _ _ _ _ (tabled .table-text .ensures) _ _ (room (tabled .before)) (c .tabled2 .given .1)

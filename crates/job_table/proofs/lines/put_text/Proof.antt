@@ -12,7 +12,8 @@ use Rattle.job_table.proofs.lines.put_text.Statement.{statement}
 use Rattle.job_table.proofs.lines.put_text.Tie as tie
 
 sized : (c : tie.Start)
-    → length (numberLine 84 (take 3 (c .args .head .now))) + length (lines (rowLine 83 (c .args .n + 1) (c .args .rows .now)) (c .args .n)) ≤ length (c .args .buf .now)
+    → length (numberLine 84 (take 3 (c .args .head .now))) + length (lines (rowLine 83 (c .args .n + 1) (c .args .rows .now)) (c .args .n)) ≤ length
+    (c .args .buf .now)
 unfolding textOf
 sized c = rw length-append at (c .pre .2)
 

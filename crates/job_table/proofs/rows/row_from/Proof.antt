@@ -58,7 +58,8 @@ unfolding tabulate
 returns c =
     let s = c .before .before in
     let l = c .before .loop in
-    filled-all (filled-skip (l .inv .1) 11 (omega arith) (λ p h k. nothing (s .args .number) (s .args .sums .now) (s .args .at) p (omega arith) k)) refl (omega arith)
+    filled-all (filled-skip (l .inv .1) 11 (omega arith) (λ p h k. nothing (s .args .number) (s .args .sums .now) (s .args .at) p (omega arith) k))
+    refl (omega arith)
 
 pub row-from-spec : {M : Type 1} → statement M
 row-from-spec =

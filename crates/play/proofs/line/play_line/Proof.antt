@@ -40,7 +40,8 @@ sweep-requires c κs =
 returns-4 : tie.Need-returns-4
 returns-4 c =
     let t = c .before .before in
-    plays-as _ _ (found-sweep _ (t .before .before .before .if1 .left) (t .before .before .if2 .left) (t .before .if3 .left) (t .if4 .taken)) (c .sweep .ensures)
+    plays-as _ _ (found-sweep _ (t .before .before .before .if1 .left) (t .before .before .if2 .left) (t .before .if3 .left) (t .if4 .taken))
+    (c .sweep .ensures)
 
 loose-pair-requires : tie.Need-loose-pair-requires
 loose-pair-requires c κs =
@@ -51,7 +52,8 @@ loose-pair-requires c κs =
 returns-5 : tie.Need-returns-5
 returns-5 c =
     let t = c .before .before in
-    plays-as _ _ (found-pair _ (t .before .before .before .before .if1 .left) (t .before .before .before .if2 .left) (t .before .before .if3 .left) (t .before .if4 .left) (t .if5 .taken)) (c .loose-pair .ensures)
+    plays-as _ _ (found-pair _ (t .before .before .before .before .if1 .left) (t .before .before .before .if2 .left) (t .before .before .if3 .left)
+    (t .before .if4 .left) (t .if5 .taken)) (c .loose-pair .ensures)
 
 axis-requires : tie.Need-axis-requires
 axis-requires c κs =
@@ -62,12 +64,14 @@ axis-requires c κs =
 returns-6 : tie.Need-returns-6
 returns-6 c =
     let t = c .before .before in
-    plays-as _ _ (found-axis _ (t .before .before .before .before .before .if1 .left) (t .before .before .before .before .if2 .left) (t .before .before .before .if3 .left) (t .before .before .if4 .left) (t .before .if5 .left) (t .if6 .taken)) (c .axis .ensures)
+    plays-as _ _ (found-axis _ (t .before .before .before .before .before .if1 .left) (t .before .before .before .before .if2 .left)
+    (t .before .before .before .if3 .left) (t .before .before .if4 .left) (t .before .if5 .left) (t .if6 .taken)) (c .axis .ensures)
 
 returns-7 : tie.Need-returns-7
 returns-7 c =
     let t = c .before in
-    plays-as _ _ (found-other _ (t .before .before .before .before .before .if1 .left) (t .before .before .before .before .if2 .left) (t .before .before .before .if3 .left) (t .before .before .if4 .left) (t .before .if5 .left) (t .if6 .left)) (c .unknown2 .ensures)
+    plays-as _ _ (found-other _ (t .before .before .before .before .before .if1 .left) (t .before .before .before .before .if2 .left)
+    (t .before .before .before .if3 .left) (t .before .before .if4 .left) (t .before .if5 .left) (t .if6 .left)) (c .unknown2 .ensures)
 
 pub play-line-spec : {M : Type 1} → statement M
 play-line-spec =

@@ -41,12 +41,14 @@ returns c =
 returns-2 : tie.Need-returns-2 Inv-loop μ-loop
 returns-2 c =
     let z = c .before .before .before .before in
-    fits-all _ _ _ _ _ (z .step .ensures .is) (full z) (z .step .ensures .short) _ _ (z .before .loop .inv .3) (c .before .before .if1 .left) (not-true _ (c .if2 .taken))
+    fits-all _ _ _ _ _ (z .step .ensures .is) (full z) (z .step .ensures .short) _ _ (z .before .loop .inv .3) (c .before .before .if1 .left)
+    (not-true _ (c .if2 .taken))
 
 -- where there is more, it starts later
 onward : (c : tie.After-next Inv-loop μ-loop)
     → (c .before .before .before .before .before .before .loop .at < c .before .before .before .before .before .step .result .at)
-    × (c .before .before .before .before .before .step .result .at ≤ length (c .before .before .before .before .before .before .before .before .before .args .text .now))
+    × (c .before .before .before .before .before .step .result .at ≤ length
+    (c .before .before .before .before .before .before .before .before .before .args .text .now))
 onward c =
     let z = c .before .before .before .before .before in
     z .step .ensures .moves (not-false _ (c .before .if2 .left))
@@ -67,7 +69,8 @@ loop-again c =
       z .step .ensures .reaches more,
       m .1,
       omega (arith, z .before .loop .inv .2, m .0),
-      fits-on _ _ _ _ _ (z .step .ensures .is) (full z) (z .step .ensures .short) _ _ (z .before .loop .inv .3) (c .before .before .before .if1 .left) more,
+      fits-on _ _ _ _ _ (z .step .ensures .is) (full z) (z .step .ensures .short) _ _ (z .before .loop .inv .3)
+          (c .before .before .before .if1 .left) more,
     )
 
 pub fits-spec : {M : Type 1} → statement M

@@ -50,22 +50,27 @@ slice-aggregate-put-bytes c =
 put-bytes-requires : tie.Need-put-bytes-requires Inv-loop μ-loop
 put-bytes-requires c κs =
     let z = c .before .before .before .before in
-    room _ _ _ _ _ (z .step .ensures .is) (full z) (z .step .ensures .short) (z .before .loop .inv .0) (z .before .before .before .before .before .pre)
+    room _ _ _ _ _ (z .step .ensures .is) (full z) (z .step .ensures .short) (z .before .loop .inv .0)
+    (z .before .before .before .before .before .pre)
 
 returns : tie.Need-returns Inv-loop μ-loop
 returns c =
     let p = c .before .before .before .before in
     let z = p .before .before .before .before .before in
-    written-last _ _ _ _ _ (z .step .ensures .is) (full z) (z .step .ensures .short) (z .before .loop .inv .0) (p .put-bytes .ensures) (not-true _ (c .if1 .taken))
+    written-last _ _ _ _ _ (z .step .ensures .is) (full z) (z .step .ensures .short) (z .before .loop .inv .0) (p .put-bytes .ensures)
+    (not-true _ (c .if1 .taken))
 
 same-length : tie.Need-same-length Inv-loop μ-loop
 same-length c = same-size (returns c)
 
 -- where there is more, it starts later
 onward : (c : tie.After-next Inv-loop μ-loop)
-    → (c .before .before .before .before .before .before .before .before .before .before .before .loop .at < c .before .before .before .before .before .before .before .before .before .before .step .result .at)
-    × (c .before .before .before .before .before .before .before .before .before .before .step .result .at ≤ length (c .before .before .before .before .before .before .before .before .before .before .before .before .before .before .before .args .text .now))
-onward c = c .before .before .before .before .before .before .before .before .before .before .step .ensures .moves (not-false _ (c .before .if1 .left))
+    → (c .before .before .before .before .before .before .before .before .before .before .before .loop .at <
+    c .before .before .before .before .before .before .before .before .before .before .step .result .at)
+    × (c .before .before .before .before .before .before .before .before .before .before .step .result .at ≤ length
+    (c .before .before .before .before .before .before .before .before .before .before .before .before .before .before .before .args .text .now))
+onward c = c .before .before .before .before .before .before .before .before .before .before .step .ensures .moves
+    (not-false _ (c .before .if1 .left))
 
 add-k : tie.Need-add-k Inv-loop μ-loop
 add-k c =
@@ -81,7 +86,8 @@ loop-again c =
     let z = p .before .before .before .before .before in
     let m = onward c in
     let more = not-false _ (c .before .if1 .left) in (
-      written-more _ _ _ _ _ (z .step .ensures .is) (full z) (z .step .ensures .short) (z .before .loop .inv .0) (p .put-bytes .ensures) (z .step .ensures .reaches more .keeps) more,
+      written-more _ _ _ _ _ (z .step .ensures .is) (full z) (z .step .ensures .short) (z .before .loop .inv .0) (p .put-bytes .ensures)
+          (z .step .ensures .reaches more .keeps) more,
       m .1,
       omega (arith, z .before .loop .inv .2, m .0),
     )

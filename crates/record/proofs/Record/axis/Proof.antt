@@ -49,8 +49,12 @@ error-of-requires : tie.Need-error-of-requires
 error-of-requires c κs =
     let unpacked = c .before .before in
     let checked = unpacked .before .before .before in
-    let s = checked .before .before in
-    (omega (arith, names checked .first, names checked .last), s .pre .size, s .pre .turns, rw (unpacked .unpacked .ensures) (kept-small (s .args .t1) (s .pre)))
+    let s = checked .before .before in (
+      omega (arith, names checked .first, names checked .last),
+      s .pre .size,
+      s .pre .turns,
+      rw (unpacked .unpacked .ensures) (kept-small (s .args .t1) (s .pre)),
+    )
 
 returns-2 : tie.Need-returns-2
 unfolding refusalOf valueOf acceptedOf axisOf at
@@ -63,9 +67,11 @@ returns-2 c =
     let i = s .args .i - 1 in
     let e = checked .before .axis-refusal .ensures in
     let f : SFits w64 (getD (getD (unpacked .unpacked .result) i []) i (pos 0)) = search needs in
-    let entry : at (unpacked .unpacked .result) i i ≡ kept (r .a) i i = rw (unpacked .unpacked .ensures) (at-rowsOf (r .a) i i (place checked) (place checked)) in
+    let entry : at (unpacked .unpacked .result) i i ≡ kept (r .a) i i =
+    rw (unpacked .unpacked .ensures) (at-rowsOf (r .a) i i (place checked) (place checked)) in
     let error-is : error .error-of .result ≡ errorOf (r .n) (kept (r .a)) (r .m) i =
-    error .error-of .ensures ∙ rw (unpacked .unpacked .ensures) (same-error (r .n) _ _ (r .m) i (λ j l. at-rowsOf (r .a) i j (place checked) (omega (arith, l, s .pre .size)))) in
+    error .error-of .ensures ∙ rw (unpacked .unpacked .ensures)
+    (same-error (r .n) _ _ (r .m) i (λ j l. at-rowsOf (r .a) i j (place checked) (omega (arith, l, s .pre .size)))) in
     let done = accepted r (axis (s .args .i)) (s .pre) _ e _ r (checked .if1 .left) (λ k. Axis (word f entry k) (error-is k)) refl in
     record {
       answers = done .answers;

@@ -17,7 +17,8 @@ returns : tie.Need-returns
 unfolding refusalOf
 returns c =
     let s = c .before .before .before in
-    refuses (s .args .t1) (loosePair (s .args .t)) (s .pre) _ (c .before .before .loose-pair-refusal .ensures) _ (c .before .if1 .taken) (c .refuse .ensures)
+    refuses (s .args .t1) (loosePair (s .args .t)) (s .pre) _ (c .before .before .loose-pair-refusal .ensures) _ (c .before .if1 .taken)
+    (c .refuse .ensures)
 
 loose-pair-of-requires : tie.Need-loose-pair-of-requires
 loose-pair-of-requires c κs = c .before .before .before .before .before .before .pre .size
@@ -32,7 +33,8 @@ returns-2 c =
     accepted r (loosePair (s .args .t)) (s .pre) _ (checked .before .loose-pair-refusal .ensures) _ _ (checked .if1 .left)
     (c .loose-pair-of .ensures ∙
     rw (unpacked .unpacked .ensures)
-    (same-loose (r .n) _ _ (s .args .t) (cyclic (r .n)) (cyclic-pairs (r .n)) (λ i j h l. at-rowsOf (r .a) i j (omega (arith, h, s .pre .size)) (omega (arith, l, s .pre .size)))))
+    (same-loose (r .n) _ _ (s .args .t) (cyclic (r .n)) (cyclic-pairs (r .n))
+    (λ i j h l. at-rowsOf (r .a) i j (omega (arith, h, s .pre .size)) (omega (arith, l, s .pre .size)))))
     refl
 
 pub loose-pair-spec : {M : Type 1} → statement M

@@ -52,7 +52,8 @@ least : tie.Need-sub-t16
 unfolding workOf
 least c =
     let u = c .before .before .before in
-    rw (← (c .work-pairs .ensures ∙ ap (λ w. workPairs (r u .n) w (cyclic (r u .n))) (rows u))) at (works-least (r u .n) (workOf (r u)) (cyclic (r u .n)))
+    rw (← (c .work-pairs .ensures ∙ ap (λ w. workPairs (r u .n) w (cyclic (r u .n))) (rows u))) at
+    (works-least (r u .n) (workOf (r u)) (cyclic (r u .n)))
 
 returns-2 : tie.Need-returns-2
 unfolding valueOf acceptedOf sweptOf workedOf

@@ -20,7 +20,8 @@ use Rattle.record.proofs.Record.turn.Tie as tie
 returns : tie.Need-returns
 returns c =
     let s = c .before .before .before in
-    refuses (s .args .t1) (turn (s .args .p) (s .args .q)) (s .pre) _ (c .before .before .turn-refusal .ensures) _ (c .before .if1 .taken) (c .refuse .ensures)
+    refuses (s .args .t1) (turn (s .args .p) (s .args .q)) (s .pre) _ (c .before .before .turn-refusal .ensures) _ (c .before .if1 .taken)
+    (c .refuse .ensures)
 
 -- what the passed checks tell
 turns : (c : tie.Else1) → (let s = c .before .before .args in Turns (s .t1 .n) (s .t1 .m) (s .p) (s .q))

@@ -17,4 +17,5 @@ pub load-spec : {M : Type 1} → statement M
 unfolding code.routine
 load-spec 𝓤 H 𝓜 𝓖 𝓡 =
     lent-spec step (word ∷ numbers ∷ []) (λ κs a r answer next. Done r (load (a .0) (now (a .1 .0))) answer next)
-    𝓤 H 𝓜 𝓖 𝓡 code.env name code.function by-value.name by-value.routine (code.unfolded 𝓤 H 𝓜 𝓡) code.calls-record·Record·load (λ κs a are. refl) (met 𝓤 H 𝓜 𝓖 𝓡)
+    𝓤 H 𝓜 𝓖 𝓡 code.env name code.function by-value.name by-value.routine (code.unfolded 𝓤 H 𝓜 𝓡) code.calls-record·Record·load (λ κs a are. refl)
+    (met 𝓤 H 𝓜 𝓖 𝓡)

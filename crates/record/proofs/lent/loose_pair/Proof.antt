@@ -16,4 +16,5 @@ pub loose-pair-spec : {M : Type 1} → statement M
 unfolding code.routine
 loose-pair-spec 𝓤 H 𝓜 𝓖 𝓡 =
     lent-spec step (word ∷ []) (λ κs a r answer next. Done r (loosePair (a .0)) answer next)
-    𝓤 H 𝓜 𝓖 𝓡 code.env name code.function by-value.name by-value.routine (code.unfolded 𝓤 H 𝓜 𝓡) code.calls-record·Record·loose-pair (λ κs a are. refl) (met 𝓤 H 𝓜 𝓖 𝓡)
+    𝓤 H 𝓜 𝓖 𝓡 code.env name code.function by-value.name by-value.routine (code.unfolded 𝓤 H 𝓜 𝓡) code.calls-record·Record·loose-pair
+    (λ κs a are. refl) (met 𝓤 H 𝓜 𝓖 𝓡)

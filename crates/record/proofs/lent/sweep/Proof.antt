@@ -15,4 +15,5 @@ pub sweep-spec : {M : Type 1} → statement M
 unfolding code.routine
 sweep-spec 𝓤 H 𝓜 𝓖 𝓡 =
     lent-spec step [] (λ κs a r answer next. Done r sweep answer next)
-    𝓤 H 𝓜 𝓖 𝓡 code.env name code.function by-value.name by-value.routine (code.unfolded 𝓤 H 𝓜 𝓡) code.calls-record·Record·sweep (λ κs a are. refl) (met 𝓤 H 𝓜 𝓖 𝓡)
+    𝓤 H 𝓜 𝓖 𝓡 code.env name code.function by-value.name by-value.routine (code.unfolded 𝓤 H 𝓜 𝓡) code.calls-record·Record·sweep (λ κs a are. refl)
+    (met 𝓤 H 𝓜 𝓖 𝓡)

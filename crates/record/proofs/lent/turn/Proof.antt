@@ -16,4 +16,5 @@ pub turn-spec : {M : Type 1} → statement M
 unfolding code.routine
 turn-spec 𝓤 H 𝓜 𝓖 𝓡 =
     lent-spec step (word ∷ word ∷ []) (λ κs a r answer next. Done r (turn (a .0) (a .1 .0)) answer next)
-    𝓤 H 𝓜 𝓖 𝓡 code.env name code.function by-value.name by-value.routine (code.unfolded 𝓤 H 𝓜 𝓡) code.calls-record·Record·turn (λ κs a are. refl) (met 𝓤 H 𝓜 𝓖 𝓡)
+    𝓤 H 𝓜 𝓖 𝓡 code.env name code.function by-value.name by-value.routine (code.unfolded 𝓤 H 𝓜 𝓡) code.calls-record·Record·turn (λ κs a are. refl)
+    (met 𝓤 H 𝓜 𝓖 𝓡)

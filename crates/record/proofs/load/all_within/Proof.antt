@@ -24,7 +24,8 @@ abbrev μ-loop : tie.MeasureT-loop
 
 -- what the number at k is found to be
 module _ (c : tie.After-is-within Inv-loop μ-loop) where
-  tested : c .is-within .result ≡ leb (natAbs (getD (c .before .before .before .before .args .numbers .now) (c .before .before .before .loop .k) (pos 0))) entryLimit
+  tested : c .is-within .result ≡ leb
+      (natAbs (getD (c .before .before .before .before .args .numbers .now) (c .before .before .before .loop .k) (pos 0))) entryLimit
   tested = c .is-within .ensures ∙ rw (toZ-ofZ fits)
     where
       fits : SFits w64 (getD (c .before .before .before .before .args .numbers .now) (c .before .before .before .loop .k) (pos 0))

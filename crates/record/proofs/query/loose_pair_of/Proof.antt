@@ -42,7 +42,11 @@ module _ (c : tie.After-entry-size Inv-loop2 μ-loop2 Inv-loop μ-loop) where
   abbrev s : tie.Start Inv-loop2 μ-loop2 Inv-loop μ-loop
   s = c .before .before .before .before .before
 
-  from-row : looseOf (at (s .args .a .now)) (s .args .t) (pairsLeft (s .args .n) (c .before .before .before .before .loop .p) (c .before .before .before .before .loop .p + 1)) ≡ looseOf (at (s .args .a .now)) (s .args .t) (record { p = c .before .before .before .before .loop .p; q = c .before .before .loop2 .q } ∷ pairsLeft (s .args .n) (c .before .before .before .before .loop .p) (c .before .before .loop2 .q + 1))
+  from-row : looseOf (at (s .args .a .now)) (s .args .t)
+      (pairsLeft (s .args .n) (c .before .before .before .before .loop .p) (c .before .before .before .before .loop .p + 1)) ≡ looseOf
+      (at (s .args .a .now)) (s .args .t)
+      (record { p = c .before .before .before .before .loop .p; q = c .before .before .loop2 .q } ∷ pairsLeft (s .args .n)
+      (c .before .before .before .before .loop .p) (c .before .before .loop2 .q + 1))
   from-row = c .before .before .loop2 .inv .2 ∙ ap (looseOf _ _) (pair-next _ _ _ (c .before .loop2-test .taken))
 
 returns : tie.Need-returns Inv-loop2 μ-loop2 Inv-loop μ-loop
@@ -65,7 +69,8 @@ loop-again : tie.Need-loop-again Inv-loop2 μ-loop2 Inv-loop μ-loop
 loop-again c =
     let h = c .before .before .loop-test .taken in (
       omega (arith, h),
-      c .before .before .before .loop .inv .1 ∙ ap (looseOf _ _) (row-begins _ _ h) ∙ c .before .loop2 .inv .2 ∙ ap (looseOf _ _) (row-ends _ _ _ (c .loop2-test .left)),
+      c .before .before .before .loop .inv .1 ∙ ap (looseOf _ _) (row-begins _ _ h) ∙ c .before .loop2 .inv .2
+          ∙ ap (looseOf _ _) (row-ends _ _ _ (c .loop2-test .left)),
     )
 
 returns-2 : tie.Need-returns-2 Inv-loop2 μ-loop2 Inv-loop μ-loop

@@ -56,7 +56,8 @@ turn-axes-in-place-requires : tie.Need-turn-axes-in-place-requires
 unfolding chosen
 turn-axes-in-place-requires c κs =
     let s = c .before .before .before .before .before .before .before .before .before in
-    let chose = sym (c .before .before .before .before .before .before .before .choice-at .ensures) ∙ c .before .before .before .before .before .l .given .1 in
+    let chose = sym (c .before .before .before .before .before .before .before .choice-at .ensures)
+    ∙ c .before .before .before .before .before .l .given .1 in
     let range = l-range (s .args .n) (work s) (pair s) _ _ chose in (
       s .pre .0,
       s .pre .1,
@@ -70,7 +71,8 @@ returns-2 : tie.Need-returns-2
 unfolding chosen workBy
 returns-2 c =
     let s = c .before .before .before .before .before .before .before .before .before .before in
-    let chose = sym (c .before .before .before .before .before .before .before .before .choice-at .ensures) ∙ c .before .before .before .before .before .before .l .given .1 in
+    let chose = sym (c .before .before .before .before .before .before .before .before .choice-at .ensures)
+    ∙ c .before .before .before .before .before .before .l .given .1 in
     rw (
       turned-by (s .args .n) (work s) (pair s) _ _ chose,
       c .before .before .turn-matrix-in-place .ensures,

@@ -59,7 +59,9 @@ loop2-again c =
     let h = c .before .before .before .loop2-test .taken in (
       omega (arith, inner .inv .0),
       omega (arith, h),
-      one-more (s .args .n) _ _ _ _ _ _ (rw (pair-next (s .args .n) (c .before .before .before .before .before .before .loop .p) (inner .q) h) at (inner .inv .2)) (c .work-pair .ensures) (inner .inv .0) h (s .pre .0),
+      one-more (s .args .n) _ _ _ _ _ _
+          (rw (pair-next (s .args .n) (c .before .before .before .before .before .before .loop .p) (inner .q) h) at (inner .inv .2))
+          (c .work-pair .ensures) (inner .inv .0) h (s .pre .0),
     )
 
 loop-again : tie.Need-loop-again Inv-loop2 μ-loop2 Inv-loop μ-loop
@@ -68,7 +70,8 @@ loop-again c =
     let l = c .before .before .before .loop in
     let h = c .before .before .loop-test .taken in (
       omega (arith, h),
-      then (rw (row-begins (s .args .n) (l .p) h) at (l .inv .1)) (rw (row-ends (s .args .n) (l .p) (c .before .loop2 .q) (c .loop2-test .left)) at (c .before .loop2 .inv .2)),
+      then (rw (row-begins (s .args .n) (l .p) h) at (l .inv .1))
+          (rw (row-ends (s .args .n) (l .p) (c .before .loop2 .q) (c .loop2-test .left)) at (c .before .loop2 .inv .2)),
     )
 
 returns : tie.Need-returns Inv-loop2 μ-loop2 Inv-loop μ-loop

@@ -28,19 +28,22 @@ returns : tie.Need-returns
 unfolding outcomeWord
 returns c =
     let s = c .before .before .before .before .before .before .before .before in
-    rw (c .before .before .before .before .before .enum-told .given .1) (rw (take-length (s .args .head .now)) at (c .before .before .put-word-line .ensures))
+    rw (c .before .before .before .before .before .enum-told .given .1)
+    (rw (take-length (s .args .head .now)) at (c .before .before .put-word-line .ensures))
 
 returns-2 : tie.Need-returns-2
 unfolding outcomeWord
 returns-2 c =
     let s = c .before .before .before .before .before .before .before .before in
-    rw (c .before .before .before .before .before .enum-told2 .given .1) (rw (take-length (s .args .head .now)) at (c .before .before .put-word-line2 .ensures))
+    rw (c .before .before .before .before .before .enum-told2 .given .1)
+    (rw (take-length (s .args .head .now)) at (c .before .before .put-word-line2 .ensures))
 
 returns-3 : tie.Need-returns-3
 unfolding outcomeWord
 returns-3 c =
     let s = c .before .before .before .before .before .before .before .before in
-    rw (c .before .before .before .before .before .enum-told3 .given .1) (rw (take-length (s .args .head .now)) at (c .before .before .put-word-line3 .ensures))
+    rw (c .before .before .before .before .before .enum-told3 .given .1)
+    (rw (take-length (s .args .head .now)) at (c .before .before .put-word-line3 .ensures))
 
 pub put-head-spec : {M : Type 1} → statement M
 put-head-spec =

@@ -13,7 +13,8 @@ use Rattle.report.proofs.Written.{text-size}
 use Rattle.report.proofs.lines.put_text.Statement.{statement}
 use Rattle.report.proofs.lines.put_text.Tie as tie
 
-sized : (c : tie.Start) → length (wordLine 82 (c .args .head .now) (outcomeWord (c .args .outcome))) + length (lines (rowLine 65 (c .args .n + 3) (c .args .axes .now)) (c .args .n)) ≤ length (c .args .buf .now)
+sized : (c : tie.Start) → length (wordLine 82 (c .args .head .now) (outcomeWord (c .args .outcome))) + length
+    (lines (rowLine 65 (c .args .n + 3) (c .args .axes .now)) (c .args .n)) ≤ length (c .args .buf .now)
 sized c = rw (text-size (c .args .head .now) (c .args .outcome) (c .args .axes .now) (c .args .n)) at (c .pre .2)
 
 put-rows-requires : tie.Need-put-rows-requires

@@ -14,9 +14,17 @@ use Rattle.report.proofs.lines.text_length.Tie as tie
 
 -- The R line has at most 115 bytes.
 few : (c : tie.After-word-length) → c .before .numbers-length .result + c .word-length .result + 3 ≤ 115
-few c = omega (arith, c .before .numbers-length .ensures .bounded, c .word-length .ensures, word-few (c .before .before .args .outcome), c .before .before .pre .0)
+few c = omega (
+  arith,
+  c .before .numbers-length .ensures .bounded,
+  c .word-length .ensures,
+  word-few (c .before .before .args .outcome),
+  c .before .before .pre .0,
+)
 
-first : (c : tie.After-word-length) → (let s = c .before .before in length (wordLine 82 (s .args .head .now) (outcomeWord (s .args .outcome))) ≡ c .before .numbers-length .result + c .word-length .result + 3)
+first : (c : tie.After-word-length) →
+    (let s = c .before .before in length (wordLine 82 (s .args .head .now) (outcomeWord (s .args .outcome))) ≡ c .before .numbers-length .result +
+    c .word-length .result + 3)
 first c = rw (length-word-line, c .word-length .ensures, c .before .numbers-length .ensures .exact, take-length (c .before .before .args .head .now))
 
 returns : tie.Need-returns
@@ -24,7 +32,8 @@ returns c =
     let s = c .before .before .before in
     let rows = c .rows-length .ensures in
     record {
-      exact = rw (text-size (s .args .head .now) (s .args .outcome) (s .args .axes .now) (s .args .n), first (c .before)) (omega (arith, rows .exact 65));
+      exact = rw (text-size (s .args .head .now) (s .args .outcome) (s .args .axes .now) (s .args .n), first (c .before))
+          (omega (arith, rows .exact 65));
       bounded = omega (arith, few (c .before), rows .bounded, s .pre .1);
     }
 

@@ -44,7 +44,8 @@ small c =
     let s = c .before .before .before in
     let i = c .before .before .loop .i in
     let l = c .before .loop-test .taken in
-    rw (c .error-of .ensures, ← error-held _ _ _ _ (s .pre) i l) (error-small (heldOf (s .args .n) (s .args .m) (s .args .matrix .now) (s .args .axes .now)) i l (s .pre .keeps))
+    rw (c .error-of .ensures, ← error-held _ _ _ _ (s .pre) i l)
+    (error-small (heldOf (s .args .n) (s .args .m) (s .args .matrix .now) (s .args .axes .now)) i l (s .pre .keeps))
 
 loop-again : tie.Need-loop-again Inv-loop μ-loop
 unfolding at

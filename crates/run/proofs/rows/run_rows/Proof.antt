@@ -24,20 +24,28 @@ is-settled-requires c κs = c .before .loop .inv .holds .keeps .size
 returns : tie.Need-returns Inv-loop μ-loop
 returns c =
     let l = c .before .before .before in
-    let given = l .before .pre in
-    (settles _ _ _ (given .0) (given .1) (given .2) _ _ _ _ _ _ (l .loop .inv) _ (c .before .is-settled .ensures) (c .if1 .taken), l .loop .inv .holds)
+    let given = l .before .pre in (
+      settles _ _ _ (given .0) (given .1) (given .2) _ _ _ _ _ _ (l .loop .inv) _ (c .before .is-settled .ensures) (c .if1 .taken),
+      l .loop .inv .holds,
+    )
 
 returns-2 : tie.Need-returns-2 Inv-loop μ-loop
 returns-2 c =
     let l = c .before .before .before .before in
-    let given = l .before .pre in
-    (is-still _ _ _ (given .0) (given .1) (given .2) _ _ _ _ _ _ (l .loop .inv) _ (c .before .before .is-settled .ensures) (c .before .if1 .left) (c .if2 .taken), l .loop .inv .holds)
+    let given = l .before .pre in (
+      is-still _ _ _ (given .0) (given .1) (given .2) _ _ _ _ _ _ (l .loop .inv) _ (c .before .before .is-settled .ensures) (c .before .if1 .left)
+          (c .if2 .taken),
+      l .loop .inv .holds,
+    )
 
 returns-3 : tie.Need-returns-3 Inv-loop μ-loop
 returns-3 c =
     let l = c .before .before .before .before .before in
-    let given = l .before .pre in
-    (is-spent _ _ _ (given .0) (given .1) (given .2) _ _ _ _ _ _ (l .loop .inv) _ (c .before .before .before .is-settled .ensures) (c .before .before .if1 .left) (c .before .if2 .left) (c .if3 .taken), l .loop .inv .holds)
+    let given = l .before .pre in (
+      is-spent _ _ _ (given .0) (given .1) (given .2) _ _ _ _ _ _ (l .loop .inv) _ (c .before .before .before .is-settled .ensures)
+          (c .before .before .if1 .left) (c .before .if2 .left) (c .if3 .taken),
+      l .loop .inv .holds,
+    )
 
 work-pairs-requires : tie.Need-work-pairs-requires Inv-loop μ-loop
 work-pairs-requires c κs =
@@ -49,7 +57,8 @@ loop-again c =
     let swept = c .before .before .before in
     let l = swept .before .before .before .before .before in
     let given = l .before .pre in
-    sweeps-on _ _ _ (given .0) (given .1) (given .2) _ _ _ _ _ _ (l .loop .inv) _ (swept .before .before .before .is-settled .ensures) (swept .before .before .if1 .left) (swept .before .if2 .left) (swept .if3 .left) _ _ _ (c .work-pairs .ensures)
+    sweeps-on _ _ _ (given .0) (given .1) (given .2) _ _ _ _ _ _ (l .loop .inv) _ (swept .before .before .before .is-settled .ensures)
+    (swept .before .before .if1 .left) (swept .before .if2 .left) (swept .if3 .left) _ _ _ (c .work-pairs .ensures)
 
 pub run-rows-spec : {M : Type 1} → statement M
 run-rows-spec =

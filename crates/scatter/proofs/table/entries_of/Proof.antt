@@ -32,14 +32,18 @@ loop-again : tie.Need-loop-again Inv-loop μ-loop
 loop-again c =
     let a = c .before .before .before .before in
     let l = c .before .before .before .loop in
-    let h : l .p < 64 = omega (arith, a .pre .1 .most) in
-    (search needs, filled-more (l .inv .1) (l .p) (l .p + 1) _ refl (omega arith) (omega (arith, l .inv .1 .size)) (rounded (a .args .s .now) (a .pre .0) (a .args .e) (a .pre .2) (l .p) _ (c .nearest .ensures) h))
+    let h : l .p < 64 = omega (arith, a .pre .1 .most) in (
+      search needs,
+      filled-more (l .inv .1) (l .p) (l .p + 1) _ refl (omega arith) (omega (arith, l .inv .1 .size))
+          (rounded (a .args .s .now) (a .pre .0) (a .args .e) (a .pre .2) (l .p) _ (c .nearest .ensures) h),
+    )
 
 returns : tie.Need-returns Inv-loop μ-loop
 returns c =
     let a = c .before .before in
     filled-all
-    (filled-skip (c .before .loop .inv .1) 64 (omega (arith, a .pre .1 .most)) (λ p h b. rounded-zero (a .args .s .now) (a .args .e) p (a .pre .1 .zero p (omega arith)) b))
+    (filled-skip (c .before .loop .inv .1) 64 (omega (arith, a .pre .1 .most))
+    (λ p h b. rounded-zero (a .args .s .now) (a .args .e) p (a .pre .1 .zero p (omega arith)) b))
     (length-tabulate 64 _)
     (omega arith)
 

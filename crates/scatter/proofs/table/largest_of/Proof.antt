@@ -29,21 +29,26 @@ loop-holds : tie.Need-loop-holds Inv-loop μ-loop
 loop-holds c = (search needs, search needs, λ q h. absurd (omega arith))
 
 -- Where the arms meet: m is at least what it was and the size that was read, and at most the greatest.
-met : (c : tie.Joined1 Inv-loop μ-loop) → (c .before .before .before .before .loop .m ≤ c .if1 .m) × (natAbs (getD (c .before .before .before .before .before .args .s .now) (c .before .before .before .before .loop .p) (pos 0)) ≤ c .if1 .m) × (c .if1 .m ≤ largest (c .before .before .before .before .before .args .s .now))
+met : (c : tie.Joined1 Inv-loop μ-loop) →
+    (c .before .before .before .before .loop .m ≤ c .if1 .m) ×
+    (natAbs (getD (c .before .before .before .before .before .args .s .now) (c .before .before .before .before .loop .p) (pos 0)) ≤ c .if1 .m) ×
+    (c .if1 .m ≤ largest (c .before .before .before .before .before .args .s .now))
 met c =
     let s = c .before .before .before .before .before .args .s .now in
     let p = c .before .before .before .before .loop .p in
     let f : SFits w64 (getD s p (pos 0)) = search needs in
     let a : c .before .magnitude .result ≡ natAbs (getD s p (pos 0)) = c .before .magnitude .ensures ∙ ap natAbs (toZ-ofZ f) in
     let b : natAbs (getD s p (pos 0)) ≤ largest s = largest-bounds s p in
-    ⊎-elim (λ w. (omega (arith, w .0 .taken, w .1), omega (arith, w .1), omega (arith, w .1))) (λ w. (omega (arith, w .1), omega (arith, w .0 .left, w .1), omega (arith, w .1))) (c .if1 .came)
+    ⊎-elim (λ w. (omega (arith, w .0 .taken, w .1), omega (arith, w .1), omega (arith, w .1)))
+    (λ w. (omega (arith, w .1), omega (arith, w .0 .left, w .1), omega (arith, w .1))) (c .if1 .came)
 
 loop-again : tie.Need-loop-again Inv-loop μ-loop
 loop-again c =
     (search needs, met c .2, below-more _ _ (λ q h. le-trans (c .before .before .before .before .loop .inv .2 q h) (met c .0)) (met c .1))
 
 -- From `size` on there are zeros, and they are above nothing.
-all-sizes : (s : List ℤ) {size m : ℕ} → ZeroFrom size s → ((p : ℕ) → p < size → natAbs (getD s p (pos 0)) ≤ m) → (p : ℕ) → p < length s → natAbs (getD s p (pos 0)) ≤ m
+all-sizes : (s : List ℤ) {size m : ℕ} → ZeroFrom size s → ((p : ℕ) → p < size → natAbs (getD s p (pos 0)) ≤ m) → (p : ℕ) → p < length s →
+    natAbs (getD s p (pos 0)) ≤ m
 all-sizes s {size} {m} z f p h = by (decLt p size)
   where
     by : Dec (p < size) → natAbs (getD s p (pos 0)) ≤ m

@@ -36,14 +36,17 @@ difference-requires : tie.Need-difference-requires Inv-loop2 μ-loop2 Inv-loop �
 difference-requires c κs =
     let a = c .before .before .before .before .before .before .before .before in
     let i = c .before .before .before .before .before .before .before .loop .i in
-    let j = c .before .before .before .before .before .loop2 .j in
-    (omega (arith, number-times-cross (a .args .t2) (a .pre .1) (c .before .before .before .place-of .result)), omega (arith, channel-times-channel (a .args .t2) (a .pre .1) i j))
+    let j = c .before .before .before .before .before .loop2 .j in (
+      omega (arith, number-times-cross (a .args .t2) (a .pre .1) (c .before .before .before .place-of .result)),
+      omega (arith, channel-times-channel (a .args .t2) (a .pre .1) i j),
+    )
 
 -- a place of the table
 room : (c : tie.In-loop2 Inv-loop2 μ-loop2 Inv-loop μ-loop) → c .before .loop2 .at < 64
 room c =
     let a = c .before .before .before .before in
-    rw (c .before .loop2 .inv .1) (place-below (a .args .n) (c .before .before .before .loop .i) (c .before .loop2 .j) (a .pre .0) (c .before .before .loop-test .taken) (c .loop2-test .taken))
+    rw (c .before .loop2 .inv .1) (place-below (a .args .n) (c .before .before .before .loop .i) (c .before .loop2 .j) (a .pre .0)
+    (c .before .before .loop-test .taken) (c .loop2-test .taken))
 
 loop2-again : tie.Need-loop2-again Inv-loop2 μ-loop2 Inv-loop μ-loop
 loop2-again c =
@@ -53,7 +56,8 @@ loop2-again c =
       search needs,
       omega arith,
       filled-more (l .inv .2) (l .at) (l .at + 1) _ refl (omega arith) (omega (arith, room t, l .inv .2 .size))
-          (S-stored (a .args .n) (a .args .t2) (a .pre .1) (a .pre .0) _ _ (t .before .before .loop-test .taken) (t .loop2-test .taken) _ _ _ (c .difference .ensures) (c .before .before .before .before .place-of .ensures) (l .inv .1)),
+          (S-stored (a .args .n) (a .args .t2) (a .pre .1) (a .pre .0) _ _ (t .before .before .loop-test .taken) (t .loop2-test .taken) _ _ _
+          (c .difference .ensures) (c .before .before .before .before .place-of .ensures) (l .inv .1)),
     )
 
 next-row : (n i j at : ℕ) → at ≡ i * n + j → j ≡ n → at ≡ (i + 1) * n

@@ -27,14 +27,16 @@ entries-of-requires c κs =
     let a = s .before in (
       scatter-small (a .args .n) (a .args .t) (a .pre .0) (a .pre .1) (s .scatter-of .ensures),
       zero-from (a .args .n) (a .args .t) (a .pre .0) (a .pre .1) (s .scatter-of .ensures),
-      shift-below (a .args .n) (a .args .t) (a .pre .0) (a .pre .1) (s .scatter-of .ensures) (c .before .before .largest-of .ensures) (c .before .shift-of .ensures),
+      shift-below (a .args .n) (a .args .t) (a .pre .0) (a .pre .1) (s .scatter-of .ensures) (c .before .before .largest-of .ensures)
+          (c .before .shift-of .ensures),
     )
 
 returns : tie.Need-returns
 returns c =
     let s = c .before .before .before .before .before in
     let a = s .before in
-    assembled (a .args .n) (a .args .t) (a .pre .0) (a .pre .1) (s .scatter-of .ensures) (c .before .before .before .largest-of .ensures) (c .before .before .shift-of .ensures) _
+    assembled (a .args .n) (a .args .t) (a .pre .0) (a .pre .1) (s .scatter-of .ensures) (c .before .before .before .largest-of .ensures)
+    (c .before .before .shift-of .ensures) _
     (c .entries-of .ensures)
 
 pub table-of-spec : {M : Type 1} → statement M

@@ -10,9 +10,12 @@ use Rattle.test_turns.proofs.generator.row.Tie as tie
 returns : tie.Need-returns
 unfolding rowOf eight
 returns c i =
-    word {x = c .before .before .before .before .before .before .before .value .result} (search needs) (c .before .before .before .before .before .before .before .value .ensures .0) i ∷
-    word {x = c .before .before .before .before .before .before .value2 .result} (search needs) (c .before .before .before .before .before .before .value2 .ensures .0) i ∷
-    word {x = c .before .before .before .before .before .value3 .result} (search needs) (c .before .before .before .before .before .value3 .ensures .0) i ∷
+    word {x = c .before .before .before .before .before .before .before .value .result} (search needs)
+    (c .before .before .before .before .before .before .before .value .ensures .0) i ∷
+    word {x = c .before .before .before .before .before .before .value2 .result} (search needs)
+    (c .before .before .before .before .before .before .value2 .ensures .0) i ∷
+    word {x = c .before .before .before .before .before .value3 .result} (search needs)
+    (c .before .before .before .before .before .value3 .ensures .0) i ∷
     word {x = c .before .before .before .before .value4 .result} (search needs) (c .before .before .before .before .value4 .ensures .0) i ∷
     word {x = c .before .before .before .value5 .result} (search needs) (c .before .before .before .value5 .ensures .0) i ∷
     word {x = c .before .before .value6 .result} (search needs) (c .before .before .value6 .ensures .0) i ∷

@@ -6,13 +6,24 @@ use Rattle.test_turns.proofs.lines.turned.Tie as tie
 
 turn-matrix-requires : tie.Need-turn-matrix-requires
 turn-matrix-requires c κs =
-    let s = c .before .before in
-    (search needs, search needs, search needs, rw (c .before .of .ensures) (rotationOf-turns _ _ (s .pre .4) (s .pre .5)), c .matrix .ensures .1, c .matrix .ensures .2)
+    let s = c .before .before in (
+      search needs,
+      search needs,
+      search needs,
+      rw (c .before .of .ensures) (rotationOf-turns _ _ (s .pre .4) (s .pre .5)),
+      c .matrix .ensures .1,
+      c .matrix .ensures .2,
+    )
 
 turn-axes-requires : tie.Need-turn-axes-requires
 turn-axes-requires c κs =
-    let s = c .before .before .before .before in
-    (search needs, search needs, search needs, rw (c .before .before .before .of .ensures) (rotationOf-turns _ _ (s .pre .4) (s .pre .5)), c .axes .ensures .1)
+    let s = c .before .before .before .before in (
+      search needs,
+      search needs,
+      search needs,
+      rw (c .before .before .before .of .ensures) (rotationOf-turns _ _ (s .pre .4) (s .pre .5)),
+      c .axes .ensures .1,
+    )
 
 pub turned-spec : {M : Type 1} → statement M
 turned-spec =

@@ -25,7 +25,8 @@ loop-holds c = (omega arith, refl, omega arith)
 
 -- The length of number i, which is passed by its bits.
 one : (c : tie.After-number-length Inv-loop μ-loop)
-    → c .number-length .result ≡ length (number (getD (c .before .before .before .before .args .values .now) (c .before .before .before .loop .i) (pos 0)))
+    → c .number-length .result ≡ length
+    (number (getD (c .before .before .before .before .args .values .now) (c .before .before .before .loop .i) (pos 0)))
 one c = rw (toZ-ofZ {w = w64} (record { sfits = c .before .number-length-arg .given })) at (c .number-length .ensures .exact)
 
 add-total-2 : tie.Need-add-total-2 Inv-loop μ-loop

@@ -27,11 +27,18 @@ loop-holds c = (omega arith, put-nothing (c .before .args .at) (c .before .args 
 
 -- There is room for number i and its tab.
 room : (c : tie.In-loop Inv-loop μ-loop)
-    → c .before .loop .next + 1 + length (number (getD (c .before .before .before .args .values .now) (c .before .loop .i) (pos 0))) ≤ length (c .before .loop .buf)
+    → c .before .loop .next + 1 + length (number (getD (c .before .before .before .args .values .now) (c .before .loop .i) (pos 0))) ≤ length
+    (c .before .loop .buf)
 room c =
     let p = c .before .loop .inv .1 in
     let a = c .before .before .before .args in
-    omega (arith, same-size p, p .answer, number-within (a .values .now) (c .before .loop .i) (a .n) (omega arith) (omega arith), c .before .before .before .pre)
+    omega (
+      arith,
+      same-size p,
+      p .answer,
+      number-within (a .values .now) (c .before .loop .i) (a .n) (omega arith) (omega arith),
+      c .before .before .before .pre,
+    )
 
 put-byte-requires : tie.Need-put-byte-requires Inv-loop μ-loop
 put-byte-requires c κs = omega (arith, room (c .before))

@@ -48,7 +48,8 @@ put-byte-requires-3 c κs =
 put-natural-requires-2 : tie.Need-put-natural-requires-2
 put-natural-requires-2 c κs =
     let tab = c .before .before .before in
-    let s = c .before .before .before .before .before .before .before .before .before .before .before .before .before .before .before .before .before .before in
+    let s = c .before .before .before .before .before .before .before .before .before .before .before .before .before .before .before .before
+    .before .before in
     omega (arith, numbered tab .0, numbered tab .1, line-length s)
 
 put-byte-requires-4 : tie.Need-put-byte-requires-4

@@ -22,7 +22,9 @@ put-numbers-requires c κs =
     (start .pre .0, omega (arith, sized start, tag .put-byte .ensures .answer, tag .put-byte .kept))
 
 -- The room that is left after the numbers.
-after-numbers : (c : tie.After-put-numbers) → c .put-numbers .result + length (c .before .before .before .before .before .before .before .before .args .word .now) + 2 ≤ length (c .put-numbers .last .0)
+after-numbers : (c : tie.After-put-numbers) →
+    c .put-numbers .result + length (c .before .before .before .before .before .before .before .before .args .word .now) + 2 ≤ length
+    (c .put-numbers .last .0)
 after-numbers c =
     let tag = c .before .before .before .before in
     omega (

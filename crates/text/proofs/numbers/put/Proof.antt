@@ -28,7 +28,8 @@ loop-again c =
     let a = c .before .before .before .args in
     let f : SFits w64 (getD (a .values .now) (l .i) (pos 0)) = search needs in (
       omega arith,
-      rw (toZ-ofZ f) (one-more (a .out .now) (a .at) (a .values .now) (l .i) (pos 0) (l .inv .1) (c .before .loop-test .taken) (c .before .before .before .pre)),
+      rw (toZ-ofZ f) (one-more (a .out .now) (a .at) (a .values .now) (l .i) (pos 0) (l .inv .1) (c .before .loop-test .taken)
+          (c .before .before .before .pre)),
       rw length-set (l .inv .2),
     )
 

@@ -36,7 +36,14 @@ put-line-requires c κs =
     let start = l .before .before .before in
     let p = l .before .loop .inv .1 in (
       omega (arith, wide l, start .pre .1),
-      omega (arith, line-within (rowLine (start .args .tag) (start .args .width) (start .args .rows .now)) (start .args .n) (l .before .loop .i) (l .loop-test .taken), p .answer, part-size p, start .pre .3),
+      omega (
+        arith,
+        line-within (rowLine (start .args .tag) (start .args .width) (start .args .rows .now)) (start .args .n) (l .before .loop .i)
+            (l .loop-test .taken),
+        p .answer,
+        part-size p,
+        start .pre .3,
+      ),
     )
 
 add-at : tie.Need-add-at Inv-loop μ-loop
@@ -46,8 +53,10 @@ add-at c =
 
 loop-again : tie.Need-loop-again Inv-loop μ-loop
 loop-again c =
-    let l = c .before .before .before .before .before .before in
-    (omega (arith, l .loop-test .taken), rw (lines-more (rowLine _ _ _) (l .before .loop .i)) (put-part (l .before .loop .inv .1) (c .before .before .put-line .ensures)))
+    let l = c .before .before .before .before .before .before in (
+      omega (arith, l .loop-test .taken),
+      rw (lines-more (rowLine _ _ _) (l .before .loop .i)) (put-part (l .before .loop .inv .1) (c .before .before .put-line .ensures)),
+    )
 
 same-length : tie.Need-same-length Inv-loop μ-loop
 same-length c = same-size (c .before .loop .inv .1)

@@ -19,7 +19,8 @@ Inv-loop rows n width total₀ i₀ total i =
 abbrev μ-loop : tie.MeasureT-loop
 μ-loop rows n width total₀ i₀ total i = n - i
 
-wide : (c : tie.After-row2 Inv-loop μ-loop) → length (getD (c .before .before .before .before .args .rows .now) (c .before .before .before .loop .i) []) ≡ 11
+wide : (c : tie.After-row2 Inv-loop μ-loop) →
+    length (getD (c .before .before .before .before .args .rows .now) (c .before .before .before .loop .i) []) ≡ 11
 wide c =
     let start = c .before .before .before .before in
     start .pre .2 .wide (c .before .before .before .loop .i) (omega (arith, start .pre .0, c .before .before .loop-test .taken))
