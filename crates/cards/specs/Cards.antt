@@ -21,7 +21,7 @@ use Rattle.scatter.specs.Cards.{three, two}
 use Rattle.scatter.specs.laws.Cards.{card-8, card-10, card-11}
 use Rattle.sums.specs.Samples.{Sample, sumsOf}
 use Rattle.scatter.specs.Table.{largest, scatter, shift, entries}
-use Rattle.run.specs.declared.Outcome.the-variants.{Settled}
+use Rattle.record.specs.declared.run.Outcome.the-variants.{Settled}
 use Rattle.cards.specs.Printed.{jobText, reportText, prints-the-report}
 use Rattle.cards.specs.Equal.{zeros, equal-samples, zero-entries, zeros-settled}
 

@@ -27,9 +27,10 @@ use Rattle.sums.specs.Samples.{Sample, z, sum, sumsOf}
 use Rattle.scatter.specs.laws.OfSamples.{scatter-of-samples}
 use Rattle.scatter.specs.Table.{scatter, shift, entries}
 use Rattle.turn.specs.laws.InUse.{inUse-inside}
-use Rattle.run.specs.Run.{noPair, stop, runOf}
-use Rattle.run.specs.laws.Running.{run-settled}
-use Rattle.run.specs.declared.Outcome.the-variants.{Settled}
+use Rattle.record.specs.Run.{noPair, stop}
+use Rattle.run.specs.Run.{runOf}
+use Rattle.record.specs.laws.Running.{run-settled}
+use Rattle.record.specs.declared.run.Outcome.the-variants.{Settled}
 use Rattle.record.specs.Loose.{looseOf}
 use Rattle.record.specs.laws.Loose.{PairOrNone, loose-holds}
 use Rattle.record.specs.declared.query.Answer.the-variants.{NoPair}

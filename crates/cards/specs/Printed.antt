@@ -10,7 +10,7 @@ use Rattle.text.specs.Numeral.{leadingZero, valueFrom}
 use Rattle.text.specs.Parts.{onto, split, before}
 use Rattle.text.specs.Range.{within, allWithin}
 use Rattle.job_table.specs.Held.{sumsFor, tableFor}
-use Rattle.record.specs.AxisNumbers.{axisValues}
+use Rattle.report.specs.AxisNumbers.{axisValues}
 use Rattle.report.specs.Report.{headOf, runFor, lineR, lineA, reportOf}
 use Rattle.job.specs.Reply.{printedBy, printedOf}
 use Rattle.rounding.specs.Rounding.{rnd}

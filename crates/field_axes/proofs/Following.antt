@@ -8,8 +8,8 @@ use lib.IntN.{ℤ}
 use lib.ListN.{drop, getD, length, length-append, length-drop, take}
 use lib.Seq.{length-take-le}
 use Rattle.ledger.specs.Call.{axis}
-use Rattle.record.specs.inner.AxisNumbers.{axesNumbers, axisNumbers}
-use Rattle.record.specs.laws.AxisNumbers.{axes-row, two-before}
+use Rattle.report.specs.inner.AxisNumbers.{axesNumbers, axisNumbers}
+use Rattle.report.specs.laws.AxisNumbers.{axes-row, two-before}
 use Rattle.record.specs.Record.{answerOf, axisOf}
 use Rattle.record.specs.declared.Record.{Record}
 use Rattle.text.specs.Put.{Put}

@@ -7,13 +7,14 @@ use lib.IntN.{ℤ, pos}
 use lib.ListN.{take}
 use Rattle.ledger.specs.Call.{axis, load}
 use Rattle.ledger.specs.Refusal.{refusalOf, unless}
-use Rattle.limits.specs.Limits.{toleranceLimit}
-use Rattle.record.specs.AxisNumbers.{axisValues}
+use Rattle.limits.specs.Limits.{leastSweeps, mostSweeps, toleranceLimit}
+use Rattle.report.specs.AxisNumbers.{axisValues}
 use Rattle.record.specs.Record.{answerOf, axisOf}
 use Rattle.record.specs.declared.Record.{Record}
-use Rattle.run.specs.Run.{runOf, Ran}
-use Rattle.run.specs.declared.Outcome.{Outcome}
-use Rattle.run.specs.declared.Outcome.the-variants.{Settled, Still, Spent}
+use Rattle.record.specs.declared.run.Run.{Run}
+use Rattle.run.specs.Run.{runOf}
+use Rattle.record.specs.declared.run.Outcome.{Outcome}
+use Rattle.record.specs.declared.run.Outcome.the-variants.{Settled, Still, Spent}
 
 unfoldable pub outcomeNumber : Outcome → ℕ
 outcomeNumber Settled = 0
@@ -30,7 +31,7 @@ axes n r zero = []
 axes n r (suc last) = axes n r last ++ axisSolution n r (suc last)
 
 -- outcome, sweeps run, m, and the axes 1 to n
-unfoldable pub solution : ℕ → Ran → List ℤ
+unfoldable pub solution : ℕ → Run → List ℤ
 solution n z =
     (pos (outcomeNumber (z .outcome)) ∷ pos (z .sweeps) ∷ pos (z .last .m) ∷ []) ++ axes n (z .last) n
 
@@ -41,5 +42,5 @@ solutionOf n numbers limit t = solution n (runOf n numbers limit t)
 unfoldable pub solveRefusal : ℕ → List ℤ → ℕ → ℕ → ℕ → ℕ
 solveRefusal n numbers limit t size =
     cond (eqb (refusalOf 0 0 (load n numbers)) 0)
-    (unless (leb 1 limit && (leb limit 16 && leb t toleranceLimit)) 2 (unless (leb (3 + n * (n + 2)) size) 12 0))
+    (unless (leb leastSweeps limit && (leb limit mostSweeps && leb t toleranceLimit)) 2 (unless (leb (3 + n * (n + 2)) size) 12 0))
     (refusalOf 0 0 (load n numbers))

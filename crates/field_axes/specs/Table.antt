@@ -10,17 +10,18 @@ use Rattle.sums.specs.Samples.{samples, sumsOf}
 use Rattle.scatter.specs.Table.{tableOf}
 use Rattle.scatter.specs.declared.table.Table.{Table}
 use Rattle.text.specs.Range.{allWithin}
+use Rattle.limits.specs.Limits.{leastChannels, mostChannels, leastDilution, mostDilution, mostCount, leastSamples, mostSamples}
 
 -- n from 2 to 8, dilutions from 1 to 100, counts up to 65,535
 unfoldable pub valuesWithin : ℕ → List ℕ → List ℕ → Bool
-valuesWithin n dilutions counts = leb 2 n && (leb n 8 && (allWithin 1 100 dilutions && allWithin 0 65_535 counts))
+valuesWithin n dilutions counts = leb leastChannels n && (leb n mostChannels && (allWithin leastDilution mostDilution dilutions && allWithin 0 mostCount counts))
 
 -- 'Values out of range get 2, counts that aren't n to a sample get 6, fewer than 2 or more than 256 samples get 3, a short buffer gets 12'
 unfoldable pub tableRefusal : ℕ → List ℕ → List ℕ → ℕ → ℕ
 tableRefusal n dilutions counts size =
     unless (valuesWithin n dilutions counts) 2
     (unless (eqb (length counts) (n * length dilutions)) 6
-    (unless (leb 2 (length dilutions) && leb (length dilutions) 256) 3
+    (unless (leb leastSamples (length dilutions) && leb (length dilutions) mostSamples) 3
     (unless (leb (1 + 2 * (n * n)) size) 12 0)))
 
 -- the shift e, the exact S_ij and the entries, row after row

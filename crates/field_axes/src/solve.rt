@@ -1,5 +1,5 @@
 // A run and its axes: the refusal, and the numbers.
-use run::Outcome;
+use record::Outcome;
 ghost use mathlib.Core.Path.{_≡_};
 ghost use Prim.Native.Nat.{_+_, _*_, _≤_};
 ghost use lib.IntN.{pos};
@@ -24,10 +24,10 @@ pub(crate) fn solve_refusal(
     if number != 0 {
         return number;
     }
-    if limit < 1 {
+    if limit < limits::LEAST_SWEEPS {
         return 2;
     }
-    if 16 < limit {
+    if limits::MOST_SWEEPS < limit {
         return 2;
     }
     if limits::TOLERANCE_LIMIT < tolerance {
@@ -76,10 +76,15 @@ pub(crate) fn put_solution(
     requires { ⌜ Solvable n (now numbers) limit tolerance (length (now out)) ⌝ }
     ensures { λ r. ⌜ Put (solutionOf n (now (numbers .entry)) limit tolerance) 0 (now (out .entry)) (now (out .exit)) r ⌝ }
 {
-    let mut axes = [[0i64; 11]; 8];
-    let run = run::run(n, numbers, limit, tolerance, &mut axes);
+    let run = run::run(n, numbers, limit, tolerance);
     let outcome = run.outcome;
-    let head = [outcome_number(outcome), run.sweeps as i64, run.m as i64];
+    let last = run.last;
+    let axes = report::axes::axes_numbers(last);
+    let head = [
+        outcome_number(outcome),
+        run.sweeps as i64,
+        last.turns() as i64,
+    ];
     let at = text::numbers::put(out, 0, &head);
     put_axes(n, &axes, out, at)
 }

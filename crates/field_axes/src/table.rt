@@ -27,16 +27,16 @@ fn all_within(low: u32, high: u32, values: &[u32]) -> bool
 pub(crate) fn table_refusal(n: usize, dilutions: &[u32], counts: &[u32], size: usize) -> u32
     ensures { λ r. ⌜ r ≡ tableRefusal n (now (dilutions .entry)) (now (counts .entry)) size ⌝ }
 {
-    if n < 2 {
+    if n < limits::LEAST_CHANNELS {
         return 2;
     }
-    if 8 < n {
+    if limits::MOST_CHANNELS < n {
         return 2;
     }
-    if !all_within(1, 100, dilutions) {
+    if !all_within(limits::LEAST_DILUTION, limits::MOST_DILUTION, dilutions) {
         return 2;
     }
-    if !all_within(0, 65535, counts) {
+    if !all_within(0, limits::MOST_COUNT, counts) {
         return 2;
     }
     if counts.len() % n != 0 {
@@ -45,10 +45,10 @@ pub(crate) fn table_refusal(n: usize, dilutions: &[u32], counts: &[u32], size: u
     if counts.len() / n != dilutions.len() {
         return 6;
     }
-    if dilutions.len() < 2 {
+    if dilutions.len() < limits::LEAST_SAMPLES {
         return 3;
     }
-    if 256 < dilutions.len() {
+    if limits::MOST_SAMPLES < dilutions.len() {
         return 3;
     }
     if size < 1 + 2 * (n * n) {

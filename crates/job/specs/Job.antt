@@ -8,6 +8,7 @@ use lib.ListN.{length, getD, drop}
 use Rattle.text.specs.Parts.{split}
 use Rattle.job.specs.Range.{parametersInRange, sampleInRange}
 use Rattle.job.specs.Text.{lineOf}
+use Rattle.limits.specs.Limits.{leastSamples, mostSamples}
 
 -- Sample after sample: a dilution each, and n counts each.
 pub record Job : Type 0 where
@@ -43,13 +44,13 @@ nothing (part ∷ parts) = eqb (length part) 0 && eqb (length parts) 0
 -- The line `E` and its number x, where `rest` follows: refusal 3, then 4.
 unfoldable pub ended : Job → ℕ → List (List ℕ) → Answer
 ended j x rest =
-    cond (ltb (length (j .dilutions)) 2) (refused 3 (nextLine j))
+    cond (ltb (length (j .dilutions)) leastSamples) (refused 3 (nextLine j))
     (cond (eqb x (length (j .dilutions)) && nothing rest) (accepted j) (refused 4 (nextLine j)))
 
 -- A line after the first, by what it is as an `S` line and as an `E` line: refusal 1, then 2, then 3, then 4.
 unfoldable pub judged : Job → Option (List ℕ) → Option (List ℕ) → List (List ℕ) → (List ℕ → Answer) → Answer
 judged j (some xs) e rest go =
-    cond (sampleInRange xs) (cond (ltb (length (j .dilutions)) 256) (go xs) (refused 3 (nextLine j))) (refused 2 (nextLine j))
+    cond (sampleInRange xs) (cond (ltb (length (j .dilutions)) mostSamples) (go xs) (refused 3 (nextLine j))) (refused 2 (nextLine j))
 judged j none (some xs) rest go = ended j (getD xs 0 0) rest
 judged j none none rest go = refused 1 (nextLine j)
 

@@ -1,11 +1,12 @@
 -- An answer of `jobOf` as the reader gives it: the job in arrays, or the refusal.
-use Prim.Native.Nat.{ℕ, _-_}
+use Prim.Native.Nat.{ℕ, _-_, _*_}
 use mathlib.Core.List.{List, [], _++_}
 use lib.ListN.{length, replicate}
 use Rattle.job.specs.Job.{Job, Answer, refused, accepted}
 use Rattle.job.specs.declared.Job as Arrays
 use Rattle.job.specs.declared.Reading.{Reading}
 use Rattle.job.specs.declared.Outcome.the-variants.{Accepted, Refused}
+use Rattle.limits.specs.Limits.{mostChannels, mostSamples}
 
 -- The list, and 0 after it up to the length m.
 unfoldable pub padded : ℕ → List ℕ → List ℕ
@@ -18,8 +19,8 @@ inArrays j =
       limit = j .limit;
       tolerance = j .tolerance;
       k = length (j .dilutions);
-      dilutions = padded 256 (j .dilutions);
-      counts = padded 2048 (j .counts);
+      dilutions = padded mostSamples (j .dilutions);
+      counts = padded (mostSamples * mostChannels) (j .counts);
     }
 
 unfoldable pub readingOf : Answer → Reading

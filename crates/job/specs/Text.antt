@@ -8,10 +8,11 @@ use lib.ListN.{length}
 use Rattle.text.specs.Numeral.{leadingZero, valueFrom}
 use Rattle.text.specs.Parts.{before, split}
 use Rattle.text.specs.Range.{allWithin}
+use Rattle.limits.specs.Limits.{mostDigits}
 
 -- "A number is 1 to 7 decimal digits without a sign, and without a leading zero unless it is 0."
 unfoldable pub numberOf : List ℕ → Option ℕ
-numberOf f = cond (ltb 0 (length f) && leb (length f) 7 && allWithin 48 57 f && not (leadingZero f)) (some (valueFrom 0 f)) none
+numberOf f = cond (ltb 0 (length f) && leb (length f) mostDigits && allWithin 48 57 f && not (leadingZero f)) (some (valueFrom 0 f)) none
 
 -- The numbers of m fields, each of which has to be one.
 unfoldable pub numbersOf : ℕ → List (List ℕ) → Option (List ℕ)

@@ -6,13 +6,14 @@ use lib.ListN.{length}
 use Rattle.text.specs.Range.{within, allWithin}
 use Rattle.job.specs.Range.{parametersInRange}
 use Rattle.job.specs.Job.{Job}
+use Rattle.limits.specs.Limits.{leastDilution, mostDilution, mostCount, leastSamples, mostSamples}
 
 unfoldable pub inRange : Job → Bool
 inRange j =
-    parametersInRange (j .n) (j .limit) (j .tolerance) && allWithin 1 100 (j .dilutions) && allWithin 0 65535 (j .counts)
+    parametersInRange (j .n) (j .limit) (j .tolerance) && allWithin leastDilution mostDilution (j .dilutions) && allWithin 0 mostCount (j .counts)
 
 -- Every value is in its range, there are 2 to 256 samples, and n counts to each.
 pub record Proper (j : Job) : Type 0 where
   pub ranges : inRange j ≡ true
-  pub samples : within 2 256 (length (j .dilutions)) ≡ true
+  pub samples : within leastSamples mostSamples (length (j .dilutions)) ≡ true
   pub counted : length (j .counts) ≡ length (j .dilutions) * j .n

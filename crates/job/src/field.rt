@@ -42,6 +42,9 @@ fn wide(b: u8) -> u32
     b as u32
 }
 
+// Digits of up to this value may have one after them: 6 of the 7.
+const MOST_BEFORE: u32 = limits::MOST_NUMBER / 10;
+
 // Whether a byte is a digit that may follow digits of this value: 7 digits at most, and none after a leading zero.
 fn may_follow(value: u32, b: u32) -> bool
     ensures { λ r. ⌜ r ≡ mayFollow value b ⌝ }
@@ -49,7 +52,7 @@ fn may_follow(value: u32, b: u32) -> bool
     if value < 1 {
         return false;
     }
-    if 999_999 < value {
+    if MOST_BEFORE < value {
         return false;
     }
     is_within(48, 57, b)

@@ -21,7 +21,7 @@ pub(crate) fn last_line(text: &[u8], at: usize, k: usize) -> Ending
     let Field::Last(count, next) = number(text, at + 2) else {
         return Ending::Refused(1);
     };
-    if k < 2 {
+    if k < limits::LEAST_SAMPLES {
         return Ending::Refused(3);
     }
     if count as usize != k {

@@ -6,28 +6,39 @@ ghost use lib.Seq.{slice};
 ghost use Rattle.text.specs.Range.{allWithin};
 ghost use Rattle.job.specs.Range.{parametersInRange};
 ghost use Rattle.job.specs.inner.LineScan.{sampleWithin};
+ghost use Rattle.limits.specs.Limits.{mostCount};
+
+const LEAST_CHANNELS: u32 = limits::LEAST_CHANNELS as u32;
+
+const MOST_CHANNELS: u32 = limits::MOST_CHANNELS as u32;
+
+const LEAST_SWEEPS: u32 = limits::LEAST_SWEEPS as u32;
+
+const MOST_SWEEPS: u32 = limits::MOST_SWEEPS as u32;
+
+const TOLERANCE_LIMIT: u32 = limits::TOLERANCE_LIMIT as u32;
 
 // "`P` n (2..8), sweep limit (1..16), tolerance t in units (0..1,048,576)."
 pub(crate) fn parameters_within(n: u32, limit: u32, tolerance: u32) -> bool
     ensures { λ r. ⌜ r ≡ parametersInRange n limit tolerance ⌝ }
 {
-    if !is_within(2, 8, n) {
+    if !is_within(LEAST_CHANNELS, MOST_CHANNELS, n) {
         return false;
     }
-    if !is_within(1, 16, limit) {
+    if !is_within(LEAST_SWEEPS, MOST_SWEEPS, limit) {
         return false;
     }
-    is_within(0, 1_048_576, tolerance)
+    is_within(0, TOLERANCE_LIMIT, tolerance)
 }
 
 fn counts_within(numbers: [u32; 9], n: usize) -> bool
     requires { ⌜ n ≤ 8 ⌝ }
-    ensures { λ r. ⌜ r ≡ allWithin 0 65535 (slice 1 (n + 1) numbers) ⌝ }
+    ensures { λ r. ⌜ r ≡ allWithin 0 mostCount (slice 1 (n + 1) numbers) ⌝ }
 {
     let mut i = 1;
     while i <= n {
         let count = numbers[i];
-        if !is_within(0, 65_535, count) {
+        if !is_within(0, limits::MOST_COUNT, count) {
             return false;
         }
         i += 1;
@@ -41,7 +52,7 @@ pub(crate) fn sample_within(numbers: [u32; 9], n: usize) -> bool
     ensures { λ r. ⌜ r ≡ sampleWithin n numbers ⌝ }
 {
     let dilution = numbers[0];
-    if !is_within(1, 100, dilution) {
+    if !is_within(limits::LEAST_DILUTION, limits::MOST_DILUTION, dilution) {
         return false;
     }
     counts_within(numbers, n)

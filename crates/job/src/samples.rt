@@ -12,6 +12,7 @@ ghost use mathlib.Core.Path.{_≡_};
 ghost use Prim.Native.Nat.{_+_, _-_, _≤_};
 ghost use lib.Seq.{slice, sets};
 ghost use Rattle.job.specs.inner.Scan.{finishedAt, samplesAt};
+ghost use Rattle.limits.specs.Limits.{mostSamples};
 
 // The n counts of a sample are kept from a place on.
 fn keep(counts: &mut [u32; 2048], numbers: [u32; 9], from: usize, n: usize)
@@ -29,7 +30,7 @@ fn keep(counts: &mut [u32; 2048], numbers: [u32; 9], from: usize, n: usize)
 
 // The line after the samples of a job.
 fn finish(text: &[u8], at: usize, job: Job) -> Reading
-    requires { ⌜ job .k ≤ 256 ⌝ }
+    requires { ⌜ job .k ≤ mostSamples ⌝ }
     ensures { λ r. ⌜ r ≡ finishedAt (now (text .entry)) at job ⌝ }
 {
     let k = job.k;
@@ -45,7 +46,7 @@ fn finish(text: &[u8], at: usize, job: Job) -> Reading
 
 // The lines from a place of the text on, after the samples of a job.
 pub(crate) fn samples(text: &[u8], from: usize, start: Job) -> Reading
-    requires { ⌜ (start .k ≤ 256) × (start .n ≤ 8) ⌝ }
+    requires { ⌜ (start .k ≤ mostSamples) × (start .n ≤ 8) ⌝ }
     ensures { λ r. ⌜ r ≡ samplesAt (257 - start .k) (now (text .entry)) from start ⌝ }
 {
     let mut job = start;
@@ -62,7 +63,7 @@ pub(crate) fn samples(text: &[u8], from: usize, start: Job) -> Reading
         if !sample_within(numbers, n) {
             return refused(2, k + 2);
         }
-        if 256 <= k {
+        if limits::MOST_SAMPLES <= k {
             return refused(3, k + 2);
         }
         job.dilutions[k] = numbers[0];

@@ -8,7 +8,7 @@ use lib.ListN.{length}
 use Rattle.integer.specs.Matrix.{Matrix, matrixOf}
 use Rattle.integer.specs.Range.{all}
 use Rattle.ledger.specs.Call.{Call, load, turn, sweep, loosePair, axis}
-use Rattle.limits.specs.Limits.{entryLimit, toleranceLimit, turnLimit}
+use Rattle.limits.specs.Limits.{entryLimit, leastChannels, mostChannels, toleranceLimit, turnLimit}
 
 unfoldable pub equal : ℤ → ℤ → Bool
 equal (pos x) (pos y) = eqb x y
@@ -32,7 +32,7 @@ unless test number later = cond test later number
 -- Load: 5, 6, 8, 7. Other calls: 10, then 2 or 9, then 11
 unfoldable pub refusalOf : ℕ → ℕ → Call → ℕ
 refusalOf n m (load k numbers) =
-    unless (leb 2 k && leb k 8) 5
+    unless (leb leastChannels k && leb k mostChannels) 5
     (unless (eqb (length numbers) (k * k)) 6
     (unless (within numbers) 8
     (unless (symmetric k (matrixOf k numbers)) 7 0)))

@@ -1,16 +1,47 @@
-// The limits of document 01 that more than one crate keeps to; specs/Limits.antt has them for the definitions.
+// The limits of document 01, each named once; specs/Limits.antt has them for the definitions.
+
+// Channels of a job or of a loaded matrix.
+pub const LEAST_CHANNELS: usize = 2;
+
+pub const MOST_CHANNELS: usize = 8;
+
+// The sweep limit of a run.
+pub const LEAST_SWEEPS: u64 = 1;
+
+pub const MOST_SWEEPS: u64 = 16;
+
+// Samples of a job.
+pub const LEAST_SAMPLES: usize = 2;
+
+pub const MOST_SAMPLES: usize = 256;
+
+// The dilution of a sample, and a count of it.
+pub const LEAST_DILUTION: u32 = 1;
+
+pub const MOST_DILUTION: u32 = 100;
+
+pub const MOST_COUNT: u32 = 65_535;
 
 // An entry of a loaded matrix is at most this in size.
-pub const ENTRY_LIMIT: u64 = 1048576;
+pub const ENTRY_LIMIT: u64 = 1_048_576;
 
 // A tolerance is at most this many units.
-pub const TOLERANCE_LIMIT: u64 = 1048576;
+pub const TOLERANCE_LIMIT: u64 = 1_048_576;
 
 // The turns of one matrix.
 pub const TURN_LIMIT: u64 = 448;
 
-// Kept entries are the loaded ones times this.
-pub const UNITS: i64 = 1024;
+// A count of refused calls stops here.
+pub const REFUSED_LIMIT: u32 = 4_294_967_295;
 
-// The axes of a load have this on the diagonal.
-pub const WHOLE: i64 = 1073741824;
+// Kept entries are the loaded ones times this.
+pub const UNITS: i64 = 1_024;
+
+// The axes of a load have this on the diagonal: 2^30.
+pub const WHOLE: i64 = 1_073_741_824;
+
+// The greatest number of a job text: 7 digits.
+pub const MOST_NUMBER: u32 = 9_999_999;
+
+// The bytes of job text that a program reads.
+pub const MOST_BYTES: usize = 16_384;

@@ -11,3 +11,5 @@ mod Parameters
 mod Steps
 pub mod Sweeping
 mod Worked
+mod Going
+pub mod Told

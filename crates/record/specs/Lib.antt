@@ -3,8 +3,9 @@ pub mod Loose
 pub mod Flat
 pub mod Record
 pub mod Kept
+pub mod Run
+pub mod RunDone
 pub mod Done
-pub mod AxisNumbers
 pub mod Demand3
 pub mod Work
 pub mod KeptWork

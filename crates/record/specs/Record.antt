@@ -7,7 +7,7 @@ use lib.IntN.{ℤ, pos, _*ℤ_}
 use lib.ListN.{replicate}
 use Rattle.ledger.specs.Axis.{errorOf}
 use Rattle.ledger.specs.Call.{Call, load, turn, sweep, loosePair, axis}
-use Rattle.limits.specs.Limits.{units, whole}
+use Rattle.limits.specs.Limits.{refusedLimit, units, whole}
 use Rattle.ledger.specs.Pairs.{cyclic}
 use Rattle.ledger.specs.Refusal.{refusalOf}
 use Rattle.turn.specs.InUse.{inUse}
@@ -26,7 +26,7 @@ fresh = record { n = 0; m = 0; refused = 0; a = replicate 64 (pos 0); v = replic
 
 -- The count stops at 4,294,967,295
 unfoldable pub counted : ℕ → ℕ
-counted refused = cond (ltb refused 4294967295) (refused + 1) refused
+counted refused = cond (ltb refused refusedLimit) (refused + 1) refused
 
 -- A refusal: the record changes only in its refused-call count
 unfoldable pub refusedOf : Record → Record

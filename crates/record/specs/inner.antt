@@ -1,1 +1,1 @@
-pub mod AxisNumbers
+pub mod Running

@@ -3,8 +3,8 @@ pub mod Loose
 pub mod Fill
 pub mod Loading
 pub mod Accepted
-pub mod AxisNumbers
 pub mod After
 pub mod Agree
 pub mod Demand3proof
 pub mod Turning
+pub mod Running

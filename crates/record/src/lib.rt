@@ -4,6 +4,7 @@ ghost use Rattle.record.specs.declared.query.Answer.the-variants.{Refuse
 ghost use Rattle.record.specs.Worked.{workAt};
 ghost use Rattle.record.specs.Done.{AxisDone, Done, Fresh};
 ghost use Rattle.record.specs.Kept.{Kept};
+ghost use Rattle.record.specs.RunDone.{RunDone, Runnable};
 ghost use Rattle.record.specs.Record.{counted, refusedOf, workedOf};
 ghost use mathlib.Core.Path.{_≡_};
 
@@ -11,9 +12,12 @@ pub mod lent;
 pub mod load;
 pub mod query;
 mod rows;
+pub mod run;
 pub mod sweep;
 
 pub use query::Answer;
+pub use run::Outcome;
+pub use run::Run;
 
 // Channels n, 0 where there is no matrix; turns made m; refused calls; the kept matrix and axes, row after row, 8 to a row.
 pub struct Record {
@@ -45,7 +49,7 @@ pub struct AxisStep {
 fn one_more(refused: u32) -> u32
     ensures { λ r. ⌜ r ≡ counted refused ⌝ }
 {
-    if refused < Record::COUNT_LIMIT {
+    if refused < Record::REFUSED_LIMIT {
         refused + 1
     } else {
         refused
@@ -53,6 +57,11 @@ fn one_more(refused: u32) -> u32
 }
 
 impl Record {
+    // The limits that the calls keep to.
+    pub const LEAST_CHANNELS: usize = limits::LEAST_CHANNELS;
+
+    pub const MOST_CHANNELS: usize = limits::MOST_CHANNELS;
+
     pub const ENTRY_LIMIT: i64 = limits::ENTRY_LIMIT as i64;
 
     pub const TOLERANCE_LIMIT: u64 = limits::TOLERANCE_LIMIT;
@@ -63,7 +72,7 @@ impl Record {
 
     pub const WHOLE: i64 = limits::WHOLE;
 
-    pub const COUNT_LIMIT: u32 = 4294967295;
+    pub const REFUSED_LIMIT: u32 = limits::REFUSED_LIMIT;
 
     // A fresh record holds no matrix and a count of 0 refused calls.
     pub fn new() -> Self
@@ -90,6 +99,13 @@ impl Record {
         ensures { λ r. ⌜ r ≡ self .n ⌝ }
     {
         self.n
+    }
+
+    // How many turns were made of the matrix.
+    pub fn turns(self) -> u64
+        ensures { λ r. ⌜ r ≡ self .m ⌝ }
+    {
+        self.m
     }
 
     fn after_refusal(mut self) -> Self
@@ -213,6 +229,22 @@ impl Record {
                 row: rows::row(&self.v, i - 1),
             },
             next: self,
+        }
+    }
+
+    // The loose-pair and sweep calls of a run, one after the other, unpacked and packed once for all of them.
+    pub fn run(self, limit: u64, tolerance: u64) -> Run
+        requires { ⌜ Runnable self limit tolerance ⌝ }
+        ensures { λ z. ⌜ RunDone self limit tolerance z ⌝ }
+    {
+        let mut matrix = rows::unpacked(&self.a);
+        let mut axes = rows::unpacked(&self.v);
+        let ended = run::run_rows(&mut matrix, &mut axes, self.n, limit, tolerance);
+        let outcome = ended.outcome;
+        Run {
+            outcome,
+            sweeps: ended.sweeps,
+            last: self.with_rows(matrix, axes, ended.m),
         }
     }
 

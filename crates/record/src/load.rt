@@ -13,17 +13,16 @@ ghost use Rattle.record.specs.Blank.{blank};
 ghost use lib.Dec.{leb};
 ghost use lib.IntN.{pos, natAbs, _*ℤ_};
 ghost use lib.ListN.{length};
-
-const ENTRY_LIMIT: i64 = limits::ENTRY_LIMIT as i64;
+use crate::Record;
 
 // Whether x is not beyond ±1,048,576.
 fn is_within(x: i64) -> bool
     ensures { λ r. ⌜ r ≡ leb (natAbs x) entryLimit ⌝ }
 {
-    if x < 0 - ENTRY_LIMIT {
+    if x < 0 - Record::ENTRY_LIMIT {
         return false;
     }
-    x <= ENTRY_LIMIT
+    x <= Record::ENTRY_LIMIT
 }
 
 fn all_within(numbers: &[i64]) -> bool
@@ -72,10 +71,10 @@ fn is_symmetric(n: usize, numbers: &[i64]) -> bool
 pub fn load_refusal(n: usize, numbers: &[i64]) -> u32
     ensures { λ r. ⌜ r ≡ refusalOf 0 0 (load n (now (numbers .entry))) ⌝ }
 {
-    if n < 2 {
+    if n < Record::LEAST_CHANNELS {
         return 5;
     }
-    if 8 < n {
+    if Record::MOST_CHANNELS < n {
         return 5;
     }
     if numbers.len() != n * n {
@@ -95,7 +94,7 @@ fn loaded_entry(n: usize, numbers: &[i64], i: usize, j: usize) -> i64
     requires { ⌜ (i < n) × (j < n) × (n ≤ 8) × (length (now numbers) ≡ n * n) × (within (now numbers) ≡ true) ⌝ }
     ensures { λ r. ⌜ r ≡ pos units *ℤ matrixOf n (now (numbers .entry)) i j ⌝ }
 {
-    limits::UNITS * numbers[i * n + j]
+    Record::UNITS * numbers[i * n + j]
 }
 
 // The n×n numbers in kept units, put into rows of 0.
@@ -121,7 +120,7 @@ pub fn load_axes(axes: &mut [[i64; 8]; 8], n: usize)
 {
     let mut i = 0;
     while i < n {
-        axes[i][i] = limits::WHOLE;
+        axes[i][i] = Record::WHOLE;
         i += 1;
     }
 }

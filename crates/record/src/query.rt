@@ -6,11 +6,13 @@ ghost use lib.Dec.{eqb};
 ghost use lib.IntN.{natAbs};
 ghost use Rattle.ledger.specs.Axis.{errorOf};
 ghost use Rattle.ledger.specs.Call.{loosePair, axis};
+ghost use Rattle.limits.specs.Limits.{turnLimit};
 ghost use Rattle.ledger.specs.Pairs.{cyclic};
 ghost use Rattle.ledger.specs.Refusal.{refusalOf};
 ghost use Rattle.turn.specs.Size.{Small};
 ghost use Rattle.turn.specs.Turn.{at};
 ghost use Rattle.record.specs.Loose.{looseOf};
+use crate::Record;
 
 // What a call answers.
 pub enum Answer {
@@ -29,7 +31,7 @@ pub(crate) fn loose_pair_refusal(n: usize, t: u64) -> u32
     if n == 0 {
         return 10;
     }
-    if limits::TOLERANCE_LIMIT < t {
+    if Record::TOLERANCE_LIMIT < t {
         return 2;
     }
     0
@@ -90,7 +92,7 @@ fn off_diagonal(a: &[[i64; 8]; 8], i: usize, j: usize) -> u64
 
 // The error of the axis in row i, from 0.
 pub fn error_of(a: &[[i64; 8]; 8], n: usize, m: u64, i: usize) -> u64
-    requires { ⌜ (i < n) × (n ≤ 8) × (m ≤ 448) × Small (now a) ⌝ }
+    requires { ⌜ (i < n) × (n ≤ 8) × (m ≤ turnLimit) × Small (now a) ⌝ }
     ensures { λ r. ⌜ r ≡ errorOf n (at (now (a .entry))) m i ⌝ }
 {
     let mut sum = 0;

@@ -2,6 +2,7 @@
 ghost use mathlib.Core.Path.{_≡_};
 ghost use Prim.Native.Nat.{_<_, _≤_, _+_};
 ghost use Rattle.ledger.specs.Call.{turn, sweep};
+ghost use Rattle.limits.specs.Limits.{turnLimit};
 ghost use Rattle.ledger.specs.Pairs.{cyclic};
 ghost use Rattle.ledger.specs.Refusal.{refusalOf};
 ghost use Rattle.turn.specs.Size.{Small};
@@ -9,6 +10,7 @@ ghost use Rattle.turn.specs.Turn.{at};
 ghost use Rattle.choice.specs.Choice.{choose};
 ghost use Rattle.record.specs.Worked.{Ready, workAt};
 ghost use Rattle.record.specs.Work.{workPair, workPairs};
+use crate::Record;
 use choice::Choice;
 use turn::pair::Rotation;
 
@@ -27,20 +29,20 @@ pub(crate) fn turn_refusal(n: usize, m: u64, p: usize, q: usize) -> u32
     if n < q {
         return 9;
     }
-    if limits::TURN_LIMIT <= m {
+    if Record::TURN_LIMIT <= m {
         return 11;
     }
     0
 }
 
 pub(crate) fn sweep_refusal(n: usize, m: u64) -> u32
-    requires { ⌜ (n ≤ 8) × (m ≤ 448) ⌝ }
+    requires { ⌜ (n ≤ 8) × (m ≤ turnLimit) ⌝ }
     ensures { λ r. ⌜ r ≡ refusalOf n m sweep ⌝ }
 {
     if n == 0 {
         return 10;
     }
-    if limits::TURN_LIMIT < m + (n * (n - 1) / 2) as u64 {
+    if Record::TURN_LIMIT < m + (n * (n - 1) / 2) as u64 {
         return 11;
     }
     0
@@ -71,14 +73,15 @@ pub(crate) fn work_pair(
         return m;
     };
     let r = Rotation::of(l, minus);
-    turn::turn_matrix_in_place(matrix, n, r, p, q);
-    turn::turn_axes_in_place(axes, n, r, p, q);
+    turn::turn_axes(axes, n, r, p, q);
+    let turned = turn::turn_matrix(*matrix, n, r, p, q);
+    *matrix = turned;
     m + 1
 }
 
 // The pairs of a sweep over n channels, in lent rows, each chosen on the matrix as it then stands. The answer is m after them.
 pub fn work_pairs(matrix: &mut [[i64; 8]; 8], axes: &mut [[i64; 8]; 8], n: usize, m: u64) -> u64
-    requires { ⌜ (n ≤ 8) × (m ≤ 448) × Ready n (now matrix) (now axes) m ⌝ }
+    requires { ⌜ (n ≤ 8) × (m ≤ turnLimit) × Ready n (now matrix) (now axes) m ⌝ }
     ensures { λ z. ⌜ workAt (now (matrix .exit)) (now (axes .exit)) z ≡ workPairs n (workAt (now (matrix .entry)) (now (axes .entry)) m)
         (cyclic n) ⌝ }
 {

@@ -8,7 +8,7 @@ use Rattle.job.specs.Values.{Proper}
 use Rattle.job_table.specs.Held.{sumsFor, tableFor}
 use Rattle.job_table.specs.laws.Laws.{channels, limit-most, tolerance-most}
 use Rattle.limits.specs.Limits.{turnLimit}
-use Rattle.run.specs.inner.Calls.{Allowed}
+use Rattle.run.specs.Run.{Allowed}
 use Rattle.run.specs.laws.Calls.{AsCalls, run-calls}
 use Rattle.run.specs.laws.Course.{run-ends, run-kept}
 use Rattle.run.specs.laws.Table.{table-allowed}

@@ -15,7 +15,7 @@ use Rattle.ledger.specs.Ledger as book
 use Rattle.ledger.specs.Ledger.{Ledger, State, empty, loaded, ledger, ledgerFrom, ledgerStep, sizeOf, turnsOf}
 use Rattle.ledger.specs.Pairs.{cyclic}
 use Rattle.ledger.specs.Refusal.{refusalOf}
-use Rattle.record.specs.AxisNumbers.{axisValues}
+use Rattle.report.specs.AxisNumbers.{axisValues}
 use Rattle.record.specs.Demand3 as three
 use Rattle.record.specs.Demand3.{AxisNear, Certifies}
 use Rattle.record.specs.laws.Demand3proof.{demand-3}

@@ -7,8 +7,8 @@ use lib.IntN.{ℤ, pos}
 use Rattle.job.specs.Job.{Job}
 use Rattle.job.specs.Values.{Proper}
 use Rattle.ledger.specs.Call.{axis}
-use Rattle.record.specs.inner.AxisNumbers.{axesNumbers, axisNumbers}
-use Rattle.record.specs.laws.AxisNumbers.{axes-row, length-axes-row, two-before}
+use Rattle.report.specs.inner.AxisNumbers.{axesNumbers, axisNumbers}
+use Rattle.report.specs.laws.AxisNumbers.{axes-row, length-axes-row, two-before}
 use Rattle.record.specs.Record.{answerOf, axisOf}
 use Rattle.record.specs.declared.Record.{Record}
 use Rattle.text.specs.Line.{numberLine}

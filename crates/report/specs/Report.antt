@@ -7,16 +7,17 @@ use lib.ListN.{length, take}
 use Rattle.job.specs.Job.{Job}
 use Rattle.job_table.specs.Held.{tableFor}
 use Rattle.ledger.specs.Call.{axis}
-use Rattle.record.specs.AxisNumbers.{axisValues}
+use Rattle.report.specs.AxisNumbers.{axisValues}
 use Rattle.record.specs.Record.{answerOf, axisOf}
 use Rattle.record.specs.declared.Record.{Record}
 use Rattle.report.specs.Text.{outcomeWord}
-use Rattle.run.specs.Run.{runOf, Ran}
+use Rattle.record.specs.declared.run.Run.{Run}
+use Rattle.run.specs.Run.{runOf}
 use Rattle.text.specs.Line.{numberLine, wordLine}
 use Rattle.text.specs.Lines.{lines}
 
 -- The run on the job's table
-unfoldable pub runFor : Job → Ran
+unfoldable pub runFor : Job → Run
 runFor j = runOf (j .n) (take (j .n * j .n) (tableFor j .entries)) (j .limit) (j .tolerance)
 
 -- '`R` n k e sweeps-run m outcome'; 82 is `R`

@@ -1,8 +1,8 @@
 -- The report's lines from their values, as the writer gets them: the numbers of the R line, the outcome, and eleven numbers for each A line.
 use Prim.Native.Nat.{ℕ}
 use mathlib.Core.List.{List, [], _∷_}
-use Rattle.run.specs.declared.Outcome.{Outcome}
-use Rattle.run.specs.declared.Outcome.the-variants.{Settled, Still, Spent}
+use Rattle.record.specs.declared.run.Outcome.{Outcome}
+use Rattle.record.specs.declared.run.Outcome.the-variants.{Settled, Still, Spent}
 
 -- The bytes of settled, still and spent
 unfoldable pub outcomeWord : Outcome → List ℕ

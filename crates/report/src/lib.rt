@@ -1,9 +1,10 @@
 // Job text in, report or refusal out: document 01, 'Job text and report'.
+pub mod axes;
 mod lines;
 
 use job::Job;
 use job::reply::Reply;
-use run::Ended;
+use record::Run;
 ghost use Rattle.job.specs.Job.{accepted};
 ghost use Rattle.job.specs.Reply.{Answers, Replies, printedOf};
 ghost use Rattle.job_table.specs.Held.{Held, jobIn};
@@ -11,22 +12,21 @@ ghost use Rattle.text.specs.Put.{Put};
 ghost use Rattle.report.specs.inner.Done.{Solves};
 ghost use Rattle.report.specs.Report.{reportOf};
 
-// The table's shift, and how the run on the table ends.
+// The table's shift, and the run on the table.
 struct Solved {
     e: u32,
-    run: Ended,
+    run: Run,
 }
 
-// Into `axes` go the numbers of the run's axes.
-fn solve(job: Job, axes: &mut [[i64; 11]; 8]) -> Solved
+fn solve(job: Job) -> Solved
     requires { ⌜ Held job ⌝ }
-    ensures { λ z. ⌜ Solves (jobIn job) z (now (axes .exit)) ⌝ }
+    ensures { λ z. ⌜ Solves (jobIn job) z ⌝ }
 {
     let n = job.n;
     let table = job_table::table_of(job);
     let entries = table.entries;
     let size = n * n;
-    let run = run::run(n, &entries[..size], job.limit, job.tolerance, axes);
+    let run = run::run(n, &entries[..size], job.limit, job.tolerance);
     Solved { e: table.e, run }
 }
 
@@ -36,16 +36,17 @@ fn report_job(job: Job, buf: &mut [u8]) -> Reply
     ensures { λ r. ⌜ Answers reportOf (accepted (jobIn job)) (now (buf .entry)) (now (buf .exit)) r ⌝ }
 {
     let n = job.n;
-    let mut axes = [[0i64; 11]; 8];
-    let solved = solve(job, &mut axes);
+    let solved = solve(job);
     let run = solved.run;
     let outcome = run.outcome;
+    let last = run.last;
+    let axes = axes::axes_numbers(last);
     let head = [
         n as i64,
         job.k as i64,
         solved.e as i64,
         run.sweeps as i64,
-        run.m as i64,
+        last.turns() as i64,
     ];
     let length = lines::text_length(&head, outcome, &axes, n);
     if buf.len() < length {

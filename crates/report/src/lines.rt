@@ -1,5 +1,5 @@
 // The report's lines: how long they are together, and the writer.
-use run::Outcome;
+use record::Outcome;
 ghost use mathlib.Core.Path.{_≡_};
 ghost use Prim.Native.Nat.{_≤_};
 ghost use lib.ListN.{length};

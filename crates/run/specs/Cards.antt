@@ -6,8 +6,10 @@ use lib.IntN.{ℤ, pos, negsuc}
 use Rattle.ledger.specs.Call.{axis, load}
 use Rattle.record.specs.Record.{afterOf, answerOf, axisOf, fresh}
 use Rattle.record.specs.declared.query.Answer.the-variants.{Axis}
-use Rattle.run.specs.Run.{Ran, stop, runOf}
-use Rattle.run.specs.declared.Outcome.the-variants.{Settled, Spent, Still}
+use Rattle.record.specs.Run.{stop}
+use Rattle.record.specs.declared.run.Run.{Run}
+use Rattle.run.specs.Run.{runOf}
+use Rattle.record.specs.declared.run.Outcome.the-variants.{Settled, Spent, Still}
 
 -- a matrix of two channels
 abbrev pub two : ℤ → ℤ → ℤ → List ℤ
@@ -23,7 +25,7 @@ abbrev pub Card9 : Type 0
 Card9 = (limit : ℕ) → runOf 2 (two (pos 0) (pos 0) (pos 0)) limit 0 ≡ stop Settled 0 (afterOf fresh (load 2 (two (pos 0) (pos 0) (pos 0))))
 
 -- 12. The table of the three samples, with sweep limit 1 and tolerance 0: `spent`, 1 sweep, m = 1, and the two axes.
-abbrev pub three : Ran
+abbrev pub three : Run
 three = runOf 2 (two (pos 50) (pos 25) (pos 50)) 1 0
 
 pub record Card12 : Type 0 where

@@ -1,5 +1,4 @@
 pub mod Run
 pub mod Calls
 pub mod Cards
-pub mod inner
 pub mod laws

@@ -1,5 +1,3 @@
-pub mod Running
-pub mod Rows
 pub mod Course
 pub mod Calls
 pub mod Table

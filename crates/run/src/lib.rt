@@ -1,38 +1,14 @@
-// A run of document 01: a fresh record of its own, a load, and the sweeps. The record is kept as rows while it runs.
-mod rows;
+// A run of document 01: a fresh record of its own, a load, and the sweeps.
+use record::Record;
+use record::Run;
+ghost use Rattle.run.specs.Run.{Allowed, Runs};
 
-ghost use Rattle.run.specs.inner.Calls.{Allowed};
-ghost use Rattle.run.specs.inner.Done.{RunDone};
-
-// How a run ends.
-pub enum Outcome {
-    Settled,
-    Still,
-    Spent,
-}
-
-// The outcome, how many sweeps were run, and m as they leave it.
-pub struct Ended {
-    pub outcome: Outcome,
-    pub sweeps: u64,
-    pub m: u64,
-}
-
-// The answer tells how the run ends; into `axes` go the numbers of axes 1 to n.
-pub fn run(
-    n: usize,
-    numbers: &[i64],
-    limit: u64,
-    tolerance: u64,
-    axes: &mut [[i64; 11]; 8],
-) -> Ended
+pub fn run(n: usize, numbers: &[i64], limit: u64, tolerance: u64) -> Run
     requires { ⌜ Allowed n (now numbers) limit tolerance ⌝ }
-    ensures { λ z. ⌜ RunDone n (now (numbers .entry)) limit tolerance z (now (axes .exit)) ⌝ }
+    ensures { λ z. ⌜ Runs n (now (numbers .entry)) limit tolerance z ⌝ }
 {
-    let mut matrix = [[0i64; 8]; 8];
-    let mut v = [[0i64; 8]; 8];
-    rows::load_rows(&mut matrix, &mut v, n, numbers);
-    let ended = rows::run_rows(&mut matrix, &mut v, n, limit, tolerance);
-    *axes = rows::axes_numbers(&matrix, &v, n, ended.m);
-    ended
+    let fresh = Record::new();
+    let loaded = fresh.load(n, numbers);
+    let r = loaded.next;
+    r.run(limit, tolerance)
 }

@@ -3,7 +3,7 @@ use libc::STDIN_FILENO;
 use libc::STDOUT_FILENO;
 
 fn main() {
-    let mut text = [0u8; 16384];
+    let mut text = [0u8; limits::MOST_BYTES];
     let length = io::read_full(STDIN_FILENO, &mut text);
     let mut out = [0u8; 2048];
     let printed = job_table::lines::answer(&text[..length], &mut out);

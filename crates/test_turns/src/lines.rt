@@ -96,7 +96,8 @@ fn turned(k: u64, n: usize, p: usize, q: usize, l: u32, minus: bool)
 {
     let r = Rotation::of(l, minus);
     let a = turn::turn_matrix(generator::matrix(4096 * k), n, r, p, q);
-    let v = turn::turn_axes(generator::axes(4096 * k + 1024), n, r, p, q);
+    let mut v = generator::axes(4096 * k + 1024);
+    turn::turn_axes(&mut v, n, r, p, q);
     io::write_all(1, b"T");
     text::natural(n as u64);
     text::natural(p as u64 + 1);

@@ -11,7 +11,7 @@ ghost use Rattle.turn.specs.Turn.{at, square, turnAxes, turnMatrix};
 use pair::Rotation;
 
 // The turn of lent axes on the pair p < q: rows p and q, column by column.
-pub fn turn_axes_in_place(v: &mut [[i64; 8]; 8], n: usize, r: Rotation, p: usize, q: usize)
+pub fn turn_axes(v: &mut [[i64; 8]; 8], n: usize, r: Rotation, p: usize, q: usize)
     requires { ⌜ (p < q) × (q < n) × (n ≤ 8) × Turns r × Small (now v) × Shaped (now v) ⌝ }
     ensures { λ z. ⌜ now (v .exit) ≡ turnAxes n r p q (now (v .entry)) ⌝ }
 {
@@ -70,23 +70,14 @@ fn mirror(a: &mut [[i64; 8]; 8], n: usize, p: usize, q: usize)
     }
 }
 
-// The turn of a lent matrix on the pair p < q. Its first pass over rows p and q is what turns axes.
-pub fn turn_matrix_in_place(a: &mut [[i64; 8]; 8], n: usize, r: Rotation, p: usize, q: usize)
+// The turn of a lent matrix on the pair p < q, in three steps. Its first pass over rows p and q is what turns axes.
+fn turn_in_place(a: &mut [[i64; 8]; 8], n: usize, r: Rotation, p: usize, q: usize)
     requires { ⌜ (p < q) × (q < n) × (n ≤ 8) × Turns r × Small (now a) × Symmetric (now a) × Shaped (now a) ⌝ }
     ensures { λ z. ⌜ now (a .exit) ≡ turnMatrix n r p q (now (a .entry)) ⌝ }
 {
-    turn_axes_in_place(a, n, r, p, q);
+    turn_axes(a, n, r, p, q);
     turn_block(a, r, p, q);
     mirror(a, n, p, q);
-}
-
-// The turn of the axes on the pair p < q.
-pub fn turn_axes(mut v: [[i64; 8]; 8], n: usize, r: Rotation, p: usize, q: usize) -> [[i64; 8]; 8]
-    requires { ⌜ (p < q) × (q < n) × (n ≤ 8) × Turns r × Small v ⌝ }
-    ensures { λ z. ⌜ z ≡ turnAxes n r p q v ⌝ }
-{
-    turn_axes_in_place(&mut v, n, r, p, q);
-    v
 }
 
 // The turn of the whole matrix on the pair p < q.
@@ -94,6 +85,6 @@ pub fn turn_matrix(mut a: [[i64; 8]; 8], n: usize, r: Rotation, p: usize, q: usi
     requires { ⌜ (p < q) × (q < n) × (n ≤ 8) × Turns r × Small a × Symmetric a ⌝ }
     ensures { λ z. ⌜ z ≡ turnMatrix n r p q a ⌝ }
 {
-    turn_matrix_in_place(&mut a, n, r, p, q);
+    turn_in_place(&mut a, n, r, p, q);
     a
 }

@@ -2,7 +2,7 @@
 use Prim.Native.Nat.{ℕ, _+_, _*_, _≤_}
 use mathlib.Core.List.{List}
 use lib.IntN.{ℤ}
-use Rattle.run.specs.inner.Calls.{Allowed}
+use Rattle.run.specs.Run.{Allowed}
 
 pub record Solvable (n : ℕ) (numbers : List ℤ) (limit t size : ℕ) : Type 0 where
   pub allowed : Allowed n numbers limit t

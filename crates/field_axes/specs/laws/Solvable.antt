@@ -15,7 +15,7 @@ use Rattle.ledger.specs.laws.Accepted.{load-accepted, passed}
 use Rattle.ledger.specs.Call.{load}
 use Rattle.ledger.specs.Refusal.{refusalOf}
 use Rattle.limits.specs.Limits.{toleranceLimit}
-use Rattle.record.specs.laws.AxisNumbers.{length-row, length-values}
+use Rattle.report.specs.laws.AxisNumbers.{length-row, length-values}
 use Rattle.record.specs.Record.{axisOf}
 use Rattle.record.specs.declared.Record.{Record}
 use Rattle.field_axes.specs.Solution.{axes, axisSolution, solution, solutionOf, solveRefusal}

@@ -18,6 +18,7 @@ use Rattle.job.specs.declared.first.Parameters.the-variants as First
 use Rattle.job.specs.declared.first.Parameters.the-variants.{Read}
 use Rattle.job.specs.declared.last.Ending.{Ending}
 use Rattle.job.specs.declared.last.Ending.the-variants as Last
+use Rattle.limits.specs.Limits.{leastDilution, mostDilution, mostCount, leastSamples}
 
 abbrev pub malformedLine : Line
 malformedLine = record { extent = Malformed; numbers = replicate 9 0 }
@@ -41,7 +42,7 @@ unfoldable pub lineAt : List ℕ → ℕ → ℕ → ℕ → Line
 lineAt text at tag m = cond (taggedAt text at tag) (numbersAt text (replicate 9 0) (at + 2) 0 m) malformedLine
 
 unfoldable pub sampleWithin : ℕ → List ℕ → Bool
-sampleWithin n numbers = within 1 100 (getD numbers 0 0) && allWithin 0 65535 (slice 1 (n + 1) numbers)
+sampleWithin n numbers = within leastDilution mostDilution (getD numbers 0 0) && allWithin 0 mostCount (slice 1 (n + 1) numbers)
 
 unfoldable pub parametersOf : Extent → List ℕ → Parameters
 parametersOf (To next) xs =
@@ -53,7 +54,7 @@ parametersAt text = parametersOf (lineAt text 0 80 2 .extent) (lineAt text 0 80 
 
 unfoldable pub endingOf : List ℕ → ℕ → Extent → List ℕ → Ending
 endingOf text k (To next) xs =
-    cond (ltb k 2) (Last.Refused 3) (cond (eqb (getD xs 0 0) k && leb (length text) next) Last.Accepted (Last.Refused 4))
+    cond (ltb k leastSamples) (Last.Refused 3) (cond (eqb (getD xs 0 0) k && leb (length text) next) Last.Accepted (Last.Refused 4))
 endingOf text k Malformed xs = Last.Refused 1
 
 unfoldable pub endingAt : List ℕ → ℕ → ℕ → Ending

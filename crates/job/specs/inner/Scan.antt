@@ -13,10 +13,11 @@ use Rattle.job.specs.declared.last.Ending.the-variants as Last
 use Rattle.job.specs.declared.Job.{Job}
 use Rattle.job.specs.declared.Reading.{Reading}
 use Rattle.job.specs.declared.Outcome.the-variants as Whole
+use Rattle.limits.specs.Limits.{mostChannels, mostSamples}
 
 unfoldable pub newJob : ℕ → ℕ → ℕ → Job
 newJob n limit tolerance =
-    record { n = n; limit = limit; tolerance = tolerance; k = 0; dilutions = replicate 256 0; counts = replicate 2048 0 }
+    record { n = n; limit = limit; tolerance = tolerance; k = 0; dilutions = replicate mostSamples 0; counts = replicate (mostSamples * mostChannels) 0 }
 
 unfoldable pub refusedReading : ℕ → ℕ → Reading
 refusedReading number line = record { outcome = Whole.Refused number line; job = newJob 0 0 0 }
@@ -42,7 +43,7 @@ kept j xs =
 
 unfoldable pub sampleOf : List ℕ → ℕ → Job → Extent → List ℕ → (ℕ → Reading) → Reading
 sampleOf text at j (To next) xs go =
-    cond (sampleWithin (j .n) xs) (cond (ltb (j .k) 256) (go next) (refusedReading 3 (j .k + 2))) (refusedReading 2 (j .k + 2))
+    cond (sampleWithin (j .n) xs) (cond (ltb (j .k) mostSamples) (go next) (refusedReading 3 (j .k + 2))) (refusedReading 2 (j .k + 2))
 sampleOf text at j Malformed xs go = finishedAt text at j
 
 -- m bounds the lines that are left: no more than 257 lines are read for samples.

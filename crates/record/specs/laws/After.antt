@@ -29,6 +29,7 @@ use Rattle.record.specs.laws.Turning.{work-keeps, work-grows, works-keep
 use Rattle.record.specs.Work.{Work, workPair, workPairs}
 use Rattle.record.specs.Flat.{entriesOf, flatOf, kept, rowsOf}
 use Rattle.record.specs.Kept.{Kept}
+use Rattle.record.specs.laws.Fill.{length-flat}
 use Rattle.record.specs.laws.Loading.{at-flat, load-kept}
 use Rattle.record.specs.Record.{acceptedOf, afterOf, fresh, refusedOf, sweptOf, turnedOf, workOf, workedOf}
 use Rattle.record.specs.declared.Record.{Record}
@@ -69,7 +70,7 @@ worked-kept r w b k =
 
 refused-kept : (r : Record) → Kept r → Kept (refusedOf r)
 unfolding refusedOf workOf
-refused-kept r k = record { size = k .size; channels = k .channels; turns = k .turns; work = k .work }
+refused-kept r k = record { size = k .size; channels = k .channels; turns = k .turns; work = k .work; matrix-length = k .matrix-length; axes-length = k .axes-length }
 
 turned-kept : (r : Record) (p q : ℕ) → Kept r → refusalOf (r .n) (r .m) (turn p q) ≡ 0 → Kept (turnedOf r p q)
 unfolding turnedOf workedOf workOf
@@ -84,6 +85,8 @@ turned-kept r p q k e =
           worked-kept r (workPair (r .n) (workOf r) pair) (k .size)
           (work-keeps (r .n) (workOf r) pair (k .size) (k .work) (omega (arith, t .first, t .ordered))
           (omega (arith, t .first, t .ordered, t .last)));
+      matrix-length = length-flat _;
+      axes-length = length-flat _;
     }
 
 few : (m n : ℕ) → m + n * (n - 1) / 2 ≤ turnLimit → m + length (cyclic n) ≤ turnLimit
@@ -101,6 +104,8 @@ swept-kept r k e =
       work =
           worked-kept r (workPairs (r .n) (workOf r) (cyclic (r .n))) (k .size)
           (works-keep (r .n) (workOf r) (cyclic (r .n)) (k .size) (k .work) (cyclic-pairs (r .n)));
+      matrix-length = length-flat _;
+      axes-length = length-flat _;
     }
 
 accepted-kept : (r : Record) (call : Call) → Kept r → refusalOf (r .n) (r .m) call ≡ 0 → Kept (acceptedOf r call)
@@ -143,4 +148,6 @@ fresh-kept =
             norm = omega arith;
             columns = λ j. omega arith;
           };
+      matrix-length = refl;
+      axes-length = refl;
     }

@@ -1,10 +1,12 @@
 -- Entries of a flat list, and of its rows.
-use mathlib.Core.Path.{_≡_, _∙_}
+use mathlib.Core.Path.{_≡_, sym, ap, _∙_}
 use mathlib.Core.List.{List}
 use Prim.Native.Nat.{ℕ, _+_, _*_, _/_, _%_, _<_}
 use native.Mathlib.Omega.{arith}
 use lib.IntN.{ℤ, pos}
-use Rattle.integer.specs.laws.Tabulate.{getD-tabulate}
+use lib.ListN.{getD, length}
+use lib.Seq.{ext-getD}
+use Rattle.integer.specs.laws.Tabulate.{getD-tabulate, length-tabulate}
 use Rattle.turn.specs.laws.Eight.{at-eight, shaped-square}
 use Rattle.turn.specs.Shape.{Shaped}
 use Rattle.turn.specs.Turn.{at}
@@ -27,3 +29,19 @@ at-rowsOf a i j h k = at-eight (kept a) i j h k
 pub shaped-rows : (a : List ℤ) → Shaped (rowsOf a)
 unfolding rowsOf entriesOf
 shaped-rows a = shaped-square (kept a)
+
+pub length-flat : (f : ℕ → ℕ → ℤ) → length (flatOf f) ≡ 64
+unfolding flatOf
+length-flat f = length-tabulate 64 (λ k. f (k / 8) (k % 8))
+
+flat-entry : (a : List ℤ) (k : ℕ) → k < 64 → getD (flatOf (at (rowsOf a))) k (pos 0) ≡ getD a k (pos 0)
+unfolding flatOf kept
+flat-entry a k l =
+    let place : 8 * (k / 8) + k % 8 ≡ k = omega arith in
+    getD-tabulate 64 (λ k. at (rowsOf a) (k / 8) (k % 8)) k (pos 0) l ∙ at-rowsOf a (k / 8) (k % 8) (omega arith) (omega arith)
+    ∙ ap (λ p. getD a p (pos 0)) place
+
+-- a flat list of 64 entries, in rows and flat again
+pub flat-rows : (a : List ℤ) → length a ≡ 64 → flatOf (at (rowsOf a)) ≡ a
+flat-rows a e =
+    ext-getD (pos 0) _ a (length-flat (at (rowsOf a)) ∙ sym e) (λ k l. flat-entry a k (rw (length-flat (at (rowsOf a))) at l))

@@ -23,7 +23,7 @@ use Rattle.turn.specs.InUse.{inUse}
 use Rattle.turn.specs.laws.InUse.{Use, inside, outside, use-of, at-square, inUse-inside, inUse-outside, inUse-symmetric}
 use Rattle.integer.specs.Matrix.{Matrix, diagonal, squares, matrixOf}
 use Rattle.integer.specs.laws.Matrix.{diagonal-squares, squares-cong}
-use Rattle.record.specs.laws.Fill.{kept-flatOf}
+use Rattle.record.specs.laws.Fill.{kept-flatOf, length-flat}
 use Rattle.record.specs.Flat.{kept, entriesOf, rowsOf, flatOf}
 use Rattle.record.specs.Kept.{Kept}
 use Rattle.record.specs.Record.{loadedOf, workOf}
@@ -94,6 +94,8 @@ module _ (r : Record) (n : ℕ) (numbers : List ℤ) (l : Loads n numbers) where
               norm = bound;
               columns = λ j. column j (decLt j n);
             };
+        matrix-length = length-flat _;
+        axes-length = length-flat _;
       }
 
 pub load-kept : (r : Record) (n : ℕ) (numbers : List ℤ) → refusalOf (r .n) (r .m) (load n numbers) ≡ 0 → Kept (loadedOf r n numbers)

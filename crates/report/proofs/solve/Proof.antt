@@ -27,17 +27,17 @@ entries-within c = rw (c .table-of .ensures, length-padded) (size (c .before))
 run-requires : tie.Need-run-requires
 unfolding jobIn loadedFor
 run-requires c κs =
-    let t = c .before .before .before in
+    let t = c .before .before in
     rw (t .table-of .ensures) (allowed (jobIn (t .before .args .job)) (t .before .pre .proper))
 
 returns : tie.Need-returns
 unfolding jobIn runFor
 returns c =
-    let t = c .before .before .before .before .table-of in
+    let t = c .before .before .before .table-of in
     record {
       shift = ap (λ (x : Table). x .e) (t .ensures);
-      ends = rw (t .ensures) at (c .run .ensures .ends);
-      answers = rw (t .ensures) at (c .run .ensures .answers);
+      runs = rw (t .ensures) at (c .run .ensures .is);
+      keeps = c .run .ensures .keeps;
     }
 
 pub solve-spec : {M : Type 1} → statement M

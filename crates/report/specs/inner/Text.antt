@@ -3,7 +3,7 @@
 use Prim.Native.Nat.{ℕ, _+_}
 use mathlib.Core.List.{List, _++_}
 use lib.IntN.{ℤ}
-use Rattle.run.specs.declared.Outcome.{Outcome}
+use Rattle.record.specs.declared.run.Outcome.{Outcome}
 use Rattle.text.specs.Line.{wordLine}
 use Rattle.text.specs.Lines.{lines}
 use Rattle.text.specs.Rows.{rowLine}

@@ -1,39 +1,50 @@
 -- `run::run` meets its contract.
-use mathlib.Core.Path.{refl, ap, _∙_}
+use mathlib.Core.Path.{_≡_, refl, sym, ap, _∙_}
 use mathlib.Core.Bool.{false}
 use native.Mathlib.Omega.{arith}
-use Rattle.ledger.specs.laws.Accepted.{load-accepted}
-use Rattle.record.specs.inner.AxisNumbers.{axesNumbers}
-use Rattle.record.specs.Blank.{blank}
-use Rattle.run.specs.Run.{Ran, runFrom, runOf}
-use Rattle.run.specs.inner.Run.{endOf}
+use borrow.Author.Needs.{needs}
+use borrow.Author.Tests.{eq-eqb}
+use Rattle.ledger.specs.Call.{load}
+use Rattle.ledger.specs.Refusal.{refusalOf}
+use Rattle.ledger.specs.laws.Accepted.{Loads, load-accepted}
+use Rattle.record.specs.Record.{acceptedOf, afterOf, fresh, loadedOf}
+use Rattle.record.specs.RunDone.{Runnable}
+use Rattle.record.specs.Run.{runFrom}
+use Rattle.run.specs.Run.{runOf}
 use Rattle.run.proofs.run.Statement.{statement}
 use Rattle.run.proofs.run.Tie as tie
 
-load-rows-requires : tie.Need-load-rows-requires
-unfolding blank
-load-rows-requires c κs = (refl, refl, c .before .before .pre .matrix)
+-- the record after the load
+module _ (c : tie.After-load) where
+  abbrev start : tie.Start
+  start = c .before .before
 
-run-rows-requires : tie.Need-run-rows-requires
-run-rows-requires c κs =
-    let loaded = c .before .before in
-    let a = loaded .before .before .before .pre in
-    (omega (arith, load-accepted 0 0 _ _ (a .matrix) .low), a .sweeps, a .tolerance, loaded .load-rows .ensures .1)
+  loads : Loads (start .args .n) (start .args .numbers .now)
+  loads = load-accepted 0 0 _ _ (start .pre .matrix)
 
-axes-numbers-requires : tie.Need-axes-numbers-requires
-axes-numbers-requires c κs = c .before .before .run-rows .ensures .1
+  is-loaded : c .load .result .next ≡ afterOf fresh (load (start .args .n) (start .args .numbers .now))
+  is-loaded = c .load .ensures .leaves ∙ ap (λ r. afterOf r (load (start .args .n) (start .args .numbers .now))) (c .before .new .ensures .is)
+
+  runnable : Runnable (c .load .result .next) (start .args .limit) (start .args .tolerance)
+  unfolding afterOf acceptedOf loadedOf fresh
+  runnable =
+      let taken = eq-eqb (refusalOf 0 0 (load (start .args .n) (start .args .numbers .now))) 0 (start .pre .matrix) in
+      record {
+        keeps = c .load .ensures .keeps;
+        loaded = rw (is-loaded, taken) (omega (arith, loads .low));
+        unturned = rw (is-loaded, taken);
+        sweeps = start .pre .sweeps;
+        tolerated = start .pre .tolerance;
+      }
 
 returns : tie.Need-returns
-unfolding runOf endOf
+unfolding runOf
 returns c =
-    let ran = c .before .before .before in
-    let loaded = ran .before .before .before in
-    let s = loaded .before .before .before in
-    let e = ran .run-rows .ensures .0 ∙ ap (runFrom (s .args .limit) 0 false (s .args .tolerance)) (loaded .load-rows .ensures .0) in
+    let s = start (c .before .before) in
     record {
-      ends = ap endOf e;
-      answers = c .axes-numbers .ensures ∙ ap (λ (z : Ran). axesNumbers (z .last)) e;
+      is = c .run .ensures .is ∙ ap (runFrom (s .args .limit) 0 false (s .args .tolerance)) (is-loaded (c .before .before));
+      keeps = c .run .ensures .keeps;
     }
 
 pub run-spec : {M : Type 1} → statement M
-run-spec = tie.close (tie.spec load-rows-requires run-rows-requires axes-numbers-requires returns)
+run-spec = tie.close (tie.spec (λ c κs. search needs) (λ c κs. search needs) (λ c κs. runnable (c .before)) returns)

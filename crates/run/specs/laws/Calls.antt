@@ -19,8 +19,9 @@ use Rattle.record.specs.Record.{acceptedOf, after, afterFrom, afterOf, fresh, l
 use Rattle.record.specs.declared.Record.{Record}
 use Rattle.record.specs.laws.Turning.{works-grow}
 use Rattle.run.specs.laws.Course.{Course, settles, is-still, is-spent, sweeps-on, course}
-use Rattle.run.specs.Run.{runOf, Ran}
-use Rattle.run.specs.inner.Calls.{Allowed}
+use Rattle.record.specs.declared.run.Run.{Run}
+use Rattle.run.specs.Run.{runOf}
+use Rattle.run.specs.Run.{Allowed}
 use Rattle.run.specs.Calls.{rounds, callsOf}
 
 -- axis i, axis i + 1, .., `count` of them
@@ -34,7 +35,7 @@ NoneRefused r [] = Unit
 NoneRefused r (call ∷ calls) = (refusalOf (r .n) (r .m) call ≡ 0) × NoneRefused (afterOf r call) calls
 
 -- the calls of a run and of its report's A lines, 'for i = 1 to n'
-pub record AsCalls (n : ℕ) (numbers : List ℤ) (t : ℕ) (z : Ran) : Type 0 where
+pub record AsCalls (n : ℕ) (numbers : List ℤ) (t : ℕ) (z : Run) : Type 0 where
   pub accepted : NoneRefused fresh (callsOf n numbers t (z .sweeps) ++ axesFrom 1 n)
   pub leaves : after (callsOf n numbers t (z .sweeps)) ≡ z .last
   pub axes-leave : after (callsOf n numbers t (z .sweeps) ++ axesFrom 1 n) ≡ z .last
@@ -92,14 +93,14 @@ module _ (n t : ℕ) (low : 1 ≤ n) (high : n ≤ 8) (h : t ≤ toleranceLimit)
       grown = omega (arith, works-grow (r .n) (workOf r) (cyclic (r .n)), counted, s .turns)
 
   -- what the calls from here on do
-  record Rounds (sweeps : ℕ) (r : Record) (z : Ran) : Type 0 where
+  record Rounds (sweeps : ℕ) (r : Record) (z : Run) : Type 0 where
     more : ℕ
     counted : z .sweeps ≡ sweeps + more
     accepted : NoneRefused r (rounds t more)
     leaves : afterFrom r (rounds t more) ≡ z .last
     swept : Swept (z .sweeps) (z .last)
 
-  stopped : (sweeps : ℕ) (r : Record) (z : Ran) → Swept sweeps r → z .sweeps ≡ sweeps → z .last ≡ r → Rounds sweeps r z
+  stopped : (sweeps : ℕ) (r : Record) (z : Run) → Swept sweeps r → z .sweeps ≡ sweeps → z .last ≡ r → Rounds sweeps r z
   unfolding NoneRefused rounds afterFrom
   stopped sweeps r z s k e =
       record {
@@ -110,7 +111,7 @@ module _ (n t : ℕ) (low : 1 ≤ n) (high : n ≤ 8) (h : t ≤ toleranceLimit)
         swept = rw (k, e) s;
       }
 
-  course-rounds : {left sweeps : ℕ} {idle : Bool} {r : Record} {z : Ran} → Course t left sweeps idle r z → Swept sweeps r → sweeps + left ≤ 16 →
+  course-rounds : {left sweeps : ℕ} {idle : Bool} {r : Record} {z : Run} → Course t left sweeps idle r z → Swept sweeps r → sweeps + left ≤ 16 →
       Rounds sweeps r z
   unfolding NoneRefused rounds afterFrom
   course-rounds (settles e) s l = stopped _ _ _ s refl refl
@@ -160,7 +161,7 @@ module _ (n : ℕ) (numbers : List ℤ) (limit t : ℕ) (a : Allowed n numbers l
         turns = run-rounds .swept .turns;
       }
     where
-      z : Ran
+      z : Run
       z = runOf n numbers limit t
 
       calls : List Call

@@ -17,8 +17,9 @@ use Rattle.record.specs.Loose.{looseOf}
 use Rattle.choice.specs.Choice.{choose, fits, minusSign, negative, smallest}
 use Rattle.choice.specs.Threshold.{roundedUp, threshold, u, w}
 use Rattle.integer.specs.Matrix.{diagonal, matrixOf}
-use Rattle.run.specs.Run.{noPair, noTurn, runFrom, tried, runOf}
-use Rattle.run.specs.laws.Running.{run-settled}
+use Rattle.record.specs.Run.{noPair, noTurn, runFrom, tried}
+use Rattle.run.specs.Run.{runOf}
+use Rattle.record.specs.laws.Running.{run-settled}
 use Rattle.run.specs.Cards.{Cards}
 
 pub cards : Cards

@@ -11,20 +11,22 @@ use Rattle.record.specs.laws.After.{after-kept, fresh-kept}
 use Rattle.record.specs.Kept.{Kept}
 use Rattle.record.specs.Record.{afterOf, answerOf, fresh}
 use Rattle.record.specs.declared.Record.{Record}
-use Rattle.run.specs.Run.{Ran, noPair, noTurn, runFrom, stop, tried, runOf}
-use Rattle.run.specs.declared.Outcome.{Outcome}
-use Rattle.run.specs.declared.Outcome.the-variants.{Settled, Still, Spent}
+use Rattle.record.specs.Run.{noPair, noTurn, runFrom, stop, tried}
+use Rattle.record.specs.declared.run.Run.{Run}
+use Rattle.run.specs.Run.{runOf}
+use Rattle.record.specs.declared.run.Outcome.{Outcome}
+use Rattle.record.specs.declared.run.Outcome.the-variants.{Settled, Still, Spent}
 
 -- with tolerance t: sweeps left to the limit, sweeps run, whether the last one made no turn, the record, and how the run ends
-pub data Course (t : ℕ) : ℕ → ℕ → Bool → Record → Ran → Type 0 where
+pub data Course (t : ℕ) : ℕ → ℕ → Bool → Record → Run → Type 0 where
   settles : {left sweeps : ℕ} {idle : Bool} {r : Record} → noPair (answerOf r (loosePair t)) ≡ true →
       Course t left sweeps idle r (stop Settled sweeps r)
   is-still : {left sweeps : ℕ} {r : Record} → noPair (answerOf r (loosePair t)) ≡ false → Course t left sweeps true r (stop Still sweeps r)
   is-spent : {sweeps : ℕ} {r : Record} → noPair (answerOf r (loosePair t)) ≡ false → Course t 0 sweeps false r (stop Spent sweeps r)
-  sweeps-on : {left sweeps : ℕ} {r : Record} {z : Ran} → noPair (answerOf r (loosePair t)) ≡ false →
+  sweeps-on : {left sweeps : ℕ} {r : Record} {z : Run} → noPair (answerOf r (loosePair t)) ≡ false →
       Course t left (suc sweeps) (noTurn (answerOf r sweep)) (afterOf r sweep) z → Course t (suc left) sweeps false r z
 
-tried-course : (t left sweeps : ℕ) (idle : Bool) (r : Record) (later : Ran) →
+tried-course : (t left sweeps : ℕ) (idle : Bool) (r : Record) (later : Run) →
     (noPair (answerOf r (loosePair t)) ≡ false → Course t left sweeps false r later) → Course t left sweeps idle r (tried sweeps idle t r later)
 unfolding tried
 tried-course t left sweeps idle r later c = by-pair (noPair (answerOf r (loosePair t))) refl idle
@@ -52,11 +54,11 @@ Says Settled limit t sweeps r = noPair (answerOf r (loosePair t)) ≡ true
 Says Still limit t sweeps r = (noPair (answerOf r (loosePair t)) ≡ false) × (1 ≤ sweeps) × AfterIdle r
 Says Spent limit t sweeps r = (noPair (answerOf r (loosePair t)) ≡ false) × (sweeps ≡ limit)
 
-pub record Ends (limit t : ℕ) (z : Ran) : Type 0 where
+pub record Ends (limit t : ℕ) (z : Run) : Type 0 where
   pub within : z .sweeps ≤ limit
   pub says : Says (z .outcome) limit t (z .sweeps) (z .last)
 
-course-ends : {t left sweeps : ℕ} {idle : Bool} {r : Record} {z : Ran} → Course t left sweeps idle r z →
+course-ends : {t left sweeps : ℕ} {idle : Bool} {r : Record} {z : Run} → Course t left sweeps idle r z →
     (idle ≡ true → (1 ≤ sweeps) × AfterIdle r) → Ends (sweeps + left) t z
 unfolding Says
 course-ends (settles e) h = record { within = omega arith; says = e }
@@ -69,7 +71,7 @@ pub run-ends : (n : ℕ) (numbers : List ℤ) (limit t : ℕ) → Ends limit t (
 unfolding runOf
 run-ends n numbers limit t = rw zero-add at (course-ends (course t limit 0 false (afterOf fresh (load n numbers))) (λ e. absurd (true≢false (sym e))))
 
-pub course-kept : {t left sweeps : ℕ} {idle : Bool} {r : Record} {z : Ran} → Course t left sweeps idle r z → Kept r → Kept (z .last)
+pub course-kept : {t left sweeps : ℕ} {idle : Bool} {r : Record} {z : Run} → Course t left sweeps idle r z → Kept r → Kept (z .last)
 course-kept (settles e) k = k
 course-kept (is-still e) k = k
 course-kept (is-spent e) k = k

@@ -11,7 +11,7 @@ use Rattle.scatter.specs.Table.{entries, scatter, tableOf}
 use Rattle.sums.specs.declared.Sums.{Sums}
 use Rattle.record.specs.laws.Accepted.{load-accepted}
 use Rattle.integer.specs.Matrix.{matrixOf}
-use Rattle.run.specs.inner.Calls.{Allowed}
+use Rattle.run.specs.Run.{Allowed}
 
 module _ (n : ℕ) (t : Sums) (low : 2 ≤ n) (high : n ≤ 8) where
   entries-load : Loads n (entries (scatter n t))

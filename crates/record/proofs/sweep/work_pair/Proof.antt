@@ -37,9 +37,9 @@ of-requires c κs =
     let chose = sym (c .before .before .before .choice-at .ensures) ∙ c .before .l .given .1 in
     l-range (s .args .n) (work s) (pair s) _ _ chose
 
-turn-matrix-in-place-requires : tie.Need-turn-matrix-in-place-requires
+turn-axes-requires : tie.Need-turn-axes-requires
 unfolding chosen
-turn-matrix-in-place-requires c κs =
+turn-axes-requires c κs =
     let s = c .before .before .before .before .before .before .before in
     let chose = sym (c .before .before .before .before .before .choice-at .ensures) ∙ c .before .before .before .l .given .1 in
     let range = l-range (s .args .n) (work s) (pair s) _ _ chose in (
@@ -47,36 +47,35 @@ turn-matrix-in-place-requires c κs =
       s .pre .1,
       s .pre .2,
       rw (c .before .of .ensures) (rotationOf-turns _ _ (range .0) (range .1)),
-      matrix-small (s .args .n) (work s) (s .pre .3 .kept) (s .pre .3 .few),
-      matrix-symmetric (s .args .n) (work s) (s .pre .3 .kept) (s .pre .3 .few),
-      s .pre .3 .matrix,
+      axes-small (s .args .n) (work s) (s .pre .3 .kept) (s .pre .3 .few),
+      s .pre .3 .axes,
     )
 
-turn-axes-in-place-requires : tie.Need-turn-axes-in-place-requires
+turn-matrix-requires : tie.Need-turn-matrix-requires
 unfolding chosen
-turn-axes-in-place-requires c κs =
+turn-matrix-requires c κs =
     let s = c .before .before .before .before .before .before .before .before .before in
-    let chose = sym (c .before .before .before .before .before .before .before .choice-at .ensures)
-    ∙ c .before .before .before .before .before .l .given .1 in
+    let chose = sym (c .before .before .before .before .before .before .before .choice-at .ensures) ∙ c .before .before .before .before .before .l .given .1 in
     let range = l-range (s .args .n) (work s) (pair s) _ _ chose in (
       s .pre .0,
       s .pre .1,
       s .pre .2,
       rw (c .before .before .before .of .ensures) (rotationOf-turns _ _ (range .0) (range .1)),
-      axes-small (s .args .n) (work s) (s .pre .3 .kept) (s .pre .3 .few),
-      s .pre .3 .axes,
+      matrix-small (s .args .n) (work s) (s .pre .3 .kept) (s .pre .3 .few),
+      matrix-symmetric (s .args .n) (work s) (s .pre .3 .kept) (s .pre .3 .few),
     )
 
 returns-2 : tie.Need-returns-2
 unfolding chosen workBy
 returns-2 c =
     let s = c .before .before .before .before .before .before .before .before .before .before in
-    let chose = sym (c .before .before .before .before .before .before .before .before .choice-at .ensures)
-    ∙ c .before .before .before .before .before .before .l .given .1 in
+    let chose =
+    sym (c .before .before .before .before .before .before .before .before .choice-at .ensures) ∙
+    c .before .before .before .before .before .before .l .given .1 in
     rw (
       turned-by (s .args .n) (work s) (pair s) _ _ chose,
-      c .before .before .turn-matrix-in-place .ensures,
-      c .turn-axes-in-place .ensures,
+      c .before .before .turn-axes .ensures,
+      c .turn-matrix .ensures,
       c .before .before .before .before .of .ensures,
       add-one,
     )
@@ -90,7 +89,7 @@ work-pair-spec =
     (λ c. search needs)
     returns
     of-requires
-    turn-matrix-in-place-requires
-    turn-axes-in-place-requires
+    turn-axes-requires
+    turn-matrix-requires
     (λ c. search needs)
     returns-2)

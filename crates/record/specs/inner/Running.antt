@@ -1,0 +1,36 @@
+-- What the loop of a run promises: rows in place of the record that holds them.
+use mathlib.Core.Bool.{false}
+use mathlib.Core.List.{List}
+use mathlib.Core.Path.{_≡_}
+use Prim.Native.Nat.{ℕ, _≤_}
+use lib.IntN.{ℤ}
+use Rattle.limits.specs.Limits.{mostSweeps, toleranceLimit}
+use Rattle.turn.specs.Shape.{Shaped}
+use Rattle.turn.specs.Turn.{at}
+use Rattle.record.specs.Flat.{flatOf}
+use Rattle.record.specs.Kept.{Kept}
+use Rattle.record.specs.Run.{runFrom, stop}
+use Rattle.record.specs.declared.Record.{Record}
+use Rattle.record.specs.declared.run.Ended.{Ended}
+
+-- the record that holds rows a and v of n channels after m turns
+abbrev pub heldOf : ℕ → ℕ → ℕ → List (List ℤ) → List (List ℤ) → Record
+heldOf refused n m a v = record { n = n; m = m; refused = refused; a = flatOf (at a); v = flatOf (at v) }
+
+-- rows that a kept record holds
+pub record Holds (refused n m : ℕ) (a v : List (List ℤ)) : Type 0 where
+  pub keeps : Kept (heldOf refused n m a v)
+  pub matrix : Shaped a
+  pub axes : Shaped v
+
+-- a matrix of some channel, not turned yet, a sweep limit of at most 16, and a tolerance in its range
+pub record RowsRunnable (n limit t : ℕ) (a v : List (List ℤ)) : Type 0 where
+  pub loaded : 1 ≤ n
+  pub sweeps : limit ≤ mostSweeps
+  pub tolerated : t ≤ toleranceLimit
+  pub holds : (refused : ℕ) → Holds refused n 0 a v
+
+-- the run of the record that holds the rows, whatever its count of refused calls is
+pub record RowsRun (n limit t : ℕ) (a v a′ v′ : List (List ℤ)) (z : Ended) : Type 0 where
+  pub is : (refused : ℕ) → stop (z .outcome) (z .sweeps) (heldOf refused n (z .m) a′ v′) ≡ runFrom limit 0 false t (heldOf refused n 0 a v)
+  pub holds : (refused : ℕ) → Holds refused n (z .m) a′ v′

@@ -1,3 +1,0 @@
-mod Going
-mod Loaded
-mod Told

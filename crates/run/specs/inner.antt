@@ -1,4 +1,0 @@
-pub mod Run
-pub mod Rows
-pub mod Done
-pub mod Calls
