@@ -1,5 +1,7 @@
 -- `turns::lines::turned` is safe.
 use borrow.Author.Needs.{needs}
+use Rattle.test_turns.specs.Generator.{axesOf, rowOf}
+use Rattle.turn.specs.laws.Eight.{shaped-square}
 use Rattle.turn.specs.laws.Size.{rotationOf-turns}
 use Rattle.test_turns.proofs.lines.turned.Statement.{statement}
 use Rattle.test_turns.proofs.lines.turned.Tie as tie
@@ -16,13 +18,16 @@ turn-matrix-requires c κs =
     )
 
 turn-axes-requires : tie.Need-turn-axes-requires
+unfolding axesOf rowOf
 turn-axes-requires c κs =
-    let s = c .before .before .before .before in (
+    let a = c .before in
+    let s = a .before .before .before .before in (
       search needs,
       search needs,
       search needs,
-      rw (c .before .before .before .of .ensures) (rotationOf-turns _ _ (s .pre .4) (s .pre .5)),
-      c .axes .ensures .1,
+      rw (a .before .before .before .of .ensures) (rotationOf-turns _ _ (s .pre .4) (s .pre .5)),
+      a .axes .ensures .1,
+      rw (a .axes .ensures .0) (shaped-square _),
     )
 
 pub turned-spec : {M : Type 1} → statement M
