@@ -17,12 +17,12 @@ use Rattle.ledger.specs.Call.{load, loosePair}
 use Rattle.ledger.specs.Refusal.{refusalOf}
 use Rattle.limits.specs.Limits.{toleranceLimit, units}
 use Rattle.record.specs.laws.Fill.{kept-flatOf}
-use Rattle.record.specs.Flat.{kept}
-use Rattle.record.specs.Record.{acceptedOf, afterOf, answerOf, fresh, loadedOf, valueOf}
+use Rattle.record.specs.Flat.{keptEntry}
+use Rattle.record.specs.Record.{acceptedOf, afterOf, answerOf, fresh, loadedRecord, valueOf}
 use Rattle.ledger.specs.Pairs.{cyclic}
 use Rattle.rounding.specs.laws.Nearest.{rnd-zero}
 use Rattle.rounding.specs.Rounding.{rnd}
-use Rattle.record.specs.laws.Accepted.{after-accepted, load-accepted, loose-pair-accepted}
+use Rattle.record.specs.laws.Accepted.{after-accepted, load-taken, loose-pair-taken}
 use Rattle.sums.specs.Samples.{Sample, z, sum, sumsOf}
 use Rattle.scatter.specs.laws.OfSamples.{scatter-of-samples}
 use Rattle.scatter.specs.Table.{scatter, shift, entries}
@@ -86,28 +86,28 @@ module _ (n t : ℕ) (low : 2 ≤ n) (high : n ≤ 8) (few : t ≤ toleranceLimi
         same = λ i j h k. getD-repeated (n * n) (i * n + j) (pos 0) ∙ sym (getD-repeated (n * n) (j * n + i) (pos 0));
       }
 
-  loaded : afterOf fresh (load n (zeros n)) ≡ loadedOf fresh n (zeros n)
+  loaded : afterOf fresh (load n (zeros n)) ≡ loadedRecord fresh n (zeros n)
   unfolding acceptedOf
-  loaded = after-accepted fresh (load n (zeros n)) (load-accepted (fresh .n) (fresh .m) n (zeros n) zeros-load)
+  loaded = after-accepted fresh (load n (zeros n)) (load-taken (fresh .n) (fresh .m) n (zeros n) zeros-load)
 
-  entry-zero : (i j : ℕ) → i < n → j < n → kept (loadedOf fresh n (zeros n) .a) i j ≡ pos 0
-  unfolding loadedOf matrixOf
+  entry-zero : (i j : ℕ) → i < n → j < n → keptEntry (loadedRecord fresh n (zeros n) .a) i j ≡ pos 0
+  unfolding loadedRecord matrixOf
   entry-zero i j h k =
       kept-flatOf _ i j (omega arith) (omega arith) ∙ inUse-inside n _ i j h k ∙ rw (getD-repeated (n * n) (i * n + j) (pos 0)) (*ℤ-zero (pos units))
 
-  none : looseOf (kept (loadedOf fresh n (zeros n) .a)) t (cyclic n) ≡ NoPair
-  none = by (loose-holds n (kept (loadedOf fresh n (zeros n) .a)) t .pair-or-none)
+  none : looseOf (keptEntry (loadedRecord fresh n (zeros n) .a)) t (cyclic n) ≡ NoPair
+  none = by (loose-holds n (keptEntry (loadedRecord fresh n (zeros n) .a)) t .pair-or-none)
     where
-      by : PairOrNone (looseOf (kept (loadedOf fresh n (zeros n) .a)) t (cyclic n)) →
-          looseOf (kept (loadedOf fresh n (zeros n) .a)) t (cyclic n) ≡ NoPair
+      by : PairOrNone (looseOf (keptEntry (loadedRecord fresh n (zeros n) .a)) t (cyclic n)) →
+          looseOf (keptEntry (loadedRecord fresh n (zeros n) .a)) t (cyclic n) ≡ NoPair
       by (inr e) = e
       by (inl (p, q, e)) =
-          let l = loose-holds n (kept (loadedOf fresh n (zeros n) .a)) t .pair-is-loose p q e in
+          let l = loose-holds n (keptEntry (loadedRecord fresh n (zeros n) .a)) t .pair-is-loose p q e in
           absurd (omega (arith, rw (entry-zero (p - 1) (q - 1) (omega arith) (omega arith)) at (l .3)))
 
-  asked : answerOf (loadedOf fresh n (zeros n)) (loosePair t) ≡ NoPair
-  unfolding answerOf valueOf loadedOf
-  asked = rw (eq-eqb (refusalOf n 0 (loosePair t)) 0 (loose-pair-accepted n 0 (omega arith) t few)) none
+  asked : answerOf (loadedRecord fresh n (zeros n)) (loosePair t) ≡ NoPair
+  unfolding answerOf valueOf loadedRecord
+  asked = rw (eq-eqb (refusalOf n 0 (loosePair t)) 0 (loose-pair-taken n 0 (omega arith) t few)) none
 
   -- settled, 0 sweeps
   pub zeros-settled : (limit : ℕ) → runOf n (zeros n) limit t ≡ stop Settled 0 (afterOf fresh (load n (zeros n)))

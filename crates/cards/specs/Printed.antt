@@ -5,7 +5,7 @@ use mathlib.Core.List.{List, [], _∷_, _++_}
 use lib.IntN.{pos}
 use lib.ListN.{take}
 use Rattle.integer.specs.Tabulate.{tabulate}
-use Rattle.job.specs.Job.{Job, accepted, withSample, nextLine, nothing, ended, judged, after, begun, jobOfLines, jobOf}
+use Rattle.job.specs.Job.{Job, accepted, withSample, nextLine, nothing, ended, judged, jobAfter, begun, jobOfLines, jobOf}
 use Rattle.text.specs.Numeral.{leadingZero, valueFrom}
 use Rattle.text.specs.Parts.{onto, split, before}
 use Rattle.text.specs.Range.{within, allWithin}
@@ -70,7 +70,7 @@ job = record { n = 2; limit = 1; tolerance = 0; dilutions = 1 ∷ 5 ∷ 1 ∷ []
 
 read : jobOf jobText ≡ accepted job
 unfolding jobOf split onto allWithin leadingZero valueFrom numberOf before numbersOf isTag recordOf lineOf within parametersInRange sampleInRange
-    withSample nextLine nothing ended judged after begun jobOfLines
+    withSample nextLine nothing ended judged jobAfter begun jobOfLines
 read = refl
 
 table : (tableFor job .e ≡ 0) × (take 4 (tableFor job .entries) ≡ running.two (pos 50) (pos 25) (pos 50))

@@ -11,7 +11,7 @@ use mir.Val.{SFits, toZ, ofZ}
 use mir.Facts.{toZ-ofZ}
 use Rattle.integer.specs.laws.Laws.{natAbs-+ℤ, natAbs-negℤ, natAbs-zero}
 use Rattle.integer.specs.laws.Word.{held}
-use Rattle.choice.specs.Choice.{choose, smallest, negative, minusSign}
+use Rattle.choice.specs.Choice.{choose, smallestFit, negative, minusSign}
 use Rattle.choice.specs.Widest.{widest}
 use Rattle.choice.specs.declared.Choice.the-variants.{NoTurn}
 
@@ -38,7 +38,7 @@ unfolding choose
 none app aqq apq e = rw e
 
 pub some : (app aqq apq : ℤ) (y g : ℕ) (apq-zero : apq ≡ pos 0 → ⊥) → y ≡ natAbs apq → g ≡ natAbs (aqq -ℤ app) →
-    smallest (2 * y) g (Bool·beq (ltZ apq (pos 0)) (ltZ (aqq -ℤ app) (pos 0))) 1 14 ≡ choose app aqq apq
+    smallestFit (2 * y) g (Bool·beq (ltZ apq (pos 0)) (ltZ (aqq -ℤ app) (pos 0))) 1 14 ≡ choose app aqq apq
 unfolding choose minusSign
 some app aqq apq y g f ey eg =
     rw (ey, eg, sign-test apq, sign-test (aqq -ℤ app), ne-eqb (natAbs apq) 0 (λ e. f (natAbs-zero apq e)))

@@ -8,15 +8,16 @@ use native.Mathlib.Omega.{arith}
 use lib.Dec.{lit<}
 use borrow.Author.Tests.{le-leb, lt-leb}
 use Rattle.choice.specs.Widest.{widest}
-use Rattle.choice.specs.Threshold.{threshold, roundedUp, u, w}
+use Rattle.choice.specs.Threshold.{threshold, u, w}
+use Rattle.integer.specs.RoundedUp.{roundedUp}
 use Rattle.choice.specs.laws.Threshold.{threshold-most}
-use Rattle.choice.specs.Choice.{fits, smallest}
+use Rattle.choice.specs.Choice.{fits, smallestFit}
 use Rattle.choice.specs.declared.Choice.the-variants.{NoTurn, Turn}
 
 module _ (y g : ℕ) (minus : Bool) (l : ℕ) where
-  opened : l ≤ 14 → smallest y g minus l (15 - l) ≡ cond (fits y g l) (Turn l minus) (smallest y g minus (l + 1) (15 - (l + 1)))
-  unfolding smallest
-  opened h = rw (left, add-one) (ap (λ n. cond (fits y g l) (Turn l minus) (smallest y g minus (suc l) n)) rest)
+  opened : l ≤ 14 → smallestFit y g minus l (15 - l) ≡ cond (fits y g l) (Turn l minus) (smallestFit y g minus (l + 1) (15 - (l + 1)))
+  unfolding smallestFit
+  opened h = rw (left, add-one) (ap (λ n. cond (fits y g l) (Turn l minus) (smallestFit y g minus (suc l) n)) rest)
     where
       left : 15 - l ≡ suc (14 - l)
       left = omega arith
@@ -24,16 +25,16 @@ module _ (y g : ℕ) (minus : Bool) (l : ℕ) where
       rest : 14 - l ≡ 15 - suc l
       rest = omega arith
 
-  pub found : l ≤ 14 → threshold l * g ≤ y * 2 ^ 24 → smallest y g minus l (15 - l) ≡ Turn l minus
+  pub found : l ≤ 14 → threshold l * g ≤ y * 2 ^ 24 → smallestFit y g minus l (15 - l) ≡ Turn l minus
   unfolding fits
   found h e = rw (opened h, le-leb _ _ e)
 
-  pub passed : l ≤ 14 → y * 2 ^ 24 < threshold l * g → smallest y g minus l (15 - l) ≡ smallest y g minus (l + 1) (15 - (l + 1))
+  pub passed : l ≤ 14 → y * 2 ^ 24 < threshold l * g → smallestFit y g minus l (15 - l) ≡ smallestFit y g minus (l + 1) (15 - (l + 1))
   unfolding fits
   passed h e = rw (opened h, lt-leb _ _ e)
 
-  pub exhausted : l ≡ 15 → smallest y g minus l (15 - l) ≡ NoTurn
-  unfolding smallest
+  pub exhausted : l ≡ 15 → smallestFit y g minus l (15 - l) ≡ NoTurn
+  unfolding smallestFit
   exhausted e = rw e
 
 -- T_l × g is a word

@@ -12,9 +12,9 @@ unfoldable pub fits : ℕ → ℕ → ℕ → Bool
 fits y g l = leb (threshold l * g) (y * 2 ^ 24)
 
 -- the smallest l that fits, of `left` ones from `l` on; if none fits, no turn
-unfoldable pub smallest : ℕ → ℕ → Bool → ℕ → ℕ → Choice
-smallest y g minus l zero = NoTurn
-smallest y g minus l (suc left) = cond (fits y g l) (Turn l minus) (smallest y g minus (suc l) left)
+unfoldable pub smallestFit : ℕ → ℕ → Bool → ℕ → ℕ → Choice
+smallestFit y g minus l zero = NoTurn
+smallestFit y g minus l (suc left) = cond (fits y g l) (Turn l minus) (smallestFit y g minus (suc l) left)
 
 unfoldable pub negative : ℤ → Bool
 negative (pos z) = false
@@ -28,4 +28,4 @@ minusSign apq difference = Bool·beq (negative apq) (negative difference)
 unfoldable pub choose : ℤ → ℤ → ℤ → Choice
 choose app aqq apq =
     cond (eqb (natAbs apq) 0) NoTurn
-    (smallest (2 * natAbs apq) (natAbs (aqq -ℤ app)) (minusSign apq (aqq -ℤ app)) 1 14)
+    (smallestFit (2 * natAbs apq) (natAbs (aqq -ℤ app)) (minusSign apq (aqq -ℤ app)) 1 14)

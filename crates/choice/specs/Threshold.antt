@@ -1,5 +1,6 @@
 -- Document 01, 'Choosing a turn': the thresholds T_l.
-use Prim.Native.Nat.{ℕ, _+_, _-_, _*_, _/_, _^_}
+use Prim.Native.Nat.{ℕ, _+_, _-_, _*_, _^_}
+use Rattle.integer.specs.RoundedUp.{roundedUp}
 
 -- u = 2^(2l+1) − 1
 unfoldable pub u : ℕ → ℕ
@@ -8,10 +9,6 @@ u l = 2 ^ (2 * l + 1) - 1
 -- w = 3×2^l
 unfoldable pub w : ℕ → ℕ
 w l = 3 * 2 ^ l
-
--- x / y rounded up to a whole number
-unfoldable pub roundedUp : ℕ → ℕ → ℕ
-roundedUp x y = (x + (y - 1)) / y
 
 -- T_l is 2^24 × 2uw / (u² − w²), rounded up to a whole number
 unfoldable pub threshold : ℕ → ℕ

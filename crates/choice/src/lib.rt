@@ -3,7 +3,7 @@ ghost use mathlib.Core.Path.{_≡_};
 ghost use Prim.Native.Nat.{_*_, _≤_};
 ghost use lib.IntN.{natAbs};
 ghost use Rattle.choice.specs.Threshold.{threshold};
-ghost use Rattle.choice.specs.Choice.{choose, smallest};
+ghost use Rattle.choice.specs.Choice.{choose, smallestFit};
 ghost use Rattle.choice.specs.Widest.{widest};
 
 // What the choice rule gives a pair: no turn, or the l and whether the sign f is −1.
@@ -41,7 +41,7 @@ pub fn threshold_of(l: u32) -> u64
 // The smallest l from 1 to 14 that fits y and g.
 fn smallest_fit(y: u64, g: u64, minus: bool) -> Choice
     requires { ⌜ (y ≤ 2 * widest) × (g ≤ 2 * widest) ⌝ }
-    ensures { λ r. ⌜ r ≡ smallest y g minus 1 14 ⌝ }
+    ensures { λ r. ⌜ r ≡ smallestFit y g minus 1 14 ⌝ }
 {
     let scaled = y * 0x100_0000;
     let mut l = 1;

@@ -7,8 +7,8 @@ use lib.IntN.{ℤ, pos, negℤ}
 use lib.ListN.{length, drop}
 
 -- How many numbers there are, or the refusal's number negated.
-unfoldable pub answered : ℕ → List ℤ → ℤ
-answered refusal numbers = cond (eqb refusal 0) (pos (length numbers)) (negℤ (pos refusal))
+unfoldable pub countOrRefusal : ℕ → List ℤ → ℤ
+countOrRefusal refusal numbers = cond (eqb refusal 0) (pos (length numbers)) (negℤ (pos refusal))
 
 -- The lent buffer: 'buffers stay' at a refusal.
 unfoldable pub lent : ℕ → List ℤ → List ℤ → List ℤ

@@ -4,4 +4,5 @@ pub mod Dot
 pub mod Matrix
 pub mod Range
 pub mod Tabulate
+pub mod RoundedUp
 pub mod laws

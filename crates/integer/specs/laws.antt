@@ -9,5 +9,6 @@ pub mod Matrix
 pub mod Range
 pub mod Tests
 pub mod Tabulate
+pub mod RoundedUp
 pub mod Filled
 pub mod Word

@@ -14,7 +14,7 @@ use Rattle.text.specs.Range.{within, allWithin}
 use Rattle.text.specs.laws.Range.{both}
 use Rattle.job.specs.Range.{parametersInRange, sampleInRange}
 use Rattle.job.specs.Text.{numberOf, numbersOf, isTag, recordOf, lineOf}
-use Rattle.job.specs.Job.{Job, Answer, refused, accepted, withSample, nextLine, nothing, ended, judged, after, begun, jobOfLines, jobOf}
+use Rattle.job.specs.Job.{Job, Answer, refused, accepted, withSample, nextLine, nothing, ended, judged, jobAfter, begun, jobOfLines, jobOf}
 use Rattle.job.specs.Values.{inRange, Proper}
 
 -- ---- a line that is one with this tag has c numbers
@@ -119,12 +119,12 @@ module _ (j′ : Job) where
       by-end j b (nextLine j) (ltb (length (j .dilutions)) 2) (eqb (getD xs 0 0) (length (j .dilutions)) && nothing rest) (ltb-false _ _) e
   judged-proper j b none none rest go c h e = not-refused 1 (nextLine j) e
 
-  after-proper : (ls : List (List ℕ)) (j : Job) → Begun j → after j ls ≡ accepted j′ → Proper j′
-  unfolding after
+  after-proper : (ls : List (List ℕ)) (j : Job) → Begun j → jobAfter j ls ≡ accepted j′ → Proper j′
+  unfolding jobAfter
   after-proper [] j b e = not-refused 1 (nextLine j) e
   after-proper (part ∷ []) j b e = not-refused 1 (nextLine j) e
   after-proper (line ∷ part ∷ parts) j b e =
-      judged-proper j b (lineOf 83 (suc (j .n)) line) (lineOf 69 1 line) (part ∷ parts) (λ xs. after (withSample j xs) (part ∷ parts))
+      judged-proper j b (lineOf 83 (suc (j .n)) line) (lineOf 69 1 line) (part ∷ parts) (λ xs. jobAfter (withSample j xs) (part ∷ parts))
       (line-count 83 (suc (j .n)) line) (λ xs. after-proper (part ∷ parts) (withSample j xs)) e
 
   begun-proper : (o : Option (List ℕ)) (rest : List (List ℕ)) → begun o rest ≡ accepted j′ → Proper j′
@@ -136,7 +136,7 @@ module _ (j′ : Job) where
       start = record { n = getD xs 0 0; limit = getD xs 1 0; tolerance = getD xs 2 0; dilutions = []; counts = [] }
 
       by-range : (t : Bool) → parametersInRange (getD xs 0 0) (getD xs 1 0) (getD xs 2 0) ≡ t →
-          cond t (after start rest) (refused 2 1) ≡ accepted j′ → Proper j′
+          cond t (jobAfter start rest) (refused 2 1) ≡ accepted j′ → Proper j′
       by-range true p e = after-proper rest start
           (record {
             parameters = p;

@@ -21,7 +21,7 @@ use Rattle.job.specs.declared.sample.Extent.the-variants.{To, Malformed}
 use Rattle.job.specs.declared.first.Parameters.the-variants as First
 use Rattle.job.specs.declared.last.Ending.the-variants as Last
 use Rattle.job.proofs.Records.{lineIn, Reads, bad, good, Cons, split-cons, line-read}
-use Rattle.job.specs.Job.{Job, Answer, refused, accepted, withSample, nextLine, nothing, ended, judged, after, begun, jobOfLines, jobOf}
+use Rattle.job.specs.Job.{Job, Answer, refused, accepted, withSample, nextLine, nothing, ended, judged, jobAfter, begun, jobOfLines, jobOf}
 use Rattle.job.specs.Reading.{padded, inArrays, readingOf}
 use Rattle.job.specs.inner.Scan.{newJob, refusedReading, finishedBy, finishedAt, kept, sampleOf, samplesAt}
 use Rattle.job.specs.laws.Scan.{readingBy, readingAt}
@@ -123,8 +123,8 @@ module _ (text : List ℕ) (at : ℕ) (j : Job) (go : List ℕ → Answer) where
 
 -- The lines as a first line, by what it is as an `S` line and as an `E` line, and the others.
 after-is : (j : Job) (ls : List (List ℕ)) →
-    after j ls ≡ judged j (lineIn 83 (suc (j .n)) ls) (lineIn 69 1 ls) (tail ls) (λ xs. after (withSample j xs) (tail ls))
-unfolding after lineIn judged
+    jobAfter j ls ≡ judged j (lineIn 83 (suc (j .n)) ls) (lineIn 69 1 ls) (tail ls) (λ xs. jobAfter (withSample j xs) (tail ls))
+unfolding jobAfter lineIn judged
 after-is j [] = refl
 after-is j (l ∷ []) = refl
 after-is j (l ∷ part ∷ parts) = refl
@@ -155,7 +155,7 @@ judged-same text at j fair rest go continue (good xs next e q) E step =
 
 -- The lines from a place on are read alike, with m lines at most left for samples.
 abbrev Alike : ℕ → List ℕ → ℕ → Job → Type 0
-Alike m text at j = Fair j → m + length (j .dilutions) ≡ 257 → samplesAt m text at (inArrays j) ≡ readingOf (after j (split 10 (drop at text)))
+Alike m text at j = Fair j → m + length (j .dilutions) ≡ 257 → samplesAt m text at (inArrays j) ≡ readingOf (jobAfter j (split 10 (drop at text)))
 
 length-more : (m : ℕ) (j : Job) (xs : List ℕ) → suc m + length (j .dilutions) ≡ 257 → m + length (withSample j xs .dilutions) ≡ 257
 unfolding withSample
@@ -165,13 +165,13 @@ alike-suc : (m : ℕ) (text : List ℕ) → ((at : ℕ) (j : Job) → Alike m te
 unfolding samplesAt inArrays
 alike-suc m text ih at j fair h =
     let ls = split 10 (drop at text) in
-    judged-same text at j fair (tail ls) (λ xs. after (withSample j xs) (tail ls)) (λ row next. samplesAt m text next (kept (inArrays j) row))
+    judged-same text at j fair (tail ls) (λ xs. jobAfter (withSample j xs) (tail ls)) (λ row next. samplesAt m text next (kept (inArrays j) row))
     (line-read text 83 refl refl (j .n) at)
     (line-read text 69 refl refl 0 at)
     (λ xs next e q k.
     ap (samplesAt m text next) (kept-same j fair xs e k)
     ∙ ih next (withSample j xs) (fair-more j fair xs e k) (length-more m j xs h)
-    ∙ ap (λ (l : List (List ℕ)). readingOf (after (withSample j xs) l)) q)
+    ∙ ap (λ (l : List (List ℕ)). readingOf (jobAfter (withSample j xs) l)) q)
     ∙ sym (ap readingOf (after-is j ls))
 
 alike : (m : ℕ) (text : List ℕ) (at : ℕ) (j : Job) → Alike m text at j
@@ -209,12 +209,12 @@ parameters-few text n limit tolerance next = go (lineAt text 0 80 2 .extent) (li
 module _ (text : List ℕ) where
   none-yet : (next n limit tolerance : ℕ) (rest : List (List ℕ)) → split 10 (drop next text) ≡ rest → n ≤ 8 →
       samplesAt 257 text next (newJob n limit tolerance) ≡ readingOf
-      (after (record { n = n; limit = limit; tolerance = tolerance; dilutions = []; counts = [] }) rest)
+      (jobAfter (record { n = n; limit = limit; tolerance = tolerance; dilutions = []; counts = [] }) rest)
   unfolding newJob inArrays padded
   none-yet next n limit tolerance rest q h =
       let j : Job = record { n = n; limit = limit; tolerance = tolerance; dilutions = []; counts = [] } in
       alike 257 text next j (record { samples = lit≤ tt; channels = h; counted = sym (zero-mul n) }) refl
-      ∙ ap (λ (l : List (List ℕ)). readingOf (after j l)) q
+      ∙ ap (λ (l : List (List ℕ)). readingOf (jobAfter j l)) q
 
   -- By whether the parameters are in range: t.
   begun-same : (t : Bool) (n limit tolerance next : ℕ) (y : Answer) →

@@ -25,13 +25,7 @@ pub data Answer : Type 0 where
 
 unfoldable pub withSample : Job → List ℕ → Job
 withSample j xs =
-    record {
-      n = j .n;
-      limit = j .limit;
-      tolerance = j .tolerance;
-      dilutions = j .dilutions ++ (getD xs 0 0 ∷ []);
-      counts = j .counts ++ drop 1 xs;
-    }
+    record { n = j .n; limit = j .limit; tolerance = j .tolerance; dilutions = j .dilutions ++ (getD xs 0 0 ∷ []); counts = j .counts ++ drop 1 xs }
 
 -- The line after those of `P` and of the samples of j.
 unfoldable pub nextLine : Job → ℕ
@@ -55,17 +49,17 @@ judged j none (some xs) rest go = ended j (getD xs 0 0) rest
 judged j none none rest go = refused 1 (nextLine j)
 
 -- The lines after those of `P` and of the samples of j. The last part has no line feed after it. 83 is `S`, and 69 is `E`.
-unfoldable pub after : Job → List (List ℕ) → Answer
-after j [] = refused 1 (nextLine j)
-after j (part ∷ []) = refused 1 (nextLine j)
-after j (line ∷ part ∷ parts) =
-    judged j (lineOf 83 (suc (j .n)) line) (lineOf 69 1 line) (part ∷ parts) (λ xs. after (withSample j xs) (part ∷ parts))
+unfoldable pub jobAfter : Job → List (List ℕ) → Answer
+jobAfter j [] = refused 1 (nextLine j)
+jobAfter j (part ∷ []) = refused 1 (nextLine j)
+jobAfter j (line ∷ part ∷ parts) =
+    judged j (lineOf 83 (suc (j .n)) line) (lineOf 69 1 line) (part ∷ parts) (λ xs. jobAfter (withSample j xs) (part ∷ parts))
 
 unfoldable pub begun : Option (List ℕ) → List (List ℕ) → Answer
 begun none rest = refused 1 1
 begun (some xs) rest =
     cond (parametersInRange (getD xs 0 0) (getD xs 1 0) (getD xs 2 0))
-    (after (record { n = getD xs 0 0; limit = getD xs 1 0; tolerance = getD xs 2 0; dilutions = []; counts = [] }) rest)
+    (jobAfter (record { n = getD xs 0 0; limit = getD xs 1 0; tolerance = getD xs 2 0; dilutions = []; counts = [] }) rest)
     (refused 2 1)
 
 -- 80 is `P`.

@@ -25,8 +25,5 @@ inArrays j =
 
 unfoldable pub readingOf : Answer → Reading
 readingOf (refused number line) =
-    record {
-      outcome = Refused number line;
-      job = inArrays (record { n = 0; limit = 0; tolerance = 0; dilutions = []; counts = [] });
-    }
+    record { outcome = Refused number line; job = inArrays (record { n = 0; limit = 0; tolerance = 0; dilutions = []; counts = [] }) }
 readingOf (accepted j) = record { outcome = Accepted; job = inArrays j }

@@ -12,13 +12,7 @@ use Rattle.scatter.specs.declared.table.Table.{Table}
 -- The first k dilutions and the first k × n counts
 unfoldable pub jobIn : arrays.Job → Job
 jobIn a =
-    record {
-      n = a .n;
-      limit = a .limit;
-      tolerance = a .tolerance;
-      dilutions = take (a .k) (a .dilutions);
-      counts = take (a .k * a .n) (a .counts);
-    }
+    record { n = a .n; limit = a .limit; tolerance = a .tolerance; dilutions = take (a .k) (a .dilutions); counts = take (a .k * a .n) (a .counts) }
 
 -- The values are in their ranges, as many as there shall be, and all of them in the arrays.
 pub record Held (a : arrays.Job) : Type 0 where

@@ -32,8 +32,8 @@ pub data Ledger : Type 0 where
   loaded : State → Ledger
 
 -- 'Load: n and A are as given, B is A times 1024, V is 2^30 on the diagonal and 0 elsewhere, m = 0, Q is 1 on the diagonal and 0 elsewhere'
-unfoldable pub loadedOf : ℕ → List ℤ → State
-loadedOf n numbers =
+unfoldable pub loadedState : ℕ → List ℤ → State
+loadedState n numbers =
     record {
       n = n;
       A = matrixOf n numbers;
@@ -71,7 +71,7 @@ turnPairs s (pair ∷ pairs) = turnPairs (turnPair s pair) pairs
 
 -- a call that is not refused; 'Queries: nothing changes'
 unfoldable pub accepted : Ledger → Call → Ledger
-accepted g (load n numbers) = loaded (loadedOf n numbers)
+accepted g (load n numbers) = loaded (loadedState n numbers)
 accepted empty (turn p q) = empty
 accepted (loaded s) (turn p q) = loaded (turnPair s (record { p = p - 1; q = q - 1 }))
 accepted empty sweep = empty

@@ -20,9 +20,9 @@ unfoldable pub symmetric : ℕ → Matrix → Bool
 symmetric n a = all (λ i. all (λ j. equal (a i j) (a j i)) n) n
 
 -- no entry is beyond ±1,048,576
-unfoldable pub within : List ℤ → Bool
-within [] = true
-within (x ∷ xs) = leb (natAbs x) entryLimit && within xs
+unfoldable pub entriesWithin : List ℤ → Bool
+entriesWithin [] = true
+entriesWithin (x ∷ xs) = leb (natAbs x) entryLimit && entriesWithin xs
 
 -- refused with this number unless the test holds; else what the later tests say
 abbrev pub unless : Bool → ℕ → ℕ → ℕ
@@ -34,7 +34,7 @@ unfoldable pub refusalOf : ℕ → ℕ → Call → ℕ
 refusalOf n m (load k numbers) =
     unless (leb leastChannels k && leb k mostChannels) 5
     (unless (eqb (length numbers) (k * k)) 6
-    (unless (within numbers) 8
+    (unless (entriesWithin numbers) 8
     (unless (symmetric k (matrixOf k numbers)) 7 0)))
 refusalOf n m (turn p q) =
     unless (ltb 0 n) 10 (unless (leb 1 p && (ltb p q && leb q n)) 9 (unless (ltb m turnLimit) 11 0))

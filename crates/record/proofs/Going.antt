@@ -19,7 +19,7 @@ use Rattle.turn.specs.Shape.{Shaped}
 use Rattle.turn.specs.Size.{Small}
 use Rattle.turn.specs.Turn.{at}
 use Rattle.limits.specs.Limits.{toleranceLimit}
-use Rattle.record.specs.laws.Accepted.{loose-pair-accepted, sweep-accepted, turns-suffice}
+use Rattle.record.specs.laws.Accepted.{loose-pair-taken, sweep-taken, turns-suffice}
 use Rattle.record.specs.laws.After.{after-kept}
 use Rattle.record.specs.laws.Fill.{kept-flatOf}
 use Rattle.record.specs.Flat.{entriesOf, flatOf, rowsOf}
@@ -118,7 +118,7 @@ module _ (refused n limit t : ℕ) (some : 1 ≤ n) (sixteen : limit ≤ 16) (to
     -- the first test: settled tells whether no pair is loose
     module _ (settled : Bool) (s : settled ≡ noPair (looseOf (at a) t (cyclic n))) where
       told : settled ≡ noPair (answerOf now (loosePair t))
-      told = s ∙ held-loose refused n m a v (g .holds) t (loose-pair-accepted n m some t tolerance)
+      told = s ∙ held-loose refused n m a v (g .holds) t (loose-pair-taken n m some t tolerance)
 
       pub settles : settled ≡ true → stop Settled sweeps now ≡ z
       settles h = sym (g .is ∙ run-settled (limit - sweeps) sweeps t idle now (sym told ∙ h))
@@ -137,7 +137,7 @@ module _ (refused n limit t : ℕ) (some : 1 ≤ n) (sixteen : limit ≤ 16) (to
             workAt a′ v′ made ≡ workPairs n (workAt a v m) (cyclic n) → Going refused n limit t z a′ v′ made (sweeps + 1) (eqb made m)
         sweeps-on i l made a′ v′ w =
             let goes = run-sweeps (limit - sweeps) sweeps t idle now loose i (limit - (sweeps + 1)) (omega (arith, g .within)) in
-            let taken = sweep-accepted n m some (turns-suffice n m sweeps (g .holds .keeps .size) (omega (arith, g .within)) (g .few)) in
+            let taken = sweep-taken n m some (turns-suffice n m sweeps (g .holds .keeps .size) (omega (arith, g .within)) (g .few)) in
             record {
               is = g .is ∙ goes ∙ rw (swept-leaves refused n m a v (g .holds) taken made a′ v′ w, swept-idle refused n m a v (g .holds) taken made a′ v′ w);
               within = omega (arith, g .within);

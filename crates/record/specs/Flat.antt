@@ -8,12 +8,12 @@ use Rattle.integer.specs.Tabulate.{tabulate}
 use Rattle.turn.specs.Turn.{eight}
 
 -- the entry in row i and column j
-unfoldable pub kept : List ℤ → Matrix
-kept a i j = getD a (8 * i + j) (pos 0)
+unfoldable pub keptEntry : List ℤ → Matrix
+keptEntry a i j = getD a (8 * i + j) (pos 0)
 
 -- row i, and all rows
 unfoldable pub entriesOf : List ℤ → ℕ → List ℤ
-entriesOf a i = eight (kept a i)
+entriesOf a i = eight (keptEntry a i)
 
 unfoldable pub rowsOf : List ℤ → List (List ℤ)
 rowsOf a = eight (entriesOf a)

@@ -17,7 +17,7 @@ use Rattle.record.specs.Loose.{looseOf}
 use Rattle.record.specs.declared.query.Answer.{Answer}
 use Rattle.record.specs.declared.query.Answer.the-variants.{Loaded, Turned, Swept, Axis, Refused}
 use Rattle.integer.specs.Matrix.{diagonal, matrixOf}
-use Rattle.record.specs.Flat.{kept, entriesOf, rowsOf, flatOf}
+use Rattle.record.specs.Flat.{keptEntry, entriesOf, rowsOf, flatOf}
 use Rattle.record.specs.declared.Record.{Record}
 
 -- A fresh record holds no matrix and a count of 0 refused calls
@@ -33,8 +33,8 @@ unfoldable pub refusedOf : Record → Record
 refusedOf r = record { n = r .n; m = r .m; refused = counted (r .refused); a = r .a; v = r .v }
 
 -- Kept entries are these times 1024, v is 2^30 on the diagonal and 0 elsewhere, m = 0
-unfoldable pub loadedOf : Record → ℕ → List ℤ → Record
-loadedOf r n numbers =
+unfoldable pub loadedRecord : Record → ℕ → List ℤ → Record
+loadedRecord r n numbers =
     record {
       n = n;
       m = 0;
@@ -60,7 +60,7 @@ sweptOf r = workedOf r (workPairs (r .n) (workOf r) (cyclic (r .n)))
 
 -- the record after a call
 unfoldable pub acceptedOf : Record → Call → Record
-acceptedOf r (load n numbers) = loadedOf r n numbers
+acceptedOf r (load n numbers) = loadedRecord r n numbers
 acceptedOf r (turn p q) = turnedOf r p q
 acceptedOf r sweep = sweptOf r
 acceptedOf r (loosePair t) = r
@@ -74,8 +74,8 @@ unfoldable pub valueOf : Record → Call → Answer
 valueOf r (load n numbers) = Loaded
 valueOf r (turn p q) = Turned (isTurn (chosen (workOf r) (record { p = p - 1; q = q - 1 })))
 valueOf r sweep = Swept (sweptOf r .m - r .m)
-valueOf r (loosePair t) = looseOf (kept (r .a)) t (cyclic (r .n))
-valueOf r (axis i) = Axis (kept (r .a) (i - 1) (i - 1)) (errorOf (r .n) (kept (r .a)) (r .m) (i - 1))
+valueOf r (loosePair t) = looseOf (keptEntry (r .a)) t (cyclic (r .n))
+valueOf r (axis i) = Axis (keptEntry (r .a) (i - 1) (i - 1)) (errorOf (r .n) (keptEntry (r .a)) (r .m) (i - 1))
 
 unfoldable pub answerOf : Record → Call → Answer
 answerOf r call =

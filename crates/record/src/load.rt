@@ -5,7 +5,7 @@ ghost use Prim.Native.Nat.{_*_, _<_, _≤_};
 ghost use Rattle.integer.specs.Range.{all};
 ghost use Rattle.ledger.specs.Call.{load};
 ghost use Rattle.limits.specs.Limits.{entryLimit, units, whole};
-ghost use Rattle.ledger.specs.Refusal.{equal, refusalOf, symmetric, within};
+ghost use Rattle.ledger.specs.Refusal.{equal, refusalOf, symmetric, entriesWithin};
 ghost use Rattle.turn.specs.Turn.{square};
 ghost use Rattle.turn.specs.InUse.{inUse};
 ghost use Rattle.integer.specs.Matrix.{diagonal, matrixOf};
@@ -26,7 +26,7 @@ fn is_within(x: i64) -> bool
 }
 
 fn all_within(numbers: &[i64]) -> bool
-    ensures { λ r. ⌜ r ≡ within (now (numbers .entry)) ⌝ }
+    ensures { λ r. ⌜ r ≡ entriesWithin (now (numbers .entry)) ⌝ }
 {
     let mut k = 0;
     while k < numbers.len() {
@@ -91,15 +91,15 @@ pub fn load_refusal(n: usize, numbers: &[i64]) -> u32
 
 // The kept entry in row i and column j.
 fn loaded_entry(n: usize, numbers: &[i64], i: usize, j: usize) -> i64
-    requires { ⌜ (i < n) × (j < n) × (n ≤ 8) × (length (now numbers) ≡ n * n) × (within (now numbers) ≡ true) ⌝ }
+    requires { ⌜ (i < n) × (j < n) × (n ≤ 8) × (length (now numbers) ≡ n * n) × (entriesWithin (now numbers) ≡ true) ⌝ }
     ensures { λ r. ⌜ r ≡ pos units *ℤ matrixOf n (now (numbers .entry)) i j ⌝ }
 {
     Record::UNITS * numbers[i * n + j]
 }
 
 // The n×n numbers in kept units, put into rows of 0.
-pub fn load_matrix(matrix: &mut [[i64; 8]; 8], n: usize, numbers: &[i64])
-    requires { ⌜ (now matrix ≡ blank) × (n ≤ 8) × (length (now numbers) ≡ n * n) × (within (now numbers) ≡ true) ⌝ }
+pub(crate) fn load_matrix(matrix: &mut [[i64; 8]; 8], n: usize, numbers: &[i64])
+    requires { ⌜ (now matrix ≡ blank) × (n ≤ 8) × (length (now numbers) ≡ n * n) × (entriesWithin (now numbers) ≡ true) ⌝ }
     ensures { λ _. ⌜ now (matrix .exit) ≡ square (inUse n (λ i j. pos units *ℤ matrixOf n (now (numbers .entry)) i j)) ⌝ }
 {
     let mut i = 0;
@@ -114,7 +114,7 @@ pub fn load_matrix(matrix: &mut [[i64; 8]; 8], n: usize, numbers: &[i64])
 }
 
 // The diagonal of n channels, put into rows of 0.
-pub fn load_axes(axes: &mut [[i64; 8]; 8], n: usize)
+pub(crate) fn load_axes(axes: &mut [[i64; 8]; 8], n: usize)
     requires { ⌜ (now axes ≡ blank) × (n ≤ 8) ⌝ }
     ensures { λ _. ⌜ now (axes .exit) ≡ square (inUse n (diagonal (pos whole))) ⌝ }
 {

@@ -61,7 +61,7 @@ fn entry_size(a: &[[i64; 8]; 8], i: usize, j: usize) -> u64
 }
 
 // The first pair in row order whose entry is above t in size.
-pub fn loose_pair_of(a: &[[i64; 8]; 8], n: usize, t: u64) -> Answer
+pub(crate) fn loose_pair_of(a: &[[i64; 8]; 8], n: usize, t: u64) -> Answer
     requires { ⌜ n ≤ 8 ⌝ }
     ensures { λ r. ⌜ r ≡ looseOf (at (now (a .entry))) t (cyclic n) ⌝ }
 {
@@ -91,7 +91,7 @@ fn off_diagonal(a: &[[i64; 8]; 8], i: usize, j: usize) -> u64
 }
 
 // The error of the axis in row i, from 0.
-pub fn error_of(a: &[[i64; 8]; 8], n: usize, m: u64, i: usize) -> u64
+pub(crate) fn error_of(a: &[[i64; 8]; 8], n: usize, m: u64, i: usize) -> u64
     requires { ⌜ (i < n) × (n ≤ 8) × (m ≤ turnLimit) × Small (now a) ⌝ }
     ensures { λ r. ⌜ r ≡ errorOf n (at (now (a .entry))) m i ⌝ }
 {

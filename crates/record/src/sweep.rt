@@ -80,7 +80,12 @@ pub(crate) fn work_pair(
 }
 
 // The pairs of a sweep over n channels, in lent rows, each chosen on the matrix as it then stands. The answer is m after them.
-pub fn work_pairs(matrix: &mut [[i64; 8]; 8], axes: &mut [[i64; 8]; 8], n: usize, m: u64) -> u64
+pub(crate) fn work_pairs(
+    matrix: &mut [[i64; 8]; 8],
+    axes: &mut [[i64; 8]; 8],
+    n: usize,
+    m: u64,
+) -> u64
     requires { ⌜ (n ≤ 8) × (m ≤ turnLimit) × Ready n (now matrix) (now axes) m ⌝ }
     ensures { λ z. ⌜ workAt (now (matrix .exit)) (now (axes .exit)) z ≡ workPairs n (workAt (now (matrix .entry)) (now (axes .entry)) m)
         (cyclic n) ⌝ }

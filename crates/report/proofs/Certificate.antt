@@ -1,5 +1,5 @@
 -- The certificate is proved: a run is a list of calls, and demand 3 speaks of every list of calls.
-use Prim.Native.Nat.{ℕ, zero, suc}
+use Prim.Native.Nat.{ℕ, zero, suc, _-_}
 use mathlib.Core.Path.{_≡_, refl, _∙_}
 use mathlib.Core.Bool.{Bool, true, false, cond}
 use mathlib.Core.List.{List}
@@ -16,6 +16,7 @@ use Rattle.ledger.specs.Ledger.{Ledger, State, empty, loaded, ledger, ledgerFro
 use Rattle.ledger.specs.Pairs.{cyclic}
 use Rattle.ledger.specs.Refusal.{refusalOf}
 use Rattle.report.specs.AxisNumbers.{axisValues}
+use Rattle.record.specs.Flat.{keptEntry}
 use Rattle.record.specs.Demand3 as three
 use Rattle.record.specs.Demand3.{AxisNear, Certifies}
 use Rattle.record.specs.laws.Demand3proof.{demand-3}
@@ -66,11 +67,11 @@ module _ (n : ℕ) (A : Matrix) where
 
 run-has : (n : ℕ) (numbers : List ℤ) (t sweeps : ℕ) → refusalOf 0 0 (load n numbers) ≡ 0 →
     Has n (matrixOf n numbers) (ledger (callsOf n numbers t sweeps))
-unfolding ledger callsOf ledgerFrom ledgerStep sizeOf turnsOf book.accepted book.loadedOf
+unfolding ledger callsOf ledgerFrom ledgerStep sizeOf turnsOf book.accepted book.loadedState
 run-has n numbers t sweeps e = rounds-have n (matrixOf n numbers) t sweeps (ledgerStep empty (load n numbers)) first
   where
     first : Has n (matrixOf n numbers) (ledgerStep empty (load n numbers))
-    first = rw (eq-eqb (refusalOf 0 0 (load n numbers)) 0 e) (record { state = book.loadedOf n numbers; is = refl; size = refl; given = refl })
+    first = rw (eq-eqb (refusalOf 0 0 (load n numbers)) 0 e) (record { state = book.loadedState n numbers; is = refl; size = refl; given = refl })
 
 module _ (j : Job) (p : Proper j) where
   has : Has (j .n) (matrixOf (j .n) (loadedFor j)) (ledger (callsOf (j .n) (loadedFor j) (j .tolerance) (runFor j .sweeps)))
@@ -82,7 +83,7 @@ module _ (j : Job) (p : Proper j) where
 
   axis-certified : (i : ℕ) → AxisNear (runFor j .last) (has .state) i → AxisCertified j (has .state) i
   unfolding lineA axisValues
-  axis-certified i a = record { entry = a .entry; error = a .error; printed = rw (a .answers); near = a .near }
+  axis-certified i a = record { entry = keptEntry (runFor j .last .a) (i - 1) (i - 1); error = a .error; printed = rw (a .answers); near = a .near }
 
   job-certified : JobCertified j
   job-certified =

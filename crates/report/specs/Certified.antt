@@ -5,12 +5,10 @@ use mathlib.Core.Path.{_≡_}
 use mathlib.Core.List.{List, _∷_}
 use lib.IntN.{ℤ, pos, _-ℤ_, _*ℤ_}
 use lib.ListN.{take}
-use Rattle.integer.specs.Square.{sq}
-use Rattle.integer.specs.Sum.{sumℕ}
 use Rattle.job.specs.Job.{Job, accepted, jobOf}
 use Rattle.job_table.specs.Held.{tableFor}
 use Rattle.ledger.specs.Ledger.{State, loaded, ledger}
-use Rattle.limits.specs.Limits.{units}
+use Rattle.ledger.specs.Near.{RowNear}
 use Rattle.record.specs.Record.{axisOf}
 use Rattle.run.specs.Calls.{callsOf}
 use Rattle.integer.specs.Matrix.{product, matrixOf}
@@ -27,7 +25,7 @@ pub record AxisCertified (j : Job) (s : State) (i : ℕ) : Type 0 where
   -- line `A` i prints a_ii and r_i
   pub printed : lineA (j .n) (runFor j .last) i ≡ numberLine 65 (pos i ∷ entry ∷ pos error ∷ take (j .n) (axisOf (runFor j .last) i))
   -- |Q_i A − a_ii Q_i| ≤ r_i, times D
-  pub near : sumℕ (s .n) (λ k. sq (pos units *ℤ product (s .n) (s .P) (s .A) (i - 1) k -ℤ entry *ℤ s .P (i - 1) k)) ≤ s .D * error * (s .D * error)
+  pub near : RowNear (s .n) (s .D) (s .P) (s .A) (i - 1) entry error
 
 pub record JobCertified (j : Job) : Type 0 where
   pub state : State

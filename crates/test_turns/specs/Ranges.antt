@@ -13,8 +13,9 @@ use Rattle.turn.specs.Rotation.{signed}
 use Rattle.turn.specs.Turn.{at, square}
 use Rattle.turn.specs.laws.Eight.{at-eight, at-outside}
 use Rattle.turn.specs.Size.{Small}
-use Rattle.turn.specs.inner.Size.{Symmetric}
-use Rattle.choice.specs.Threshold.{threshold, roundedUp, u, w}
+use Rattle.turn.specs.inner.Size.{SymmetricRows}
+use Rattle.choice.specs.Threshold.{threshold, u, w}
+use Rattle.integer.specs.RoundedUp.{roundedUp}
 use Rattle.choice.specs.laws.Threshold.{from-1-to-14}
 use Rattle.choice.specs.Widest.{widest}
 use Rattle.test_turns.specs.Generator.{sizeFrom, valueOf, offset, rowOf, matrixOf, axesOf}
@@ -65,7 +66,7 @@ unfolding matrixOf rowOf
 matrixOf-small base =
     record { small = inside (λ i j. valueOf (base + offset i + offset j) widest) widest (λ i j. valueOf-most _ widest (omega arith)) }
 
-pub matrixOf-symmetric : (base : ℕ) → Symmetric (matrixOf base)
+pub matrixOf-symmetric : (base : ℕ) → SymmetricRows (matrixOf base)
 unfolding matrixOf rowOf
 matrixOf-symmetric base =
     record {

@@ -4,7 +4,7 @@ ghost use Prim.Native.Nat.{_+_, _*_, _<_, _≤_, _^_};
 ghost use lib.IntN.{natAbs};
 ghost use Rattle.turn.specs.Rotation.{signed};
 ghost use Rattle.turn.specs.Size.{Small};
-ghost use Rattle.turn.specs.inner.Size.{Symmetric};
+ghost use Rattle.turn.specs.inner.Size.{SymmetricRows};
 ghost use Rattle.test_turns.specs.Generator.{axesOf, drawOf, matrixOf, minusOf, rowOf, sizeFrom, sizeOf, valueOf};
 use turn::pair;
 
@@ -107,7 +107,7 @@ fn row(key: u64, most: u64) -> [i64; 8]
 // A symmetric matrix of entries up to the largest that a turn takes.
 pub fn matrix(base: u64) -> [[i64; 8]; 8]
     requires { ⌜ base < 2 ^ 38 ⌝ }
-    ensures { λ z. ⌜ (z ≡ matrixOf base) × Small z × Symmetric z ⌝ }
+    ensures { λ z. ⌜ (z ≡ matrixOf base) × Small z × SymmetricRows z ⌝ }
 {
     [
         row(base + 1, 0x4_0000_0700),

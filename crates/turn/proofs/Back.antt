@@ -7,14 +7,14 @@ use Rattle.rounding.specs.Rounding.{rnd}
 use Rattle.choice.specs.Widest.{widest}
 use Rattle.turn.specs.Rotation.{first, second}
 use Rattle.turn.specs.inner.Rotation.{inverse}
-use Rattle.turn.specs.inner.Size.{Turns, passed}
+use Rattle.turn.specs.inner.Size.{TurnFits, passed}
 use Rattle.turn.specs.declared.pair.Rotation.{Rotation}
 
 pub inverse-first : (r : Rotation) (x y : ℤ) → first (inverse r) y x ≡ second r x y
 unfolding first second inverse
 inverse-first r x y = ap (λ z. rnd z (r .n)) (+ℤ-comm (r .c *ℤ y) (negℤ (r .s) *ℤ x))
 
-pub inverse-turns : (r : Rotation) → Turns r → Turns (inverse r)
+pub inverse-turns : (r : Rotation) → TurnFits r → TurnFits (inverse r)
 unfolding inverse passed
 inverse-turns r t =
     record {
@@ -29,8 +29,8 @@ inverse-passed r k = rw natAbs-negℤ
 
 -- a rotation and the rotation back, and what each asks of the other's passes
 pub record Back (r back : Rotation) : Type 0 where
-  pub turns : Turns back
+  pub turns : TurnFits back
   pub same : passed back widest ≡ passed r widest
 
-pub back-of : (r back : Rotation) → Turns r → back ≡ inverse r → Back r back
+pub back-of : (r back : Rotation) → TurnFits r → back ≡ inverse r → Back r back
 back-of r back t e = rw e (record { turns = inverse-turns r t; same = inverse-passed r widest })

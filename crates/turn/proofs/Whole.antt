@@ -18,7 +18,7 @@ use Rattle.turn.specs.Rotation.{first, second}
 use Rattle.turn.specs.inner.Rotation.{inverse}
 use Rattle.turn.specs.Shape.{Shaped}
 use Rattle.turn.specs.Size.{Small}
-use Rattle.turn.specs.inner.Size.{Symmetric, Turns, passed}
+use Rattle.turn.specs.inner.Size.{SymmetricRows, TurnFits, passed}
 use Rattle.turn.specs.Turn.{array, at, atPair, hpp, hpq, hqp, hqq, newp, newpp, newpq, newq, newqq, square, turnAxes, turnMatrix, turned}
 use Rattle.turn.specs.Turn.{turnedAxes}
 use Rattle.turn.specs.declared.pair.Rotation.{Rotation}
@@ -164,7 +164,7 @@ module _ (n : ℕ) (r : Rotation) (p q : ℕ) (a : List (List ℤ)) (h : p < q) 
   unfolding turnedAxes
   t-q j m = t-is q j (omega arith) m ∙ rw (lt-ltb q n k, atPair-q p q _ _ _ h)
 
-  module _ (s : Symmetric a) where
+  module _ (s : SymmetricRows a) where
     t-pp : t p p ≡ hpp r p q (at a)
     unfolding hpp
     t-pp = t-p p (omega arith) ∙ rw (lt-ltb p n (omega arith), s .mirror q p)
@@ -250,7 +250,7 @@ module _ (n : ℕ) (r : Rotation) (p q : ℕ) (a : List (List ℤ)) (h : p < q) 
         (sym corner)
 
   -- the entries of rows p and q after the first pass
-  module _ (small : Small a) (turns : Turns r) where
+  module _ (small : Small a) (turns : TurnFits r) where
     first-small : (j : ℕ) → j < n → natAbs (t p j) ≤ passed r widest
     first-small j m =
         rw (t-p j (omega arith), lt-ltb j n m)

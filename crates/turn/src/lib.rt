@@ -6,13 +6,13 @@ ghost use Prim.Native.Nat.{_<_, _≤_};
 ghost use Rattle.turn.specs.inner.InPlace.{Passed, blockOf, mirrorOf, withBlock};
 ghost use Rattle.turn.specs.Shape.{Shaped};
 ghost use Rattle.turn.specs.Size.{Small};
-ghost use Rattle.turn.specs.inner.Size.{Symmetric, Turns};
+ghost use Rattle.turn.specs.inner.Size.{SymmetricRows, TurnFits};
 ghost use Rattle.turn.specs.Turn.{at, square, turnAxes, turnMatrix};
 use pair::Rotation;
 
 // The turn of lent axes on the pair p < q: rows p and q, column by column.
 pub fn turn_axes(v: &mut [[i64; 8]; 8], n: usize, r: Rotation, p: usize, q: usize)
-    requires { ⌜ (p < q) × (q < n) × (n ≤ 8) × Turns r × Small (now v) × Shaped (now v) ⌝ }
+    requires { ⌜ (p < q) × (q < n) × (n ≤ 8) × TurnFits r × Small (now v) × Shaped (now v) ⌝ }
     ensures { λ z. ⌜ now (v .exit) ≡ turnAxes n r p q (now (v .entry)) ⌝ }
 {
     let back = r.inverse();
@@ -41,7 +41,7 @@ fn put_block(a: &mut [[i64; 8]; 8], p: usize, q: usize, pp: i64, pq: i64, qq: i6
 
 // The second pass over the block. Its entries at p, q and at q, p are one number, rounded once.
 fn turn_block(a: &mut [[i64; 8]; 8], r: Rotation, p: usize, q: usize)
-    requires { ⌜ (p < q) × (q < 8) × Turns r × Passed r p q (now a) × Shaped (now a) ⌝ }
+    requires { ⌜ (p < q) × (q < 8) × TurnFits r × Passed r p q (now a) × Shaped (now a) ⌝ }
     ensures { λ z. ⌜ now (a .exit) ≡ square (blockOf p q (at (now (a .entry))) r) ⌝ }
 {
     let h_pp = a[p][p];
@@ -72,7 +72,7 @@ fn mirror(a: &mut [[i64; 8]; 8], n: usize, p: usize, q: usize)
 
 // The turn of a lent matrix on the pair p < q, in three steps. Its first pass over rows p and q is what turns axes.
 fn turn_in_place(a: &mut [[i64; 8]; 8], n: usize, r: Rotation, p: usize, q: usize)
-    requires { ⌜ (p < q) × (q < n) × (n ≤ 8) × Turns r × Small (now a) × Symmetric (now a) × Shaped (now a) ⌝ }
+    requires { ⌜ (p < q) × (q < n) × (n ≤ 8) × TurnFits r × Small (now a) × SymmetricRows (now a) × Shaped (now a) ⌝ }
     ensures { λ z. ⌜ now (a .exit) ≡ turnMatrix n r p q (now (a .entry)) ⌝ }
 {
     turn_axes(a, n, r, p, q);
@@ -82,7 +82,7 @@ fn turn_in_place(a: &mut [[i64; 8]; 8], n: usize, r: Rotation, p: usize, q: usiz
 
 // The turn of the whole matrix on the pair p < q.
 pub fn turn_matrix(mut a: [[i64; 8]; 8], n: usize, r: Rotation, p: usize, q: usize) -> [[i64; 8]; 8]
-    requires { ⌜ (p < q) × (q < n) × (n ≤ 8) × Turns r × Small a × Symmetric a ⌝ }
+    requires { ⌜ (p < q) × (q < n) × (n ≤ 8) × TurnFits r × Small a × SymmetricRows a ⌝ }
     ensures { λ z. ⌜ z ≡ turnMatrix n r p q a ⌝ }
 {
     turn_in_place(&mut a, n, r, p, q);

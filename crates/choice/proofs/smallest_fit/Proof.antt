@@ -3,14 +3,14 @@ use mathlib.Core.Path.{_≡_, refl, sym, _∙_}
 use Prim.Native.Nat.{_-_, _≤_}
 use native.Mathlib.Omega.{arith}
 use borrow.Author.Needs.{needs}
-use Rattle.choice.specs.Choice.{smallest}
+use Rattle.choice.specs.Choice.{smallestFit}
 use Rattle.choice.proofs.Search.{found, passed, exhausted, product-fits}
 use Rattle.choice.proofs.smallest_fit.Statement.{statement}
 use Rattle.choice.proofs.smallest_fit.Tie as tie
 
 abbrev Inv-loop : tie.InvT-loop
 Inv-loop y g minus scaled l₀ l =
-    (1 ≤ l) × (l ≤ 15) × (smallest y g minus 1 14 ≡ smallest y g minus l (15 - l))
+    (1 ≤ l) × (l ≤ 15) × (smallestFit y g minus 1 14 ≡ smallestFit y g minus l (15 - l))
 
 abbrev μ-loop : tie.MeasureT-loop
 μ-loop y g minus scaled l₀ l = 15 - l

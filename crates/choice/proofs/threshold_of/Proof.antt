@@ -5,7 +5,8 @@ use Prim.Native.Nat.{ℕ, _-_, _≤_}
 use lib.Dec.{eqb, eqb→eq}
 use lib.ListN.{getD}
 use borrow.Author.Needs.{needs}
-use Rattle.choice.specs.Threshold.{threshold, roundedUp, u, w}
+use Rattle.choice.specs.Threshold.{threshold, u, w}
+use Rattle.integer.specs.RoundedUp.{roundedUp}
 use Rattle.choice.specs.laws.Threshold.{from-1-to-14}
 use Rattle.choice.proofs.threshold_of.Statement.{statement}
 use Rattle.choice.proofs.threshold_of.Tie as tie

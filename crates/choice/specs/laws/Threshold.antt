@@ -1,26 +1,14 @@
--- Laws of this subject: Document 01, 'Choosing a turn': the thresholds T_l.
+-- Laws of the thresholds: the rule of the table, and the largest.
 use mathlib.Core.Path.{_≡_, subst}
 use mathlib.Core.Bool.{Bool}
-use Prim.Native.Nat.{ℕ, suc, _+_, _-_, _*_, _/_, _<_, _≤_, _^_}
-use native.Mathlib.Nat.{lt-div-mul-add, div-lt-iff-lt-mul}
+use Prim.Native.Nat.{ℕ, suc, _-_, _*_, _≤_, _^_}
 use native.Mathlib.Omega.{arith}
 use lib.Dec.{T, leb, ltb, leb→le, ltb→lt}
 use Rattle.integer.specs.Range.{all}
 use Rattle.integer.specs.laws.Range.{below}
-use Rattle.choice.specs.Threshold.{u, w, roundedUp, threshold}
-
--- The rule of the table: T_l is the least whole number that is not below 2^24 × 2uw / (u² − w²)
-pub record RoundedUp (x y t : ℕ) : Type 0 where
-  pub enough : x ≤ t * y
-  pub least : (k : ℕ) → x ≤ k * y → t ≤ k
-
-roundedUp-rule : (x y : ℕ) → 0 < y → RoundedUp x y (roundedUp x y)
-unfolding roundedUp
-roundedUp-rule x y h =
-    record {
-      enough = omega (arith, lt-div-mul-add {a = x + (y - 1)} h);
-      least = λ k e. omega (arith, div-lt-iff-lt-mul {x = x + (y - 1)} {y = suc k} h .1 (omega arith));
-    }
+use Rattle.integer.specs.laws.RoundedUp.{RoundedUp, roundedUp-rule}
+use Rattle.choice.specs.Threshold.{u, w, threshold}
+use Rattle.integer.specs.RoundedUp.{roundedUp}
 
 -- A test at each l from 1 to 14
 pub from-1-to-14 : (f : ℕ → Bool) → T (all (λ k. f (suc k)) 14) → (l : ℕ) → 1 ≤ l → l ≤ 14 → T (f l)
@@ -29,6 +17,7 @@ from-1-to-14 f t l h k = subst (λ m. T (f m)) same (below (λ k. f (suc k)) 14 
     same : suc (l - 1) ≡ l
     same = omega arith
 
+-- The rule of the table: T_l is the least whole number that is not below 2^24 × 2uw / (u² − w²)
 pub threshold-rule : (l : ℕ) → 1 ≤ l → l ≤ 14 → RoundedUp (2 ^ 24 * (2 * u l * w l)) (u l * u l - w l * w l) (threshold l)
 unfolding threshold u w
 threshold-rule l h k =

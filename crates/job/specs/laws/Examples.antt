@@ -7,7 +7,7 @@ use Rattle.text.specs.Parts.{onto, split, before}
 use Rattle.text.specs.Range.{within, allWithin}
 use Rattle.job.specs.Range.{parametersInRange, sampleInRange}
 use Rattle.job.specs.Text.{numberOf, numbersOf, isTag, recordOf, lineOf}
-use Rattle.job.specs.Job.{refused, accepted, withSample, nextLine, nothing, ended, judged, after, begun, jobOfLines, jobOf}
+use Rattle.job.specs.Job.{refused, accepted, withSample, nextLine, nothing, ended, judged, jobAfter, begun, jobOfLines, jobOf}
 
 -- `P 2 1 0`, with tabs for blanks here and below
 abbrev p-line : List ℕ
@@ -61,5 +61,5 @@ examples :
     × (jobOf (p-line ++ samples ++ e-line 50) ≡ refused 4 5)
     × (jobOf (p-line ++ samples ++ e-line 51 ++ 10 ∷ []) ≡ refused 4 5)
 unfolding times jobOf split onto allWithin leadingZero valueFrom numberOf before numbersOf isTag recordOf lineOf within parametersInRange
-    sampleInRange withSample nextLine nothing ended judged after begun jobOfLines
+    sampleInRange withSample nextLine nothing ended judged jobAfter begun jobOfLines
 examples = (refl, refl, refl, refl, refl, refl, refl, refl, refl, refl, refl, refl, refl, refl, refl, refl, refl, refl)

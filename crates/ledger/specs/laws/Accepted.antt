@@ -15,7 +15,7 @@ use Rattle.limits.specs.Limits.{entryLimit, turnLimit}
 use Rattle.integer.specs.Matrix.{Matrix, matrixOf}
 use Rattle.integer.specs.laws.Matrix.{Symmetric}
 use Rattle.ledger.specs.Call.{load, turn, sweep, axis}
-use Rattle.ledger.specs.Refusal.{equal, symmetric, within, unless, refusalOf}
+use Rattle.ledger.specs.Refusal.{equal, symmetric, entriesWithin, unless, refusalOf}
 
 -- 'Load: 5, 6, 8, 7': none of them
 pub record Loads (n : ℕ) (numbers : List ℤ) : Type 0 where
@@ -26,7 +26,7 @@ pub record Loads (n : ℕ) (numbers : List ℤ) : Type 0 where
   pub same : Symmetric n (matrixOf n numbers)
 
 -- 'not 1 ≤ p < q ≤ n', 'turn with m = 448': neither of them
-pub record Turns (n m p q : ℕ) : Type 0 where
+pub record TurnGiven (n m p q : ℕ) : Type 0 where
   pub first : 1 ≤ p
   pub ordered : p < q
   pub last : q ≤ n
@@ -61,11 +61,11 @@ pub symmetric-of : (n : ℕ) (a : Matrix) → Symmetric n a → T (symmetric n a
 unfolding symmetric
 symmetric-of n a s = from-each _ n (λ i h. from-each _ n (λ j k. equal-of (a i j) (a j i) (s i j h k)))
 
-pub within-small : (numbers : List ℤ) → T (within numbers) → (i : ℕ) → natAbs (getD numbers i (pos 0)) ≤ entryLimit
-unfolding within
+pub within-small : (numbers : List ℤ) → T (entriesWithin numbers) → (i : ℕ) → natAbs (getD numbers i (pos 0)) ≤ entryLimit
+unfolding entriesWithin
 within-small [] t i = omega arith
-within-small (x ∷ xs) t zero = leb→le (natAbs x) entryLimit (and-yes (leb (natAbs x) entryLimit) (within xs) t .0)
-within-small (x ∷ xs) t (suc i) = within-small xs (and-yes (leb (natAbs x) entryLimit) (within xs) t .1) i
+within-small (x ∷ xs) t zero = leb→le (natAbs x) entryLimit (and-yes (leb (natAbs x) entryLimit) (entriesWithin xs) t .0)
+within-small (x ∷ xs) t (suc i) = within-small xs (and-yes (leb (natAbs x) entryLimit) (entriesWithin xs) t .1) i
 
 -- on any state: a load does not depend on it
 pub load-accepted : (k m n : ℕ) (numbers : List ℤ) → refusalOf k m (load n numbers) ≡ 0 → Loads n numbers
@@ -73,7 +73,7 @@ unfolding refusalOf
 load-accepted k m n numbers e =
     let size = passed (leb 2 n && leb n 8) 5 _ e (omega arith) in
     let count = passed (eqb (length numbers) (n * n)) 6 _ (size .1) (omega arith) in
-    let entries = passed (within numbers) 8 _ (count .1) (omega arith) in
+    let entries = passed (entriesWithin numbers) 8 _ (count .1) (omega arith) in
     let mirrors = passed (symmetric n (matrixOf n numbers)) 7 _ (entries .1) (omega arith) in
     record {
       low = leb→le 2 n (and-yes (leb 2 n) (leb n 8) (size .0) .0);
@@ -84,7 +84,7 @@ load-accepted k m n numbers e =
     }
 
 -- a turn, on a state with n channels and m turns made
-pub turn-accepted : (n m p q : ℕ) → refusalOf n m (turn p q) ≡ 0 → Turns n m p q
+pub turn-accepted : (n m p q : ℕ) → refusalOf n m (turn p q) ≡ 0 → TurnGiven n m p q
 unfolding refusalOf
 turn-accepted n m p q e =
     let held = passed (ltb 0 n) 10 _ e (omega arith) in

@@ -1,15 +1,25 @@
--- Laws of this subject: Document 01, 'Axis i': the error of an axis.
-use Prim.Native.Nat.{ℕ, _+_, _*_, _/_, _<_}
-use mathlib.Core.Path.{_≡_, ap}
+-- Laws of the error of an axis: its rounding, and that it depends on row i alone.
+use Prim.Native.Nat.{ℕ, _+_, _*_, _<_}
+use native.Mathlib.Omega.{arith}
+use mathlib.Core.Path.{_≡_, refl, ap}
 use mathlib.Core.Bool.{cond}
 use lib.Dec.{eqb}
 use lib.IntN.{natAbs}
 use Rattle.integer.specs.Matrix.{Matrix}
+use Rattle.integer.specs.RoundedUp.{roundedUp}
+use Rattle.integer.specs.Sum.{sumℕ}
+use Rattle.integer.specs.laws.RoundedUp.{RoundedUp, roundedUp-rule}
 use Rattle.integer.specs.laws.Sum.{sumℕ-cong}
 use Rattle.ledger.specs.Axis.{errorOf}
+
+-- 'plus 7m/2 rounded up': what is added to the sum is the least whole number that is not below 7m/2
+pub error-rounds : (n : ℕ) (a : Matrix) (m i : ℕ) →
+    (t : ℕ) × RoundedUp (7 * m) 2 t × (errorOf n a m i ≡ sumℕ n (λ j. cond (eqb j i) 0 (natAbs (a i j))) + t)
+unfolding errorOf
+error-rounds n a m i = (roundedUp (7 * m) 2, roundedUp-rule (7 * m) 2 (omega arith), refl)
 
 -- of two matrices with the same row i
 pub same-error : (n : ℕ) (a b : Matrix) (m i : ℕ) → ((j : ℕ) → j < n → a i j ≡ b i j) → errorOf n a m i ≡ errorOf n b m i
 unfolding errorOf
 same-error n a b m i same =
-    ap (λ sum. sum + (7 * m + 1) / 2) (sumℕ-cong n (λ j l. ap (λ z. cond (eqb j i) 0 (natAbs z)) (same j l)))
+    ap (λ sum. sum + roundedUp (7 * m) 2) (sumℕ-cong n (λ j l. ap (λ z. cond (eqb j i) 0 (natAbs z)) (same j l)))

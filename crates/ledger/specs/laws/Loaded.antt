@@ -15,8 +15,8 @@ use Rattle.limits.specs.Limits.{entryLimit, units, whole}
 use Rattle.integer.specs.Matrix.{Matrix, product, transpose, conjugate, diagonal, squares, matrixOf}
 use Rattle.integer.specs.laws.Matrix.{diagonal-*, diagonal-transpose, diagonal-product, product-diagonal, dot-diagonal, diagonal-squares, squares-≤}
 use Rattle.ledger.specs.laws.Accepted.{Loads}
-use Rattle.ledger.specs.Ledger.{loadedOf}
-use Rattle.ledger.specs.laws.Near.{matrixDifference, axesDifference}
+use Rattle.ledger.specs.Ledger.{loadedState}
+use Rattle.ledger.specs.Near.{matrixDifference, axesDifference}
 use Rattle.ledger.specs.Sound.{matrixBound}
 use Rattle.ledger.specs.laws.Sound.{Sound}
 
@@ -44,8 +44,8 @@ load-size n numbers h =
     widest = omega (arith, h .high)
 
 -- B is 1024 × A and V is 2^30 × Q exactly, with P the identity and D = 1
-pub sound-load : (n : ℕ) (numbers : List ℤ) → Loads n numbers → Sound (loadedOf n numbers)
-unfolding loadedOf matrixOf I
+pub sound-load : (n : ℕ) (numbers : List ℤ) → Loads n numbers → Sound (loadedState n numbers)
+unfolding loadedState matrixOf I
 sound-load n numbers h = record {
   low = h .low;
   high = h .high;

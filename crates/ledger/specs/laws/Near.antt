@@ -16,22 +16,7 @@ use Rattle.turn.specs.laws.Exact.{Whole, exact-squares, conjugate-squares}
 use Rattle.turn.specs.Turn.{turned, turnedAxes}
 use Rattle.turn.specs.declared.pair.Rotation.{Rotation}
 use Rattle.limits.specs.Limits.{units, whole}
-
--- X = D² × B − 1024 × P A Pᵀ
-abbrev pub matrixDifference : ℕ → ℕ → Matrix → Matrix → Matrix → Matrix
-matrixDifference n D P A B i j = pos (D * D) *ℤ B i j -ℤ pos units *ℤ conjugate n P A i j
-
--- Y = D × V − 2^30 × P
-abbrev pub axesDifference : ℕ → Matrix → Matrix → Matrix
-axesDifference D P v i j = pos D *ℤ v i j -ℤ pos whole *ℤ P i j
-
--- 4 × ΣX² ≤ (7m × D²)²: 'the matrix is near'
-abbrev pub MatrixNear : ℕ → ℕ → ℕ → Matrix → Matrix → Matrix → Type 0
-MatrixNear n m D P A B = 4 * squares n (matrixDifference n D P A B) ≤ 7 * m * (D * D) * (7 * m * (D * D))
-
--- ΣY² ≤ (2m × D)²: 'the axes are near'
-abbrev pub AxesNear : ℕ → ℕ → ℕ → Matrix → Matrix → Type 0
-AxesNear n m D P v = squares n (axesDifference D P v) ≤ 2 * m * D * (2 * m * D)
+use Rattle.ledger.specs.Near.{matrixDifference, axesDifference, MatrixNear, AxesNear}
 
 -- Minkowski's inequality, of halves
 halves-+ : (n α β : ℕ) (X Y : Matrix) → 4 * squares n X ≤ α * α → 4 * squares n Y ≤ β * β → 4 * squares n (λ i j. X i j +ℤ Y i j) ≤ (α + β) * (α + β)

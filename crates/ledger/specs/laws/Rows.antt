@@ -18,10 +18,11 @@ use Rattle.integer.specs.Dot.{dot}
 use Rattle.integer.specs.laws.Dot.{dot-difference}
 use Rattle.integer.specs.Matrix.{Matrix, product, transpose, conjugate, diagonal}
 use Rattle.integer.specs.laws.Matrix.{diagonal-same, diagonal-other, row-≤-squares}
+use Rattle.integer.specs.RoundedUp.{roundedUp}
 use Rattle.ledger.specs.Axis.{errorOf}
 use Rattle.ledger.specs.Ledger.{State}
 use Rattle.limits.specs.Limits.{units}
-use Rattle.ledger.specs.laws.Near.{matrixDifference}
+use Rattle.ledger.specs.Near.{matrixDifference, RowNear}
 use Rattle.ledger.specs.laws.Sound.{Sound}
 
 -- u = 1024 × P_i A − a_ii × P_i
@@ -49,8 +50,8 @@ product-entry n P i j = refl
 
 -- Σ u² ≤ (D × r_i)², with r_i as the axis call answers it
 pub row-near : (s : State) → Sound s → (i : ℕ) → i < s .n →
-    sumℕ (s .n) (λ k. sq (rowDifference s i k)) ≤ s .D * errorOf (s .n) (s .B) (s .m) i * (s .D * errorOf (s .n) (s .B) (s .m) i)
-unfolding errorOf
+    RowNear (s .n) (s .D) (s .P) (s .A) i (s .B i i) (errorOf (s .n) (s .B) (s .m) i)
+unfolding errorOf roundedUp
 row-near s h i o = le-of-mul-le-mul-left {k = D * D} (le-trans rotated (omega arith)) (omega (arith, mul-le-mul (h .positive) (h .positive)))
   where
     n : ℕ

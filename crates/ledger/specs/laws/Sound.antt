@@ -9,7 +9,7 @@ use Rattle.integer.specs.Matrix.{Same, product, transpose, diagonal, squares}
 use Rattle.integer.specs.laws.Matrix.{Symmetric}
 use Rattle.ledger.specs.Ledger.{State}
 use Rattle.limits.specs.Limits.{entryLimit, turnLimit}
-use Rattle.ledger.specs.laws.Near.{MatrixNear, AxesNear}
+use Rattle.ledger.specs.Near.{MatrixNear, AxesNear}
 use Rattle.ledger.specs.Sound.{matrixBound, axesBound}
 
 pub record Sound (s : State) : Type 0 where

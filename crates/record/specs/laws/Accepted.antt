@@ -24,17 +24,17 @@ after-accepted r call e = rw (eq-eqb (refusalOf (r .n) (r .m) call) 0 e)
 
 -- a state with n channels and m turns made
 module _ (n m : ℕ) (h : 1 ≤ n) where
-  pub loose-pair-accepted : (t : ℕ) → t ≤ toleranceLimit → refusalOf n m (loosePair t) ≡ 0
+  pub loose-pair-taken : (t : ℕ) → t ≤ toleranceLimit → refusalOf n m (loosePair t) ≡ 0
   unfolding refusalOf
-  loose-pair-accepted t l = rw (lt-ltb 0 n h, le-leb t toleranceLimit l)
+  loose-pair-taken t l = rw (lt-ltb 0 n h, le-leb t toleranceLimit l)
 
-  pub sweep-accepted : m + n * (n - 1) / 2 ≤ turnLimit → refusalOf n m sweep ≡ 0
+  pub sweep-taken : m + n * (n - 1) / 2 ≤ turnLimit → refusalOf n m sweep ≡ 0
   unfolding refusalOf
-  sweep-accepted l = rw (lt-ltb 0 n h, le-leb (m + n * (n - 1) / 2) turnLimit l)
+  sweep-taken l = rw (lt-ltb 0 n h, le-leb (m + n * (n - 1) / 2) turnLimit l)
 
-pub load-accepted : (n m k : ℕ) (numbers : List ℤ) → Loads k numbers → refusalOf n m (load k numbers) ≡ 0
+pub load-taken : (n m k : ℕ) (numbers : List ℤ) → Loads k numbers → refusalOf n m (load k numbers) ≡ 0
 unfolding refusalOf
-load-accepted n m k numbers l =
+load-taken n m k numbers l =
     rw (
       le-leb 2 k (l .low),
       le-leb k 8 (l .high),

@@ -27,7 +27,7 @@ use Rattle.turn.specs.InUse.{inUse}
 use Rattle.turn.specs.laws.InUse.{Use, inside, outside, use-of, at-square, inUse-inside, inUse-outside}
 use Rattle.record.specs.laws.Turning.{work-keeps, work-grows, works-keep, works-grow}
 use Rattle.record.specs.Work.{Work, workPair, workPairs}
-use Rattle.record.specs.Flat.{entriesOf, flatOf, kept, rowsOf}
+use Rattle.record.specs.Flat.{entriesOf, flatOf, keptEntry, rowsOf}
 use Rattle.record.specs.Kept.{Kept}
 use Rattle.record.specs.laws.Fill.{length-flat}
 use Rattle.record.specs.laws.Loading.{at-flat, load-kept}
@@ -126,10 +126,10 @@ after-kept r call k = by-refusal (eqb (refusalOf (r .n) (r .m) call) 0) refl
 
 -- a fresh record
 empty : (i j : ℕ) → at (rowsOf (replicate 64 (pos 0))) i j ≡ pos 0
-unfolding rowsOf entriesOf kept
-empty i j = at-square (kept (replicate 64 (pos 0))) i j ∙ by-use (use-of 8 i j)
+unfolding rowsOf entriesOf keptEntry
+empty i j = at-square (keptEntry (replicate 64 (pos 0))) i j ∙ by-use (use-of 8 i j)
   where
-    by-use : Use 8 i j → inUse 8 (kept (replicate 64 (pos 0))) i j ≡ pos 0
+    by-use : Use 8 i j → inUse 8 (keptEntry (replicate 64 (pos 0))) i j ≡ pos 0
     by-use (inside h k) = inUse-inside 8 _ i j h k ∙ getD-repeated 64 (8 * i + j) (pos 0)
     by-use (outside e) = inUse-outside 8 _ i j e
 

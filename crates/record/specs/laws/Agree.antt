@@ -25,9 +25,9 @@ use Rattle.record.specs.Work.{Work, chosen, workBy, workPair, workPairs}
 use Rattle.choice.specs.declared.Choice.{Choice}
 use Rattle.choice.specs.declared.Choice.the-variants.{NoTurn, Turn}
 use Rattle.record.specs.laws.Fill.{at-rowsOf, kept-flatOf}
-use Rattle.record.specs.Flat.{kept}
+use Rattle.record.specs.Flat.{keptEntry}
 use Rattle.record.specs.Kept.{Kept}
-use Rattle.record.specs.Record.{acceptedOf, afterOf, loadedOf, refusedOf, sweptOf, turnedOf, workOf, workedOf}
+use Rattle.record.specs.Record.{acceptedOf, afterOf, loadedRecord, refusedOf, sweptOf, turnedOf, workOf, workedOf}
 use Rattle.record.specs.declared.Record.{Record}
 
 -- work and a ledger's state, below n
@@ -69,8 +69,8 @@ agree-pairs n w s (pair ∷ pairs) b k a e =
 pub record Agree (r : Record) (s : State) : Type 0 where
   pub size : r .n ≡ s .n
   pub turns : r .m ≡ s .m
-  pub matrix : Same (s .n) (kept (r .a)) (s .B)
-  pub axes : Same (s .n) (kept (r .v)) (s .axes)
+  pub matrix : Same (s .n) (keptEntry (r .a)) (s .B)
+  pub axes : Same (s .n) (keptEntry (r .v)) (s .axes)
 
 unfoldable pub Agrees : Record → Ledger → Type 0
 Agrees r empty = r .n ≡ 0
@@ -118,8 +118,8 @@ unfolding Agrees refusedOf
 agree-refused r empty a = a
 agree-refused r (loaded s) a = record { size = a .size; turns = a .turns; matrix = a .matrix; axes = a .axes }
 
-agree-loaded : (r : Record) (n : ℕ) (numbers : List ℤ) → n ≤ 8 → Agree (loadedOf r n numbers) (L.loadedOf n numbers)
-unfolding loadedOf L.loadedOf
+agree-loaded : (r : Record) (n : ℕ) (numbers : List ℤ) → n ≤ 8 → Agree (loadedRecord r n numbers) (L.loadedState n numbers)
+unfolding loadedRecord L.loadedState
 agree-loaded r n numbers b =
     record {
       size = refl;

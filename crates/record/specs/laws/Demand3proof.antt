@@ -13,21 +13,21 @@ use Rattle.ledger.specs.Call.{Call, axis}
 use Rattle.ledger.specs.laws.Invariant.{SoundLedger, sound-step}
 use Rattle.ledger.specs.Ledger.{Ledger, State, empty, loaded, ledger, ledgerFrom, ledgerStep}
 use Rattle.limits.specs.Limits.{units, whole}
-use Rattle.ledger.specs.laws.Near.{matrixDifference, axesDifference}
+use Rattle.ledger.specs.Near.{matrixDifference, axesDifference}
 use Rattle.ledger.specs.Refusal.{refusalOf}
 use Rattle.ledger.specs.laws.Rows.{row-near}
 use Rattle.ledger.specs.laws.Sound.{Sound}
 use Rattle.record.specs.laws.After.{after-kept, fresh-kept}
 use Rattle.record.specs.laws.Agree.{Agree, Agrees, agree-step}
 use Rattle.record.specs.Demand3.{AxisNear, Certified, Certifies, Demand-3}
-use Rattle.record.specs.Flat.{kept}
+use Rattle.record.specs.Flat.{keptEntry}
 use Rattle.record.specs.Kept.{Kept}
 use Rattle.record.specs.Record.{after, afterFrom, afterOf, answerOf, fresh, valueOf}
 use Rattle.record.specs.declared.Record.{Record}
 
 module _ (r : Record) (s : State) (a : Agree r s) (h : Sound s) where
-  error-agrees : (i : ℕ) → i < s .n → errorOf (r .n) (kept (r .a)) (r .m) i ≡ errorOf (s .n) (s .B) (s .m) i
-  error-agrees i l = rw (a .size, a .turns) (same-error (s .n) (kept (r .a)) (s .B) (s .m) i (λ j k. a .matrix i j l k))
+  error-agrees : (i : ℕ) → i < s .n → errorOf (r .n) (keptEntry (r .a)) (r .m) i ≡ errorOf (s .n) (s .B) (s .m) i
+  error-agrees i l = rw (a .size, a .turns) (same-error (s .n) (keptEntry (r .a)) (s .B) (s .m) i (λ j k. a .matrix i j l k))
 
   accepted : (i : ℕ) → 1 ≤ i → i ≤ s .n → refusalOf (r .n) (r .m) (axis i) ≡ 0
   unfolding refusalOf
@@ -37,18 +37,17 @@ module _ (r : Record) (s : State) (a : Agree r s) (h : Sound s) where
   unfolding answerOf valueOf
   axis-near i f l =
       record {
-        entry = kept (r .a) (i - 1) (i - 1);
-        error = errorOf (r .n) (kept (r .a)) (r .m) (i - 1);
+        error = errorOf (r .n) (keptEntry (r .a)) (r .m) (i - 1);
         answers = rw (accepted i f l);
         near = rw (error-agrees (i - 1) (omega arith), a .matrix (i - 1) (i - 1) (omega arith) (omega arith)) (row-near s h (i - 1) (omega arith));
       }
 
-  same-matrix : squares (s .n) (matrixDifference (s .n) (s .D) (s .P) (s .A) (kept (r .a))) ≡ squares (s .n)
+  same-matrix : squares (s .n) (matrixDifference (s .n) (s .D) (s .P) (s .A) (keptEntry (r .a))) ≡ squares (s .n)
       (matrixDifference (s .n) (s .D) (s .P) (s .A) (s .B))
   same-matrix = squares-cong (s .n)
       (λ i j k l. ap (λ z. pos (s .D * s .D) *ℤ z -ℤ pos units *ℤ conjugate (s .n) (s .P) (s .A) i j) (a .matrix i j k l))
 
-  same-axes : squares (s .n) (axesDifference (s .D) (s .P) (kept (r .v))) ≡ squares (s .n) (axesDifference (s .D) (s .P) (s .axes))
+  same-axes : squares (s .n) (axesDifference (s .D) (s .P) (keptEntry (r .v))) ≡ squares (s .n) (axesDifference (s .D) (s .P) (s .axes))
   same-axes = squares-cong (s .n) (λ i j k l. ap (λ z. pos (s .D) *ℤ z -ℤ pos whole *ℤ s .P i j) (a .axes i j k l))
 
   certified : Certified r s

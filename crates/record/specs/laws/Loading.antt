@@ -16,7 +16,7 @@ use Rattle.ledger.specs.laws.Accepted.{Loads, load-accepted}
 use Rattle.ledger.specs.Call.{load}
 use Rattle.ledger.specs.laws.Loaded.{load-size}
 use Rattle.limits.specs.Limits.{entryLimit, units, whole}
-use Rattle.ledger.specs.Refusal.{refusalOf, within}
+use Rattle.ledger.specs.Refusal.{refusalOf, entriesWithin}
 use Rattle.ledger.specs.Sound.{matrixBound, axesBound}
 use Rattle.turn.specs.Turn.{at}
 use Rattle.turn.specs.InUse.{inUse}
@@ -24,9 +24,9 @@ use Rattle.turn.specs.laws.InUse.{Use, inside, outside, use-of, at-square, inUs
 use Rattle.integer.specs.Matrix.{Matrix, diagonal, squares, matrixOf}
 use Rattle.integer.specs.laws.Matrix.{diagonal-squares, squares-cong}
 use Rattle.record.specs.laws.Fill.{kept-flatOf, length-flat}
-use Rattle.record.specs.Flat.{kept, entriesOf, rowsOf, flatOf}
+use Rattle.record.specs.Flat.{keptEntry, entriesOf, rowsOf, flatOf}
 use Rattle.record.specs.Kept.{Kept}
-use Rattle.record.specs.Record.{loadedOf, workOf}
+use Rattle.record.specs.Record.{loadedRecord, workOf}
 use Rattle.record.specs.declared.Record.{Record}
 
 -- a load's refusal is of its arguments alone
@@ -34,23 +34,23 @@ pub load-refusal-alone : (n m k : ℕ) (numbers : List ℤ) → refusalOf n m (l
 unfolding refusalOf
 load-refusal-alone n m k numbers = refl
 
-small-within : (numbers : List ℤ) → ((i : ℕ) → natAbs (getD numbers i (pos 0)) ≤ entryLimit) → within numbers ≡ true
-unfolding within
+small-within : (numbers : List ℤ) → ((i : ℕ) → natAbs (getD numbers i (pos 0)) ≤ entryLimit) → entriesWithin numbers ≡ true
+unfolding entriesWithin
 small-within [] h = refl
 small-within (x ∷ xs) h = rw (le-leb (natAbs x) entryLimit (h 0), small-within xs (λ i. h (suc i)))
 
-pub loads-within : {n : ℕ} {numbers : List ℤ} → Loads n numbers → within numbers ≡ true
+pub loads-within : {n : ℕ} {numbers : List ℤ} → Loads n numbers → entriesWithin numbers ≡ true
 loads-within {n} {numbers} l = small-within numbers (l .small)
 
 -- an entry of the rows of a flat matrix that is 0 outside
 pub at-flat : (n : ℕ) (x : Matrix) → n ≤ 8 → (i j : ℕ) → at (rowsOf (flatOf (inUse n x))) i j ≡ inUse n x i j
 unfolding rowsOf entriesOf
-at-flat n x b i j = at-square (kept (flatOf (inUse n x))) i j ∙ by-use (use-of 8 i j) (use-of n i j)
+at-flat n x b i j = at-square (keptEntry (flatOf (inUse n x))) i j ∙ by-use (use-of 8 i j) (use-of n i j)
   where
-    stored : i < 8 → j < 8 → inUse 8 (kept (flatOf (inUse n x))) i j ≡ inUse n x i j
+    stored : i < 8 → j < 8 → inUse 8 (keptEntry (flatOf (inUse n x))) i j ≡ inUse n x i j
     stored h l = inUse-inside 8 _ i j h l ∙ kept-flatOf (inUse n x) i j h l
 
-    by-use : Use 8 i j → Use n i j → inUse 8 (kept (flatOf (inUse n x))) i j ≡ inUse n x i j
+    by-use : Use 8 i j → Use n i j → inUse 8 (keptEntry (flatOf (inUse n x))) i j ≡ inUse n x i j
     by-use (inside h l) u = stored h l
     by-use (outside e) (inside h l) = stored (omega arith) (omega arith)
     by-use (outside e) (outside d) = inUse-outside 8 _ i j e ∙ sym (inUse-outside n x i j d)
@@ -78,8 +78,8 @@ module _ (r : Record) (n : ℕ) (numbers : List ℤ) (l : Loads n numbers) where
       rw (sumℕ-cong n (λ i k. ap sq (axes i j ∙ inUse-outside n _ i j (rw (lt-ltb i n k, le-ltb j n (omega arith)))) ∙ sq-pos 0), sumℕ-const n 0)
       (omega arith)
 
-  pub loads-kept : Kept (loadedOf r n numbers)
-  unfolding loadedOf workOf entries
+  pub loads-kept : Kept (loadedRecord r n numbers)
+  unfolding loadedRecord workOf entries
   loads-kept =
       record {
         size = l .high;
@@ -98,5 +98,5 @@ module _ (r : Record) (n : ℕ) (numbers : List ℤ) (l : Loads n numbers) where
         axes-length = length-flat _;
       }
 
-pub load-kept : (r : Record) (n : ℕ) (numbers : List ℤ) → refusalOf (r .n) (r .m) (load n numbers) ≡ 0 → Kept (loadedOf r n numbers)
+pub load-kept : (r : Record) (n : ℕ) (numbers : List ℤ) → refusalOf (r .n) (r .m) (load n numbers) ≡ 0 → Kept (loadedRecord r n numbers)
 load-kept r n numbers e = loads-kept r n numbers (load-accepted (r .n) (r .m) n numbers e)

@@ -22,7 +22,7 @@ use Rattle.turn.specs.laws.Exact.{rotationOf-whole}
 use Rattle.turn.specs.laws.Norm.{turned-squares, axes-column}
 use Rattle.turn.specs.Rotation.{rotationOf}
 use Rattle.turn.specs.Size.{Small}
-use Rattle.turn.specs.inner.Size.{Symmetric}
+use Rattle.turn.specs.inner.Size.{SymmetricRows}
 use Rattle.turn.specs.laws.Symmetry.{turned-symmetric}
 use Rattle.turn.specs.Turn.{at, turned, turnedAxes, turnMatrix, turnAxes}
 use Rattle.turn.specs.declared.pair.Rotation.{Rotation}
@@ -151,5 +151,5 @@ module _ (n : ℕ) (w : Work) (k : KeptWork n w) (few : w .m ≤ 476) where
           (omega arith)
       by-use i j (outside e) = rw (k .axes-outside i j e) (omega arith)
 
-  pub matrix-symmetric : Symmetric (w .a)
+  pub matrix-symmetric : SymmetricRows (w .a)
   matrix-symmetric = record { mirror = k .symmetric }

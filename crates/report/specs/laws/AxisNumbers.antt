@@ -14,6 +14,7 @@ use lib.Seq.{take-append-add}
 use Rattle.integer.specs.laws.Sum.{sumℕ-≤, sumℕ-const}
 use Rattle.integer.specs.laws.Tests.{cond-≤}
 use Rattle.ledger.specs.laws.Accepted.{axis-taken}
+use Rattle.integer.specs.RoundedUp.{roundedUp}
 use Rattle.ledger.specs.Axis.{errorOf}
 use Rattle.ledger.specs.Call.{axis}
 use Rattle.ledger.specs.Refusal.{refusalOf}
@@ -23,7 +24,7 @@ use Rattle.record.specs.declared.query.Answer.{Answer}
 use Rattle.record.specs.declared.query.Answer.the-variants.{Loaded, Turned, Swept, Pair, NoPair, Axis, Refused}
 use Rattle.choice.specs.Widest.{widest}
 use Rattle.record.specs.laws.Fill.{at-rowsOf}
-use Rattle.record.specs.Flat.{entriesOf, kept}
+use Rattle.record.specs.Flat.{entriesOf, keptEntry}
 use Rattle.record.specs.Kept.{Kept}
 use Rattle.record.specs.Record.{answerOf, axisOf, valueOf, workOf}
 use Rattle.record.specs.declared.Record.{Record}
@@ -74,7 +75,7 @@ axes-row r i l h = rw (getD-eight (λ k. cond (ltb k (r .n)) (axisNumbers r (suc
 
 -- an axis call that names an axis is not refused
 pub axis-answer : (r : Record) (i : ℕ) → 1 ≤ i → i ≤ r .n →
-    answerOf r (axis i) ≡ Axis (kept (r .a) (i - 1) (i - 1)) (errorOf (r .n) (kept (r .a)) (r .m) (i - 1))
+    answerOf r (axis i) ≡ Axis (keptEntry (r .a) (i - 1) (i - 1)) (errorOf (r .n) (keptEntry (r .a)) (r .m) (i - 1))
 unfolding answerOf valueOf
 axis-answer r i h k = rw (eq-eqb (refusalOf (r .n) (r .m) (axis i)) 0 (axis-taken (r .n) (r .m) i h k))
 
@@ -92,12 +93,12 @@ module _ (r : Record) (i : ℕ) (h : i < r .n) where
   place : suc i - 1 ≡ i
   place = omega arith
 
-  pub numbers-are : axisNumbers r (suc i) ≡ pos (suc i) ∷ kept (r .a) i i ∷ pos (errorOf (r .n) (kept (r .a)) (r .m) i) ∷ entriesOf (r .v) i
+  pub numbers-are : axisNumbers r (suc i) ≡ pos (suc i) ∷ keptEntry (r .a) i i ∷ pos (errorOf (r .n) (keptEntry (r .a)) (r .m) i) ∷ entriesOf (r .v) i
   unfolding axisNumbers axisValues answerOf valueOf axisOf
   numbers-are = rw (taken, place)
 
-  pub error-small : Kept r → errorOf (r .n) (kept (r .a)) (r .m) i < 2 ^ 63
-  unfolding errorOf workOf
+  pub error-small : Kept r → errorOf (r .n) (keptEntry (r .a)) (r .m) i < 2 ^ 63
+  unfolding errorOf roundedUp workOf
   error-small k =
       omega (
         arith,
@@ -107,7 +108,7 @@ module _ (r : Record) (i : ℕ) (h : i < r .n) where
         k .turns,
       )
     where
-      small : (j : ℕ) → j < r .n → natAbs (kept (r .a) i j) ≤ widest
+      small : (j : ℕ) → j < r .n → natAbs (keptEntry (r .a) i j) ≤ widest
       small j l =
           rw (← at-rowsOf (r .a) i j (omega (arith, h, k .size)) (omega (arith, l, k .size)))
           (matrix-small (r .n) (workOf r) (k .work) (le-trans (k .turns) (lit≤ tt)) .small i j)

@@ -13,9 +13,9 @@ use Rattle.ledger.specs.laws.Cyclic.{cyclic-length}
 use Rattle.limits.specs.Limits.{toleranceLimit}
 use Rattle.ledger.specs.Pairs.{cyclic}
 use Rattle.ledger.specs.Refusal.{refusalOf}
-use Rattle.record.specs.laws.Accepted.{after-accepted, loose-pair-accepted, sweep-accepted, turns-suffice}
+use Rattle.record.specs.laws.Accepted.{after-accepted, loose-pair-taken, sweep-taken, turns-suffice}
 use Rattle.record.specs.laws.Loading.{load-refusal-alone}
-use Rattle.record.specs.Record.{acceptedOf, after, afterFrom, afterOf, fresh, loadedOf, sweptOf, workOf, workedOf}
+use Rattle.record.specs.Record.{acceptedOf, after, afterFrom, afterOf, fresh, loadedRecord, sweptOf, workOf, workedOf}
 use Rattle.record.specs.declared.Record.{Record}
 use Rattle.record.specs.laws.Turning.{works-grow}
 use Rattle.run.specs.laws.Course.{Course, settles, is-still, is-spent, sweeps-on, course}
@@ -76,7 +76,7 @@ module _ (n t : ℕ) (low : 1 ≤ n) (high : n ≤ 8) (h : t ≤ toleranceLimit)
   loose-leaves : (r : Record) → r .n ≡ n → (refusalOf (r .n) (r .m) (loosePair t) ≡ 0) × (afterOf r (loosePair t) ≡ r)
   unfolding acceptedOf
   loose-leaves r e =
-      let a = loose-pair-accepted (r .n) (r .m) (omega (arith, e)) t h in
+      let a = loose-pair-taken (r .n) (r .m) (omega (arith, e)) t h in
       (a, after-accepted r (loosePair t) a)
 
   sweep-leaves : (sweeps : ℕ) (r : Record) → Swept sweeps r → sweeps < 16 → (refusalOf (r .n) (r .m) sweep ≡ 0) × Swept (suc sweeps) (afterOf r sweep)
@@ -84,7 +84,7 @@ module _ (n t : ℕ) (low : 1 ≤ n) (high : n ≤ 8) (h : t ≤ toleranceLimit)
   sweep-leaves sweeps r s l = (a, rw (after-accepted r sweep a) (record { channels = s .channels; turns = grown }))
     where
       a : refusalOf (r .n) (r .m) sweep ≡ 0
-      a = sweep-accepted (r .n) (r .m) (omega (arith, s .channels)) (rw (s .channels) (turns-suffice n (r .m) sweeps high l (s .turns)))
+      a = sweep-taken (r .n) (r .m) (omega (arith, s .channels)) (rw (s .channels) (turns-suffice n (r .m) sweeps high l (s .turns)))
 
       counted : length (cyclic (r .n)) ≡ n * (n - 1) / 2
       counted = rw (s .channels) (cyclic-length n low)
@@ -143,7 +143,7 @@ module _ (n : ℕ) (numbers : List ℤ) (limit t : ℕ) (a : Allowed n numbers l
   load-taken = load-refusal-alone (fresh .n) (fresh .m) n numbers ∙ a .matrix
 
   loaded-swept : Swept n t low (matrix-loads .high) (a .tolerance) 0 loaded
-  unfolding loaded acceptedOf loadedOf
+  unfolding loaded acceptedOf loadedRecord
   loaded-swept = rw (after-accepted fresh (load n numbers) load-taken) (record { channels = refl; turns = omega arith })
 
   run-rounds : Rounds n t low (matrix-loads .high) (a .tolerance) 0 loaded (runOf n numbers limit t)

@@ -9,7 +9,7 @@ use Rattle.ledger.specs.Refusal.{refusalOf}
 use Rattle.scatter.specs.laws.Entries.{entries-symmetric, entries-within, length-scatter, table-entries}
 use Rattle.scatter.specs.Table.{entries, scatter, tableOf}
 use Rattle.sums.specs.declared.Sums.{Sums}
-use Rattle.record.specs.laws.Accepted.{load-accepted}
+use Rattle.record.specs.laws.Accepted.{load-taken}
 use Rattle.integer.specs.Matrix.{matrixOf}
 use Rattle.run.specs.Run.{Allowed}
 
@@ -26,7 +26,7 @@ module _ (n : ℕ) (t : Sums) (low : 2 ≤ n) (high : n ≤ 8) where
       }
 
   pub table-accepted : refusalOf 0 0 (load n (take (n * n) (tableOf n t .entries))) ≡ 0
-  table-accepted = rw (table-entries n t high) (load-accepted 0 0 n _ entries-load)
+  table-accepted = rw (table-entries n t high) (load-taken 0 0 n _ entries-load)
 
   pub table-allowed : (limit tolerance : ℕ) → limit ≤ 16 → tolerance ≤ toleranceLimit →
       Allowed n (take (n * n) (tableOf n t .entries)) limit tolerance

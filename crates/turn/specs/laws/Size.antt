@@ -16,7 +16,7 @@ use Rattle.turn.specs.Rotation.{rotationOf, signed}
 use Rattle.turn.specs.Turn.{at}
 use Rattle.turn.specs.declared.pair.Rotation.{Rotation}
 use Rattle.turn.specs.Size.{Small}
-use Rattle.turn.specs.inner.Size.{weight, passed, Turns}
+use Rattle.turn.specs.inner.Size.{weight, passed, TurnFits}
 
 -- an entry is read back from its bits
 pub entry-back : (a : List (List ℤ)) → Small a → (i j : ℕ) → toZ w64 (ofZ w64 (at a i j)) ≡ at a i j
@@ -26,7 +26,7 @@ entry-back a h i j = read-back (at a i j) (omega (arith, h .small i j))
 turns? : Rotation → Bool
 turns? r = ltb 0 (r .n) && (ltb (weight r * widest + r .n) (2 ^ 63) && ltb (weight r * passed r widest + r .n) (2 ^ 63))
 
-turns : (r : Rotation) → T (turns? r) → Turns r
+turns : (r : Rotation) → T (turns? r) → TurnFits r
 unfolding turns?
 turns r t =
     let rest = and-yes (ltb 0 (r .n)) _ t in
@@ -37,7 +37,7 @@ turns r t =
       second-pass = ltb→lt _ _ (passes .1);
     }
 
-pub rotationOf-turns : (l : ℕ) (minus : Bool) → 1 ≤ l → l ≤ 14 → Turns (rotationOf l minus)
+pub rotationOf-turns : (l : ℕ) (minus : Bool) → 1 ≤ l → l ≤ 14 → TurnFits (rotationOf l minus)
 unfolding turns? rotationOf signed passed
 rotationOf-turns l true h k = turns _ (from-1-to-14 (λ m. turns? (rotationOf m true)) tt l h k)
 rotationOf-turns l false h k = turns _ (from-1-to-14 (λ m. turns? (rotationOf m false)) tt l h k)

@@ -5,7 +5,7 @@ use Rattle.ledger.specs.laws.Accepted.{Loads, load-accepted}
 use Rattle.ledger.specs.Call.{load}
 use Rattle.record.specs.Blank.{blank}
 use Rattle.record.specs.laws.Loading.{load-refusal-alone, loads-within}
-use Rattle.record.specs.Record.{acceptedOf, loadedOf, valueOf}
+use Rattle.record.specs.Record.{acceptedOf, loadedRecord, valueOf}
 use Rattle.record.proofs.FlatFilled.{flat-square}
 use Rattle.record.proofs.Outcome.{accepted, refuses}
 use Rattle.record.proofs.Record.load.Statement.{statement}
@@ -30,7 +30,7 @@ unfolding blank
 load-axes-requires c κs = (refl, loads (c .before .before .before) .high)
 
 returns-2 : tie.Need-returns-2
-unfolding valueOf acceptedOf loadedOf
+unfolding valueOf acceptedOf loadedRecord
 returns-2 c =
     let axes = c .before .before in
     let matrix = axes .before .before in

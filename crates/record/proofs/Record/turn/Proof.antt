@@ -4,7 +4,7 @@ use Prim.Native.Nat.{_-_}
 use native.Mathlib.Omega.{arith}
 use lib.Dec.{ltb}
 use borrow.Author.Needs.{needs}
-use Rattle.ledger.specs.laws.Accepted.{Turns, turn-accepted}
+use Rattle.ledger.specs.laws.Accepted.{TurnGiven, turn-accepted}
 use Rattle.ledger.specs.Call.{turn}
 use Rattle.ledger.specs.Pairs.{Pair}
 use Rattle.record.specs.laws.Turning.{work-turned}
@@ -24,7 +24,7 @@ returns c =
     (c .refuse .ensures)
 
 -- what the passed checks tell
-turns : (c : tie.Else1) → (let s = c .before .before .args in Turns (s .t1 .n) (s .t1 .m) (s .p) (s .q))
+turns : (c : tie.Else1) → (let s = c .before .before .args in TurnGiven (s .t1 .n) (s .t1 .m) (s .p) (s .q))
 turns c = turn-accepted _ _ _ _ (sym (c .before .turn-refusal .ensures) ∙ c .if1 .left)
 
 -- the rows of the record, unpacked

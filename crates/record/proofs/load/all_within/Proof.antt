@@ -11,13 +11,13 @@ use mir.Facts.{toZ-ofZ}
 use borrow.Author.Needs.{needs}
 use borrow.Author.Tests.{not-true, not-false}
 use Rattle.limits.specs.Limits.{entryLimit}
-use Rattle.ledger.specs.Refusal.{within}
+use Rattle.ledger.specs.Refusal.{entriesWithin}
 use Rattle.record.proofs.Checks.{within-fails, within-more}
 use Rattle.record.proofs.load.all_within.Statement.{statement}
 use Rattle.record.proofs.load.all_within.Tie as tie
 
 abbrev Inv-loop : tie.InvT-loop
-Inv-loop numbers k₀ k = (k ≤ length numbers) × (within numbers ≡ within (drop k numbers))
+Inv-loop numbers k₀ k = (k ≤ length numbers) × (entriesWithin numbers ≡ entriesWithin (drop k numbers))
 
 abbrev μ-loop : tie.MeasureT-loop
 μ-loop numbers k₀ k = length numbers - k
@@ -42,7 +42,7 @@ loop-again c =
     (omega arith, within-more _ _ (omega arith) (i .1) (sym (tested (c .before)) ∙ not-false _ (c .if1 .left)))
 
 returns-2 : tie.Need-returns-2 Inv-loop μ-loop
-unfolding within
+unfolding entriesWithin
 returns-2 c =
     let i = c .before .loop .inv in
     sym (i .1 ∙ rw (drop-of-length-le (c .before .before .args .numbers .now) {i = c .before .loop .k} (omega arith)))

@@ -8,6 +8,7 @@ use lib.Dec.{eqb}
 use lib.IntN.{natAbs}
 use Rattle.integer.specs.Sum.{sumℕ}
 use Rattle.integer.specs.laws.Tests.{cond-≤}
+use Rattle.integer.specs.RoundedUp.{roundedUp}
 use Rattle.ledger.specs.Axis.{errorOf}
 use Rattle.turn.specs.Turn.{at}
 use Rattle.choice.specs.Widest.{widest}
@@ -46,7 +47,7 @@ loop-again c =
     (omega arith, rw add-one (ap₂ _+_ (i .1) (c .off-diagonal .ensures)), omega (arith, column c))
 
 returns : tie.Need-returns Inv-loop μ-loop
-unfolding errorOf
+unfolding errorOf roundedUp
 returns c =
     let s = c .before .before in
     let e : c .before .loop .j ≡ s .args .n = omega arith in

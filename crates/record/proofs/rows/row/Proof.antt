@@ -12,12 +12,12 @@ use borrow.Author.Tests.{lt-ltb}
 use Rattle.turn.specs.inner.Eight.{front}
 use Rattle.turn.specs.laws.Eight.{eight-cong, front-more}
 use Rattle.turn.specs.Turn.{eight}
-use Rattle.record.specs.Flat.{entriesOf, kept}
+use Rattle.record.specs.Flat.{entriesOf, keptEntry}
 use Rattle.record.proofs.rows.row.Statement.{statement}
 use Rattle.record.proofs.rows.row.Tie as tie
 
 abbrev Inv-loop : tie.InvT-loop
-Inv-loop a i start row₀ j₀ row j = (j ≤ 8) × (row ≡ front (kept a i) (pos 0) j)
+Inv-loop a i start row₀ j₀ row j = (j ≤ 8) × (row ≡ front (keptEntry a i) (pos 0) j)
 
 abbrev μ-loop : tie.MeasureT-loop
 μ-loop a i start row₀ j₀ row j = 8 - j
@@ -27,13 +27,13 @@ unfolding eight
 loop-holds c = (omega arith, refl)
 
 loop-again : tie.Need-loop-again Inv-loop μ-loop
-unfolding kept
+unfolding keptEntry
 loop-again c =
     let l = c .before .before in
     let a = l .before .args .a .now in
     let i = l .before .args .i in
     let f : SFits w64 (getD a (8 * i + l .loop .j) (pos 0)) = search needs in
-    (omega arith, rw (l .loop .inv .1) (front-more (kept a i) (pos 0) (l .loop .j) _ (omega arith) (toZ-ofZ f)))
+    (omega arith, rw (l .loop .inv .1) (front-more (keptEntry a i) (pos 0) (l .loop .j) _ (omega arith) (toZ-ofZ f)))
 
 returns : tie.Need-returns Inv-loop μ-loop
 unfolding entriesOf

@@ -9,7 +9,7 @@ use mir.Val.{SFits}
 use mir.Facts.{toZ-ofZ}
 use borrow.Author.Needs.{needs}
 use Rattle.ledger.specs.Axis.{errorOf}
-use Rattle.record.specs.Flat.{kept}
+use Rattle.record.specs.Flat.{keptEntry}
 use Rattle.record.specs.declared.query.Answer.the-variants.{Axis}
 use Rattle.record.proofs.Told.{not-axis}
 use Rattle.report.specs.AxisNumbers.{axisValues}
@@ -24,13 +24,13 @@ module _ (c : tie.After-axis) where
   start = c .before
 
   answer-is : c .axis .result .answer .value ≡
-      Axis (kept (start .args .r .a) (start .args .i - 1) (start .args .i - 1))
-      (errorOf (start .args .r .n) (kept (start .args .r .a)) (start .args .r .m) (start .args .i - 1))
+      Axis (keptEntry (start .args .r .a) (start .args .i - 1) (start .args .i - 1))
+      (errorOf (start .args .r .n) (keptEntry (start .args .r .a)) (start .args .r .m) (start .args .i - 1))
   answer-is = c .axis .ensures .answers ∙ axis-answer (start .args .r) (start .args .i) (start .pre .1) (start .pre .2)
 
   -- the entry and the error that stand in the answer
   module _ (entry : ℤ) (error : ℕ) (e : c .axis .result .answer .value ≡ Axis entry error) where
-    error-is : error ≡ errorOf (start .args .r .n) (kept (start .args .r .a)) (start .args .r .m) (start .args .i - 1)
+    error-is : error ≡ errorOf (start .args .r .n) (keptEntry (start .args .r .a)) (start .args .r .m) (start .args .i - 1)
     error-is = let same = sym e ∙ answer-is in cc
 
     small : error < 2 ^ 63

@@ -3,7 +3,7 @@ use mathlib.Core.Path.{sym, subst}
 use Prim.Native.Nat.{_+_}
 use borrow.Author.Needs.{needs}
 use Rattle.turn.specs.Size.{Small}
-use Rattle.turn.specs.inner.Size.{Symmetric}
+use Rattle.turn.specs.inner.Size.{SymmetricRows}
 use Rattle.choice.specs.Widest.{widest}
 use Rattle.test_turns.specs.Generator.{matrixOf, rowOf, offset}
 use Rattle.test_turns.specs.Ranges.{matrixOf-small, matrixOf-symmetric}
@@ -24,7 +24,7 @@ returns c =
     (c .before .before .row6 .ensures)
     (c .before .row7 .ensures)
     (c .row8 .ensures) in
-    (e, subst Small (sym e) (matrixOf-small _), subst Symmetric (sym e) (matrixOf-symmetric _))
+    (e, subst Small (sym e) (matrixOf-small _), subst SymmetricRows (sym e) (matrixOf-symmetric _))
 
 pub matrix-spec : {M : Type 1} → statement M
 matrix-spec =

@@ -1,0 +1,28 @@
+-- How near kept numbers are to the exact rotation Q = P / D, in whole numbers: the matrix, the axes, and a row of Q as an axis of A. Both sides are
+-- multiplied by what clears every denominator, and lengths are compared by their squares.
+use Prim.Native.Nat.{ℕ, _*_, _≤_}
+use lib.IntN.{ℤ, pos, _-ℤ_, _*ℤ_}
+use Rattle.integer.specs.Matrix.{Matrix, product, conjugate, squares}
+use Rattle.integer.specs.Square.{sq}
+use Rattle.integer.specs.Sum.{sumℕ}
+use Rattle.limits.specs.Limits.{units, whole}
+
+-- X = D² × B − 1024 × P A Pᵀ
+abbrev pub matrixDifference : ℕ → ℕ → Matrix → Matrix → Matrix → Matrix
+matrixDifference n D P A B i j = pos (D * D) *ℤ B i j -ℤ pos units *ℤ conjugate n P A i j
+
+-- Y = D × V − 2^30 × P
+abbrev pub axesDifference : ℕ → Matrix → Matrix → Matrix
+axesDifference D P v i j = pos D *ℤ v i j -ℤ pos whole *ℤ P i j
+
+-- the squared differences of B and 1024 × Q A Qᵀ sum to at most (7m/2)²: 4 × ΣX² ≤ (7m × D²)²
+abbrev pub MatrixNear : ℕ → ℕ → ℕ → Matrix → Matrix → Matrix → Type 0
+MatrixNear n m D P A B = 4 * squares n (matrixDifference n D P A B) ≤ 7 * m * (D * D) * (7 * m * (D * D))
+
+-- those of V and 2^30 × Q sum to at most (2m)²: ΣY² ≤ (2m × D)²
+abbrev pub AxesNear : ℕ → ℕ → ℕ → Matrix → Matrix → Type 0
+AxesNear n m D P v = squares n (axesDifference D P v) ≤ 2 * m * D * (2 * m * D)
+
+-- row i of Q, counted from 0, as an axis of A: |1024 × Q_i A − entry × Q_i| ≤ error, times D
+abbrev pub RowNear : ℕ → ℕ → Matrix → Matrix → ℕ → ℤ → ℕ → Type 0
+RowNear n D P A i entry error = sumℕ n (λ k. sq (pos units *ℤ product n P A i k -ℤ entry *ℤ P i k)) ≤ D * error * (D * error)
