@@ -1,13 +1,30 @@
-/* The axes of a matrix of two channels, then the report of a job, and some calls. At the repository's root:
+/* Three samples of two channels: their table and its axes, then their report as a job, and a job that is refused; then some calls. It prints
+   what example.out has. At the repository's root:
    rt staticlib field_axes && cc -o target/example bindings/c/example.c target/staticlib/libfield_axes.a && target/example */
 #include "field_axes.h"
 #include <stdio.h>
 #include <string.h>
 
-static int solve(void) {
-    const int64_t numbers[] = {50, 25, 25, 50};
+/* The entries of the table of three samples go into `entries`. */
+static int tabulate(int64_t entries[4]) {
+    const uint32_t dilutions[] = {1, 5, 1};
+    const uint32_t counts[] = {0, 0, 1, 0, 5, 5};
+    int64_t out[FIELD_AXES_MOST_TABLE_NUMBERS];
+    int64_t count = field_axes_table(2, dilutions, 3, counts, 6, out, FIELD_AXES_MOST_TABLE_NUMBERS);
+    if (count < 0) {
+        printf("refused %lld\n", (long long)-count);
+        return 1;
+    }
+    printf("sums %lld %lld %lld %lld, shift %lld\n", (long long)out[1], (long long)out[2], (long long)out[3], (long long)out[4],
+           (long long)out[0]);
+    memcpy(entries, out + 5, 4 * sizeof *entries);
+    return 0;
+}
+
+/* At most one sweep, tolerance 0. */
+static int solve(const int64_t numbers[4]) {
     int64_t out[FIELD_AXES_MOST_NUMBERS];
-    int64_t count = field_axes_solve(2, numbers, 4, 16, 0, out, FIELD_AXES_MOST_NUMBERS);
+    int64_t count = field_axes_solve(2, numbers, 4, 1, 0, out, FIELD_AXES_MOST_NUMBERS);
     if (count < 0) {
         printf("refused %lld\n", (long long)-count);
         return 1;
@@ -20,16 +37,14 @@ static int solve(void) {
     return 0;
 }
 
-static int report(const char *job) {
+static void report(const char *job) {
     uint8_t out[FIELD_AXES_MOST_REPORT_BYTES];
     size_t line;
     int64_t length = field_axes_report((const uint8_t *)job, strlen(job), out, sizeof out, &line);
-    if (length < 0) {
+    if (length < 0)
         printf("refused %lld at line %zu\n", (long long)-length, line);
-        return 1;
-    }
-    fwrite(out, 1, (size_t)length, stdout);
-    return 0;
+    else
+        fwrite(out, 1, (size_t)length, stdout);
 }
 
 static int play(const char *calls) {
@@ -42,6 +57,10 @@ static int play(const char *calls) {
 }
 
 int main(void) {
-    return solve() || report("P\t2\t1\t0\nS\t1\t0\t0\nS\t5\t1\t0\nS\t1\t5\t5\nE\t3\n") ||
-           play("L\t2\t50\t25\t25\t50\nT\t1\t2\nA\t1\n");
+    int64_t entries[4];
+    if (tabulate(entries) || solve(entries))
+        return 1;
+    report("P\t2\t1\t0\nS\t1\t0\t0\nS\t5\t1\t0\nS\t1\t5\t5\nE\t3\n");
+    report("P\t2\t1\t0\nS\t101\t0\t0\n");
+    return play("L\t2\t50\t25\t25\t50\nT\t1\t2\nA\t1\n");
 }

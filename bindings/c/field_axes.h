@@ -1,6 +1,11 @@
 /* Field Axes for C programs: the functions of target/staticlib/libfield_axes.a.
-   These are the declarations of crates/field_axes/src/lib.rt, where a slice is a pointer and a length. Nothing checks them against it:
-   change them together, with bindings/rust/src/lib.rs. */
+   These are the declarations of crates/field_axes/src/lib.rt, where a slice is a pointer and a length; tests/ holds them, and those of
+   bindings/rust/src/lib.rs, to it. That the compiler of your program passes them as declared is assumed.
+
+   Of every pointer: it is not null, also where its length is 0; it is aligned for its type; as many elements as its length says are there to be read,
+   and written where it is not const (a pointer without a length: one). What is lent to be written, out and *line, overlaps nothing else that
+   is lent in the same call, and nobody else reads or writes it until the function returns; what is lent to be read, nobody writes.
+   Lengths count elements and not bytes. No function keeps a pointer, allocates, or has a state of its own, so threads may call at once. */
 #ifndef FIELD_AXES_H
 #define FIELD_AXES_H
 
@@ -11,8 +16,7 @@
    outcome (0 settled, 1 still, 2 spent), the sweeps run, the turns made, then for each axis its entry, its error and the n numbers of
    its row: 3 + n * (n + 2) numbers, at most FIELD_AXES_MOST_NUMBERS. Numbers past them stay.
    The answer is how many they are, or a refusal's number negated: 5, 6, 8 or 7 for the matrix, then 2 for a limit outside 1 to 16 or
-   a tolerance above 1,048,576, then 12 for a short buffer. At a refusal the buffer stays.
-   A pointer is not null, also where its length is 0; the numbers and out do not overlap. */
+   a tolerance above 1,048,576, then 12 for a short buffer. At a refusal the buffer stays. */
 int64_t field_axes_solve(size_t n, const int64_t *numbers, size_t numbers_length, uint64_t limit, uint64_t tolerance,
                          int64_t *out, size_t out_length);
 
@@ -30,7 +34,7 @@ int64_t field_axes_table(size_t n, const uint32_t *dilutions, size_t dilutions_l
 
 /* A job text to its report. Into out: the report, at most FIELD_AXES_MOST_REPORT_BYTES bytes, with no 0 after it. Bytes past it stay.
    The answer is its length, or a refusal's number negated: 1 to 4 for the text, with the line, from 1, in *line; then 12 for a short
-   buffer. *line is 0 for 12 and where there is no refusal. At a refusal the buffer stays. line is not null, and lies in neither buffer. */
+   buffer. *line is 0 for 12 and where there is no refusal. At a refusal the buffer stays. */
 int64_t field_axes_report(const uint8_t *text, size_t text_length, uint8_t *out, size_t out_length, size_t *line);
 
 #define FIELD_AXES_MOST_REPORT_BYTES 2048

@@ -2,9 +2,10 @@
 
 use crate::calls::play;
 use crate::choice::{choose, Choice};
+use crate::examples::{KEEPS_TURNING, PRINTED};
 use crate::job;
 use crate::matrix::Matrix;
-use crate::record::{Record, AXIS_ONE, REFUSED_LIMIT};
+use crate::record::{Record, AXIS_ONE, REFUSED_LIMIT, TURN_LIMIT};
 use crate::report::{axes_program, report_into, table_program, Denied, Outcome};
 use crate::rounding::rnd;
 use crate::scatter::{shift, table, Sample};
@@ -34,7 +35,6 @@ fn sample(dilution: i128, counts: &[i128]) -> Sample {
     }
 }
 
-const EXAMPLE: &str = "P 2 1 0\nS 1 0 0\nS 5 1 0\nS 1 5 5\nE 3\n";
 const EXAMPLE_REPORT: &str =
     "R 2 3 0 1 1 spent\nA 1 26624 7172 644245094 -858993459\nA 2 75776 7172 858993459 644245094\n";
 
@@ -92,7 +92,7 @@ fn card_8() {
     );
     assert_eq!((table.sums.numbers(), table.e), (&[50, 25, 25, 50][..], 0));
     assert_eq!(
-        table_program(tabs(EXAMPLE).as_bytes()),
+        table_program(tabs(PRINTED).as_bytes()),
         tabs("T 2 3 0\nS 1 50 25\nS 2 25 50\n")
     );
 }
@@ -133,7 +133,7 @@ fn card_11() {
 
 #[test]
 fn card_12_and_the_printed_example() {
-    assert_eq!(axes(EXAMPLE), tabs(EXAMPLE_REPORT));
+    assert_eq!(axes(PRINTED), tabs(EXAMPLE_REPORT));
 }
 
 #[test]
@@ -146,9 +146,84 @@ fn rotations_are_exact() {
     }
 }
 
+/// "the nearest whole number, halves away from zero"
 #[test]
-fn thresholds_fall() {
+fn rounding_is_to_the_nearest() {
+    for w in 1..=24 {
+        for u in -120..=120 {
+            let (distance, r) = (2 * (u - w * rnd(u, w)).abs(), rnd(u, w));
+            assert!(
+                distance < w || distance == w && (w * r).abs() > u.abs(),
+                "{u}/{w}"
+            );
+        }
+    }
+}
+
+/// "T_l is 2^24 × 2uw / (u² − w²), rounded up"
+#[test]
+fn thresholds_are_rounded_up_and_fall() {
+    for l in 1..=14 {
+        let (u, w) = ((1i128 << (2 * l + 1)) - 1, 3i128 << l);
+        let above = (1 << 25) * u * w;
+        let below = u * u - w * w;
+        assert!((threshold(l) - 1) * below < above && above <= threshold(l) * below);
+    }
     assert!((1..14).all(|l| threshold(l) > threshold(l + 1)));
+}
+
+/// "l is the smallest from 1 to 14 with y × 2^24 ≥ T_l × g", and the sign is that of a turn which makes |a_pq| smaller.
+#[test]
+fn the_smallest_l_that_fits_is_chosen() {
+    for a_pq in (-9..=9).chain([-3000, -200, 200, 3000]) {
+        for a_qq in (-40..=40).chain([-1 << 20, -70_000, 70_000, 1 << 20]) {
+            let fits = |l: u32| 2 * i128::abs(a_pq) << 24 >= threshold(l) * i128::abs(a_qq);
+            let Some(Choice { l, f }) = choose(0, a_qq, a_pq) else {
+                assert!(a_pq == 0 || !(1..=14).any(fits));
+                continue;
+            };
+            assert!(a_pq != 0 && fits(l) && !(1..l).any(fits));
+            assert_eq!(f, if (a_pq < 0) == (a_qq < 0) { -1 } else { 1 });
+            let (big_n, c, s) = rotation(Choice { l, f });
+            let turned = c * s * a_qq + (c * c - s * s) * a_pq;
+            assert!(turned.abs() < a_pq.abs() * big_n * big_n);
+        }
+    }
+}
+
+/// Card 7's block beside a third channel, by hand: N = 5, c = 3, s = −4.
+#[test]
+fn a_turn_of_three_channels() {
+    let a = Matrix::of_rows(3, &[50, 25, 10, 25, 50, 20, 10, 20, 7]);
+    let v = Matrix::by_rule(3, |i, j| if i == j { AXIS_ONE } else { 0 });
+    let (a, v) = turn(&a, &v, 1, 2, Choice { l: 1, f: -1 });
+    assert_eq!(a.numbers(), [26, -7, -10, -7, 74, 20, -10, 20, 7]);
+    assert_eq!(v.row(1), [644_245_094, -858_993_459, 0]);
+    assert_eq!(v.row(2), [858_993_459, 644_245_094, 0]);
+    assert_eq!(v.row(3), [0, 0, AXIS_ONE]);
+}
+
+/// "The shift e is the smallest e ≥ 0 with every |S_ij| ≤ 1,048,576 × 2^e."
+#[test]
+fn a_shift_is_the_smallest_and_a_table_symmetric() {
+    for seed in 0..300 {
+        let Ok(job) = job::read(&generate_job(seed)) else {
+            continue;
+        };
+        let table = table(job.n, &job.samples);
+        let within = |e: u32| {
+            let most = 1_048_576i128 << e;
+            table.sums.numbers().iter().all(|sum| sum.abs() <= most)
+        };
+        assert!(within(table.e) && (table.e == 0 || !within(table.e - 1)));
+        assert!(table.sums.is_symmetric() && table.entries.is_symmetric());
+        assert!((1..=job.n).all(|i| table.sums.at(i, i) >= 0));
+        assert!(table
+            .entries
+            .numbers()
+            .iter()
+            .all(|entry| entry.abs() <= 1_048_576));
+    }
 }
 
 #[test]
@@ -192,7 +267,7 @@ fn a_257th_sample_is_refused_3_after_1_and_2() {
 
 #[test]
 fn a_report_longer_than_the_buffer_is_refused_last_and_the_buffer_stays() {
-    let (text, report) = (tabs(EXAMPLE), tabs(EXAMPLE_REPORT));
+    let (text, report) = (tabs(PRINTED), tabs(EXAMPLE_REPORT));
     let mut buffer = vec![7; report.len() + 3];
     assert_eq!(report_into(text.as_bytes(), &mut buffer), Ok(report.len()));
     assert_eq!(buffer, [report.as_bytes(), &[7, 7, 7]].concat());
@@ -245,26 +320,13 @@ fn the_count_of_refused_calls_stops() {
     }
 }
 
-/// A matrix on which rounding keeps pairs turning.
-#[rustfmt::skip]
-const KEEPS_TURNING: [i128; 64] = [
-    -1, 0, 1, 0, -1, 0, 0, -1,
-    0, 1, -1, 0, 1, 1, 1, 1,
-    1, -1, 0, 0, 0, 1, -1, -1,
-    0, 0, 0, 1, 1, 1, -1, -1,
-    -1, 1, 0, 1, -1, 0, -1, 0,
-    0, 1, 1, 1, 0, 1, 0, 0,
-    0, 1, -1, -1, -1, 0, 1, -1,
-    -1, 1, -1, -1, 0, 0, -1, 0,
-];
-
-/// Sweeps, then turns, on that matrix: a sweep is refused while fewer turns than its
+/// Sweeps, then turns, on a matrix on which rounding keeps pairs turning: a sweep is refused while fewer turns than its
 /// pairs remain, a turn at 448, and before that an index outside the matrix.
 #[test]
 fn turns_are_used_up_at_448() {
     let mut record = Record::fresh();
     record.load(8, &KEEPS_TURNING).unwrap();
-    while record.sweep().is_ok() {}
+    assert!((0..TURN_LIMIT).any(|_| record.sweep().is_err()));
     let m = |record: &Record| record.kept().unwrap().m;
     assert!((421..=448).contains(&m(&record)), "{}", m(&record));
     let pairs: Vec<(i128, i128)> = (1..=8)

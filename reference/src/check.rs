@@ -1,116 +1,119 @@
-//! Stored files of a repository that follow from document 01 or from a rule, computed anew and compared.
+//! The stored files of the repository that follow from document 01 or from a rule: computed anew, and compared or written.
 
-use crate::{calls_of, examples, jobs, report, report_of, scatter_vectors, turn_vectors};
-use std::fs;
+use crate::examples::{longest, longest_calls, CALLS, JOBS};
+use crate::{calls_of, job, jobs, report_of, scatter_vectors, table_of, turn_vectors};
 use std::path::Path;
+use std::{fs, io};
 
-/// A file of a folder, and how it is computed anew.
+/// A file, by its path from the repository's root, and its bytes.
 struct Stored {
-    folder: &'static str,
-    file: &'static str,
-    source: Source,
+    path: String,
+    bytes: Vec<u8>,
 }
 
-/// What a file follows from: nothing but a rule, or another file of its folder.
-#[derive(Clone, Copy)]
-enum Source {
-    Rule(fn() -> Vec<u8>),
-    File(&'static str, fn(&[u8]) -> Vec<u8>),
-}
-
-const fn by_rule(folder: &'static str, file: &'static str, rule: fn() -> Vec<u8>) -> Stored {
+fn stored(path: impl ToString, bytes: Vec<u8>) -> Stored {
     Stored {
-        folder,
-        file,
-        source: Source::Rule(rule),
+        path: path.to_string(),
+        bytes,
     }
 }
 
-const fn from_file(
-    folder: &'static str,
-    file: &'static str,
-    input: &'static str,
-    output: fn(&[u8]) -> Vec<u8>,
-) -> Stored {
-    Stored {
-        folder,
-        file,
-        source: Source::File(input, output),
+/// Every stored file; another is another line here.
+fn all() -> Vec<Stored> {
+    let mut files = vec![
+        stored("crates/axes/stdin", longest()),
+        stored("crates/axes/stdout", report_of(&longest())),
+        stored("crates/table/stdin", longest()),
+        stored("crates/table/stdout", table_of(&longest())),
+        stored("crates/calls/stdin", longest_calls()),
+        stored("crates/calls/stdout", calls_of(&longest_calls())),
+        stored("crates/test_turns/stdout", turn_vectors::turns().into_bytes()),
+        stored(
+            "crates/test_tables/stdout",
+            scatter_vectors::scatter().into_bytes(),
+        ),
+        stored("crates/test_jobs/data/jobs", jobs::container()),
+        stored("crates/test_jobs/stdout", jobs::outputs()),
+    ];
+    for example in JOBS {
+        let text = (example.text)();
+        let named =
+            |ending: &str, bytes| stored(format!("examples/{}.{ending}", example.name), bytes);
+        match job::read(&text) {
+            Ok(_) => files.extend([
+                named("report", report_of(&text)),
+                named("table", table_of(&text)),
+            ]),
+            Err(_) => files.push(named("refused", report_of(&text))),
+        }
+        files.push(named("job", text));
     }
+    for example in CALLS {
+        let text = (example.text)();
+        let named =
+            |ending: &str, bytes| stored(format!("examples/{}.{ending}", example.name), bytes);
+        files.extend([named("answers", calls_of(&text)), named("calls", text)]);
+    }
+    files
 }
 
-/// Every stored file that is known; another is another line here.
-const STORED: &[Stored] = &[
-    from_file("crates/axes", "stdout", "stdin", report_of),
-    from_file("crates/calls", "stdout", "stdin", calls_of),
-    from_file("crates/table", "stdout", "stdin", |text| {
-        report::table_program(text).into_bytes()
-    }),
-    by_rule("crates/test_turns", "stdout", || {
-        turn_vectors::turns().into_bytes()
-    }),
-    by_rule("crates/test_tables", "stdout", || {
-        scatter_vectors::scatter().into_bytes()
-    }),
-    by_rule("crates/test_jobs", "data/jobs", jobs::container),
-    by_rule("crates/test_jobs", "stdout", jobs::outputs),
-    by_rule("examples", "small.job", examples::small),
-    from_file("examples", "small.report", "small.job", report_of),
-    by_rule("examples", "field.job", examples::field),
-    from_file("examples", "field.report", "field.job", report_of),
-    by_rule("examples", "full.job", examples::full),
-    from_file("examples", "full.report", "full.job", report_of),
-];
+/// Writes every stored file.
+pub fn store(root: &Path) -> io::Result<()> {
+    all()
+        .iter()
+        .try_for_each(|file| fs::write(root.join(&file.path), &file.bytes))
+}
 
-/// What was compared, a line each, and whether something was compared and nothing differs. A folder that is not there
-/// is passed over; a file that a folder lacks is a failure, for then it was not compared.
+/// What differs, a line each, then how many files were compared; and whether nothing differs.
 pub fn check(root: &Path) -> (String, bool) {
+    let files = all();
     let mut text = String::new();
-    let mut compared = 0;
     let mut failed = 0;
-    for stored in STORED {
-        let folder = root.join(stored.folder);
-        if !folder.is_dir() {
-            continue;
-        }
-        compared += 1;
-        let name = format!("{}/{}", stored.folder, stored.file);
-        match compare(&folder, stored) {
-            Ok(size) => text += &format!("{name}: same, {size} bytes\n"),
-            Err(why) => {
-                failed += 1;
-                text += &format!("{name}: FAILED, {why}\n");
-            }
+    let mut fail = |path: &str, why: String| {
+        failed += 1;
+        text += &format!("{path}: FAILED, {why}\n");
+    };
+    for file in &files {
+        if let Err(why) = compare(root, file) {
+            fail(&file.path, why);
         }
     }
-    text += &format!("{compared} files, {failed} failed\n");
-    (text, compared > 0 && failed == 0)
+    for path in in_examples(root) {
+        if !files.iter().any(|file| file.path == path) {
+            fail(&path, "not computed here".to_string());
+        }
+    }
+    text += &format!("{} stored files compared, {failed} failed\n", files.len());
+    (text, failed == 0)
 }
 
-/// The size of a file that is as computed, or why it is not.
-fn compare(folder: &Path, stored: &Stored) -> Result<usize, String> {
-    let read = |name: &str| fs::read(folder.join(name)).map_err(|error| format!("{name}: {error}"));
-    let expected = read(stored.file)?;
-    let computed = match stored.source {
-        Source::Rule(rule) => rule(),
-        Source::File(input, output) => output(&read(input)?),
-    };
-    if computed == expected {
-        return Ok(expected.len());
+/// The files of examples/, but for the page that describes them.
+fn in_examples(root: &Path) -> Vec<String> {
+    fs::read_dir(root.join("examples"))
+        .into_iter()
+        .flatten()
+        .flatten()
+        .map(|entry| format!("examples/{}", entry.file_name().to_string_lossy()))
+        .filter(|path| path != "examples/README.md")
+        .collect()
+}
+
+/// Why a file is not as computed.
+fn compare(root: &Path, file: &Stored) -> Result<(), String> {
+    let found = fs::read(root.join(&file.path)).map_err(|error| error.to_string())?;
+    if found == file.bytes {
+        return Ok(());
     }
-    let alike = computed
+    let alike = found
         .iter()
-        .zip(&expected)
-        .take_while(|(computed, stored)| computed == stored)
+        .zip(&file.bytes)
+        .take_while(|(found, computed)| found == computed)
         .count();
-    let line = 1 + expected[..alike]
-        .iter()
-        .filter(|&&byte| byte == b'\n')
-        .count();
+    let line = 1 + found[..alike].iter().filter(|&&byte| byte == b'\n').count();
     Err(format!(
         "byte {alike} (from 0), line {line}: computed {:?}, stored {:?}",
-        line_from(&computed, line),
-        line_from(&expected, line)
+        line_from(&file.bytes, line),
+        line_from(&found, line)
     ))
 }
 

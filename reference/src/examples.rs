@@ -1,19 +1,84 @@
-//! The example jobs, from small to full size.
+//! The texts of `examples/`: jobs and calls from small to as long as they may be, and some that are refused.
 
-use crate::job::Job;
+use crate::generate::with_calls;
+use crate::job::{Job, TEXT_LIMIT};
 use crate::random::Random;
+use crate::record::{Record, TURN_LIMIT};
 use crate::scatter::Sample;
+use crate::{calls, text};
+
+/// A name and its text.
+pub struct Example {
+    pub name: &'static str,
+    pub text: fn() -> Vec<u8>,
+}
+
+const fn example(name: &'static str, text: fn() -> Vec<u8>) -> Example {
+    Example { name, text }
+}
+
+pub const JOBS: &[Example] = &[
+    example("small", || tabs(PRINTED)),
+    example("field", field),
+    example("full", full),
+    example("settled", || {
+        tabs("P 3 5 0\nS 2 7 8 9\nS 2 7 8 9\nS 2 7 8 9\nE 3\n")
+    }),
+    example("still", || tabs("P 2 16 0\nS 64 1 16384\nS 1 63 0\nE 2\n")),
+    example("empty", Vec::new),
+    example("malformed", || tabs("P 2 1 0\nS 1 0 0\nS 5 1 00\n")),
+    example("no_line_feed", || tabs("P 2 1 0\nS 1 0 0\nS 5 1 0\nE 2")),
+    example("out_of_range", || tabs("P 2 1 0\nS 1 0 0\nS 101 1 0\n")),
+    example("one_sample", || tabs("P 2 1 0\nS 1 0 0\nE 1\n")),
+    example("wrong_number", || {
+        tabs("P 2 1 0\nS 1 0 0\nS 5 1 0\nS 1 5 5\nE 4\n")
+    }),
+    example("byte_after_longest", || [longest(), vec![b'\n']].concat()),
+    example("sample_257_out_of_range", sample_257_out_of_range),
+    example("beyond_limit", beyond_limit),
+];
+
+pub const CALLS: &[Example] = &[
+    example("small", || {
+        tabs("L 2 50 25 25 50\nQ 0\nT 1 2\nA 1\nA 2\nW\nQ 7168\n")
+    }),
+    example("empty", Vec::new),
+    example("refused", || tabs(REFUSED)),
+    example("used_up", used_up),
+    example("no_call", || tabs("L 2 2 1 1 2\nW\nA 01\nA 1\n")),
+    example("no_line_feed", || tabs("L 2 2 1 1 2\nW\nA 1")),
+    example("beyond_limit", calls_beyond_limit),
+];
 
 /// Document 01's printed example, blanks for tabs.
 pub const PRINTED: &str = "P 2 1 0\nS 1 0 0\nS 5 1 0\nS 1 5 5\nE 3\n";
 
-/// Document 01's printed example.
-pub fn small() -> Vec<u8> {
-    PRINTED.replace(' ', "\t").into_bytes()
+/// Calls at their refusals and beside them, blanks for tabs: 10 first, then 5, 6, 8 and 7, alone and in their order, then 2 and 9.
+const REFUSED: &str = "W\nT 1 2\nT 2 1\nQ 0\nQ 1048577\nA 1\nA 0\nL 1 5\nL 9\nL 0\nL 2 1 2 3\nL 2 1 2 3 4 5\nL 2\n\
+L 2 1048577 0 0 1\nL 2 -1048577 0 0 1\nL 2 1 2 3 1\nL 9 1048577\nL 2 1048577 2 3\nL 2 1048577 2 3 1\nL 9999999999 -9999999999\n\
+W\nL 2 50 25 25 50\nQ 25599\nQ 25600\nQ 1048576\nQ 1048577\nQ 9999999999\nT 1 1\nT 2 1\nT 0 1\nT 1 3\nT 0 0\n\
+T 9999999999 9999999999\nA 0\nA 3\nT 1 2\nL 2 1 2 3 1\nA 1\nA 2\nL 2 0 1 1 1048576\nT 1 2\nW\nQ 1023\nQ 1024\n";
+
+/// A matrix on which rounding keeps pairs turning.
+#[rustfmt::skip]
+pub const KEEPS_TURNING: [i128; 64] = [
+    -1, 0, 1, 0, -1, 0, 0, -1,
+    0, 1, -1, 0, 1, 1, 1, 1,
+    1, -1, 0, 0, 0, 1, -1, -1,
+    0, 0, 0, 1, 1, 1, -1, -1,
+    -1, 1, 0, 1, -1, 0, -1, 0,
+    0, 1, 1, 1, 0, 1, 0, 0,
+    0, 1, -1, -1, -1, 0, 1, -1,
+    -1, 1, -1, -1, 0, 0, -1, 0,
+];
+
+/// A text written with blanks for tabs.
+fn tabs(text: &str) -> Vec<u8> {
+    text.replace(' ', "\t").into_bytes()
 }
 
 /// Twelve samples of one field: nitrate, phosphate, potassium and magnesium. Strong samples were diluted.
-pub fn field() -> Vec<u8> {
+fn field() -> Vec<u8> {
     const SAMPLES: [(i128, [i128; 4]); 12] = [
         (5, [8_120, 2_314, 11_876, 3_452]),
         (5, [7_644, 2_198, 12_410, 3_517]),
@@ -44,7 +109,7 @@ pub fn field() -> Vec<u8> {
 
 /// 256 samples on 8 channels. Two levels of each place, its fertility and its wetness, make the values of all channels,
 /// with a little noise; a sample is diluted no more than its strongest channel asks.
-pub fn full() -> Vec<u8> {
+fn full() -> Vec<u8> {
     const BY_FERTILITY: [i128; 8] = [310, 92, 540, 128, 75, 46, 33, 18];
     const BY_WETNESS: [i128; 8] = [-140, 12, 85, -30, 64, -9, 21, 15];
     const BASE: [i128; 8] = [9_000, 800, 2_500, 3_100, 450, 900, 120, 60];
@@ -73,6 +138,36 @@ pub fn full() -> Vec<u8> {
     job(8, 16, 1024, samples)
 }
 
+/// The longest job there is: 256 samples on 8 channels, and every number as long as it may be.
+pub fn longest() -> Vec<u8> {
+    let mut random = Random::new(8);
+    let samples = (0..256)
+        .map(|_| Sample {
+            dilution: 100,
+            counts: (0..8).map(|_| random.between(10_000, 65_535)).collect(),
+        })
+        .collect();
+    job(8, 16, 1_000_000, samples)
+}
+
+/// The longest text that is judged otherwise than its beginning: in place of the longest job's last line a 257th sample of
+/// the longest numbers, which is refused for its ranges, and for its form where a byte of it is cut off.
+fn sample_257_out_of_range() -> Vec<u8> {
+    let mut text = longest();
+    text.truncate(text.len() - b"E\t256\n".len());
+    text.extend(text::tagged("S", &[9_999_999; 9]).into_bytes());
+    text
+}
+
+/// More samples than a job may have, and more bytes than are read.
+fn beyond_limit() -> Vec<u8> {
+    let mut text = tabs("P 2 1 0\n");
+    while text.len() <= TEXT_LIMIT {
+        text.extend(tabs("S 1 0 0\n"));
+    }
+    text
+}
+
 fn job(n: usize, sweep_limit: i128, tolerance: i128, samples: Vec<Sample>) -> Vec<u8> {
     Job {
         n,
@@ -82,4 +177,141 @@ fn job(n: usize, sweep_limit: i128, tolerance: i128, samples: Vec<Sample>) -> Ve
     }
     .text()
     .into_bytes()
+}
+
+/// Sweeps until one is refused, then turns until one is: "11 turn with m = 448, or sweep with m + n(n−1)/2 > 448". Then calls that
+/// other refusals come before, and the axes.
+fn used_up() -> Vec<u8> {
+    let mut record = Record::fresh();
+    let mut lines = text::tagged("L", &[&[8], &KEEPS_TURNING[..]].concat());
+    record.load(8, &KEEPS_TURNING).expect("small numbers");
+    for _ in 0..TURN_LIMIT {
+        lines += &text::line(["W"]);
+        if record.sweep().is_err() {
+            break;
+        }
+    }
+    let pairs = (1..=8).flat_map(|p| (p + 1..=8).map(move |q| (p, q)));
+    for (p, q) in pairs.cycle().take(2000) {
+        lines += &text::tagged("T", &[p, q]);
+        if record.turn(p, q).is_err() {
+            break;
+        }
+    }
+    lines += "W\nT 2 1\nT 9 9\nA 9\nQ 1048577\nQ 0\n";
+    for i in 1..=8 {
+        lines += &text::tagged("A", &[i]);
+    }
+    tabs(&(lines + "L 2 2 1 1 2\nT 1 2\nW\nA 1\n"))
+}
+
+/// As many bytes of calls as are read.
+pub fn longest_calls() -> Vec<u8> {
+    with_calls([tabs(REFUSED), used_up()].concat(), calls::TEXT_LIMIT, 1)
+}
+
+/// Loads of numbers beyond the limit, the last of which is not read whole.
+fn calls_beyond_limit() -> Vec<u8> {
+    let load = text::tagged("L", &[&[8], &[-9_999_999_999; 64][..]].concat());
+    load.repeat(calls::TEXT_LIMIT / load.len() + 1).into_bytes()
+}
+
+#[cfg(test)]
+mod tests {
+    use super::*;
+    use crate::{calls_of, job, report_of, table_of};
+    use std::collections::BTreeSet;
+
+    fn answers(text: &[u8]) -> String {
+        String::from_utf8(calls_of(text))
+            .unwrap()
+            .replace('\t', " ")
+    }
+
+    #[test]
+    fn the_longest_job_has_13845_bytes_and_is_accepted() {
+        let text = longest();
+        assert_eq!(text.len(), 13_845);
+        let job = job::read(&text).unwrap();
+        assert_eq!((job.n, job.samples.len()), (8, 256));
+        assert!(report_of(&text).starts_with(b"R\t8\t256\t"));
+        assert!(table_of(&text).starts_with(b"T\t8\t256\t"));
+    }
+
+    /// A buffer that is too short by any number of bytes has another answer to one of these.
+    #[test]
+    fn texts_beyond_the_longest_job_are_judged_to_their_last_byte() {
+        let byte_after = [&longest()[..], b"\n"].concat();
+        assert_eq!(report_of(&byte_after), b"X\t4\t258\n");
+        let text = sample_257_out_of_range();
+        assert_eq!(text.len(), 13_913);
+        assert_eq!(report_of(&text), b"X\t2\t258\n");
+        assert_eq!(report_of(&text[..text.len() - 1]), b"X\t1\t258\n");
+        for length in (0..longest().len()).step_by(53) {
+            assert!(report_of(&longest()[..length]).starts_with(b"X\t1\t"));
+        }
+    }
+
+    #[test]
+    fn the_jobs_have_every_outcome_and_the_refusals_1_to_4() {
+        let firsts: BTreeSet<String> = JOBS
+            .iter()
+            .map(|example| String::from_utf8(report_of(&(example.text)())).unwrap())
+            .map(
+                |report| match report.split(['\t', '\n']).collect::<Vec<_>>()[..] {
+                    ["X", number, ..] => number.to_string(),
+                    [_, _, _, _, _, _, outcome, ..] => outcome.to_string(),
+                    _ => unreachable!("a report or a refusal"),
+                },
+            )
+            .collect();
+        let expected = ["1", "2", "3", "4", "settled", "spent", "still"];
+        assert!(firsts.iter().eq(expected), "{firsts:?}");
+    }
+
+    /// The kinds of answers: the refusals' numbers, and the tags with what tells two answers of one tag apart.
+    fn kinds(answers: &str) -> BTreeSet<String> {
+        answers
+            .lines()
+            .map(|line| match line.split(' ').collect::<Vec<_>>()[..] {
+                ["X", number, _] => number.to_string(),
+                ["Q", "none"] => "none".to_string(),
+                ["T", made] => format!("T {made}"),
+                [tag, ..] => tag.to_string(),
+                [] => unreachable!("a line has a field"),
+            })
+            .collect()
+    }
+
+    #[test]
+    fn the_longest_calls_have_65536_bytes_and_every_answer() {
+        let text = longest_calls();
+        assert_eq!(text.len(), 65_536);
+        let answers = answers(&text);
+        let lines = text.iter().filter(|&&byte| byte == b'\n').count();
+        assert_eq!(answers.lines().count(), lines);
+        let expected = [
+            "10", "11", "2", "5", "6", "7", "8", "9", "A", "L", "Q", "T 0", "T 1", "W", "none",
+        ];
+        assert!(kinds(&answers).iter().eq(expected), "{:?}", kinds(&answers));
+    }
+
+    #[test]
+    fn example_calls_are_refused_as_named() {
+        let of = |name: &str| {
+            let example = CALLS.iter().find(|example| example.name == name);
+            answers(&(example.unwrap().text)())
+        };
+        let refused = kinds(&of("refused"));
+        assert!(["10", "2", "5", "6", "7", "8", "9"]
+            .iter()
+            .all(|&number| refused.contains(number)));
+        let used_up = of("used_up");
+        assert!(used_up.contains("\nX 11 1\nT 1\n") || used_up.contains("\nX 11 1\nT 0\n"));
+        assert!(used_up.contains("\nX 11 2\nX 11 3\nX 9 4\nX 9 5\nX 9 6\nX 2 7\n"));
+        assert_eq!(of("empty"), "");
+        assert_eq!(of("no_call"), "L\nW 1\n? 3\n");
+        assert_eq!(of("no_line_feed"), "L\nW 1\n? 3\n");
+        assert!(of("beyond_limit").ends_with("X 8 84\n? 85\n"));
+    }
 }

@@ -17,6 +17,33 @@ pub fn calls_text(seed: u64) -> Vec<u8> {
     calls(&mut Random::new(seed))
 }
 
+/// The text of calls and further ones, some of them refused, exactly `size` bytes together. A line of them is a call, and has at
+/// most a hundredth of the bytes, so that they are many.
+pub fn with_calls(mut text: Vec<u8>, size: usize, seed: u64) -> Vec<u8> {
+    /// The lengths of `Q` lines, with tolerances of 2 to 5 digits, of which one comes last.
+    const LAST: std::ops::RangeInclusive<usize> = 5..=8;
+    let random = &mut Random::new(seed);
+    'texts: loop {
+        for fields in any_or_used_up(random) {
+            let line = joined(&vec![fields]);
+            if line.len() > size / 100 {
+                continue;
+            }
+            if text.len() + line.len() + LAST.start() > size {
+                break 'texts;
+            }
+            text.extend(line);
+        }
+    }
+    while size - text.len() > *LAST.end() {
+        text.extend(b"A\t1\n");
+    }
+    let digits = size - text.len() - b"Q\t\n".len();
+    let tolerance = 10i128.pow(digits as u32 - 1);
+    text.extend(joined(&vec![fields("Q", &[tolerance])]));
+    text
+}
+
 /// Job text, about half of it good.
 fn job(random: &mut Random) -> Vec<u8> {
     let k = match random.between(0, 11) {
@@ -126,11 +153,7 @@ fn wrong_end(random: &mut Random, lines: &mut Lines) {
 
 /// A text of calls, about half of it of calls throughout; some of these are refused.
 fn calls(random: &mut Random) -> Vec<u8> {
-    let lines = if random.one_in(8) {
-        used_up(random)
-    } else {
-        any_calls(random)
-    };
+    let lines = any_or_used_up(random);
     if random.one_in(2) {
         return joined(&lines);
     }
@@ -138,6 +161,14 @@ fn calls(random: &mut Random) -> Vec<u8> {
         damaged_bytes(random, joined(&lines), 65_536)
     } else {
         damaged_lines(random, lines, 10)
+    }
+}
+
+fn any_or_used_up(random: &mut Random) -> Lines {
+    if random.one_in(8) {
+        used_up(random)
+    } else {
+        any_calls(random)
     }
 }
 

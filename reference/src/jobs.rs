@@ -1,4 +1,4 @@
-//! The stored jobs of the test program `vectors`: their container, and what the program must print.
+//! The stored jobs of the test program `test_jobs`: their container, and what the program must print.
 
 mod accepted;
 mod buffers;

@@ -31,6 +31,11 @@ pub fn report_of(job: &[u8]) -> Vec<u8> {
     report::axes_program(job).into_bytes()
 }
 
+/// What `table` prints for a job text: the table of its sums, or the `X` line of its refusal.
+pub fn table_of(job: &[u8]) -> Vec<u8> {
+    report::table_program(job).into_bytes()
+}
+
 /// The answers to a text of calls, played on one fresh record.
 pub fn calls_of(text: &[u8]) -> Vec<u8> {
     calls::play(text).into_bytes()

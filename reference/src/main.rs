@@ -1,8 +1,6 @@
 //! The reference implementation of Field Axes: its commands.
 
-use reference::{
-    calls, check, examples, generate, job, jobs, report, scatter_vectors, turn_vectors, units,
-};
+use reference::{calls, check, generate, job, jobs, report, scatter_vectors, turn_vectors, units};
 use std::env;
 use std::io::{self, Read, Write};
 use std::path::Path;
@@ -11,9 +9,8 @@ use std::process::ExitCode;
 const USAGE: &str = "\
 reference axes | calls | table
 reference units KIND SEED COUNT | generate job SEED | generate calls SEED
-reference jobs | jobs names | example small | example field | example full
-reference vectors turns | vectors scatter | vectors jobs
-reference check DIR";
+reference jobs | jobs names | vectors turns | vectors scatter | vectors jobs
+reference check DIR | store DIR";
 
 fn main() -> ExitCode {
     let arguments: Vec<String> = env::args().skip(1).collect();
@@ -43,15 +40,15 @@ fn output(words: &[&str]) -> Option<(Vec<u8>, bool)> {
         ["generate", "calls", seed] => generate::calls_text(seed.parse().ok()?),
         ["jobs"] => jobs::container(),
         ["jobs", "names"] => jobs::names().into_bytes(),
-        ["example", "small"] => examples::small(),
-        ["example", "field"] => examples::field(),
-        ["example", "full"] => examples::full(),
         ["vectors", "turns"] => turn_vectors::turns().into_bytes(),
         ["vectors", "scatter"] => scatter_vectors::scatter().into_bytes(),
         ["vectors", "jobs"] => jobs::outputs(),
         ["check", root] => {
             let (text, same) = check::check(Path::new(root));
             return Some((text.into_bytes(), same));
+        }
+        ["store", root] => {
+            return Some((Vec::new(), check::store(Path::new(root)).is_ok()));
         }
         _ => return None,
     };

@@ -1,4 +1,4 @@
-//! The expected output of the test program `scatter_vectors`, which has no input: its sample sets follow the rule below.
+//! The expected output of the test program `test_tables`, which has no input: its sample sets follow the rule below.
 //!
 //! Set c, from 0 to 209, has n = 2 + c mod 7 channels, the kind ⌊c/7⌋ mod 6, and k samples: 2 if c mod 5 is 0, 256 if it
 //! is 1, else 2 + draw(c) mod 255. Samples s and counts p are numbered from 0, the counts row after row; in the table below

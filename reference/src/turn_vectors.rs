@@ -1,4 +1,4 @@
-//! The expected output of the test program `turns`, which has no input: its values follow the rule below.
+//! The expected output of the test program `test_turns`, which has no input: its values follow the rule below.
 //!
 //! draw(k) is x² mod P, where P is 2^31 − 1 and x is 742938285 × k mod P. A value has a number k and a greatest size `most`.
 //! With w = 2^31 × draw(3k) + draw(3k + 1) and d = draw(3k + 2), its size is, by d mod 4: 0, w mod 4; 1, most − w mod 4;

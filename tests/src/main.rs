@@ -1,7 +1,9 @@
-//! The static library against the reference on seeded random inputs, number for number and byte for byte. At the repository's root:
+//! The static library through its bindings: their declarations against its own, then its functions against the reference on seeded random
+//! inputs, number for number and byte for byte. At the repository's root:
 //! `rt staticlib field_axes && cargo run --release --offline --manifest-path tests/Cargo.toml`
 
 mod calling;
+mod declarations;
 mod random;
 mod reporting;
 mod solving;
@@ -18,6 +20,13 @@ fn main() -> ExitCode {
         .nth(1)
         .map_or(SEED, |word| word.parse().expect("a seed is a number"));
     let mut failed = false;
+    match declarations::compare() {
+        Ok(count) => println!("declarations: {count} functions, the same in both bindings"),
+        Err(difference) => {
+            println!("declarations: {difference}");
+            failed = true;
+        }
+    }
     let kinds: [(&str, fn(u64) -> Result<String, String>); 4] = [
         ("report", reporting::case),
         ("calls", calling::case),

@@ -46,7 +46,8 @@ pub fn case(seed: u64) -> Result<String, String> {
     let wanted = by_reference(given, &numbers, limit, tolerance, &mut expected);
     if got != wanted || out != expected {
         return Err(format!(
-            "n {given}, numbers {numbers:?}, limit {limit}, tolerance {tolerance}, size {size}: {got:?} {out:?}, and the reference has {wanted:?} {expected:?}"
+            "n {given}, numbers {numbers:?}, limit {limit}, tolerance {tolerance}, size {size}: {got:?} {out:?}, \
+             and the reference has {wanted:?} {expected:?}"
         ));
     }
     Ok(match got {

@@ -1,5 +1,5 @@
 //! Three samples of two channels: their table and its axes, then their report as a job, and a job that is refused; then some calls.
-//! At the repository's root:
+//! It prints what solve.out has. At the repository's root:
 //! `rt staticlib field_axes && cargo run --release --offline --manifest-path bindings/rust/Cargo.toml --example solve`
 
 use field_axes::{calls, report, solve, table, JobRefused, Refused};

@@ -2,8 +2,8 @@
 //!
 //! A refusal is the number that the customer's document 01 gives it.
 
-/// The declarations of `crates/field_axes/src/lib.rt`, where a `&[T]` is a pointer and a length. Nothing checks them against it:
-/// change them together, with `bindings/c/field_axes.h`.
+/// The declarations of `crates/field_axes/src/lib.rt`, where a `&[T]` is a pointer and a length. `tests/` holds them to it, and
+/// those of `bindings/c/field_axes.h`.
 mod raw {
     extern "C" {
         pub fn field_axes_solve(

@@ -1,12 +1,16 @@
 //! Stored jobs of many samples: the 256th and the 257th, the largest shifts, and the longest text.
 
 use super::{greatest_root, raw, written, Stored, GREATEST_VALUE};
+use crate::examples;
 use crate::job::Job;
-use crate::random::Random;
 use crate::scatter::Sample;
 
 pub fn jobs() -> Vec<Stored> {
-    [at_the_257th(), large_shifts(), vec![longest()]]
+    let longest = raw(
+        "256 samples on 8 channels, the longest text",
+        &examples::longest(),
+    );
+    [at_the_257th(), large_shifts(), vec![longest]]
         .into_iter()
         .flatten()
         .collect()
@@ -67,25 +71,4 @@ fn half_of_samples(e: u32) -> i128 {
         .map(|power| 1 << power)
         .find(|h| h * GREATEST_VALUE > greatest_root(e - 1))
         .expect("powers of two go beyond every number")
-}
-
-/// Every number as long as it may be.
-fn longest() -> Stored {
-    let mut random = Random::new(8);
-    let samples = (0..256)
-        .map(|_| Sample {
-            dilution: 100,
-            counts: (0..8).map(|_| random.between(10_000, 65_535)).collect(),
-        })
-        .collect();
-    let job = Job {
-        n: 8,
-        sweep_limit: 16,
-        tolerance: 1_000_000,
-        samples,
-    };
-    raw(
-        "256 samples on 8 channels, the longest text",
-        job.text().as_bytes(),
-    )
 }
