@@ -1,3 +1,2 @@
-pub mod Equal
-pub mod Printed
 pub mod Cards
+pub mod laws

@@ -29,3 +29,12 @@ unfoldable pub choose : ℤ → ℤ → ℤ → Choice
 choose app aqq apq =
     cond (eqb (natAbs apq) 0) NoTurn
     (smallestFit (2 * natAbs apq) (natAbs (aqq -ℤ app)) (minusSign apq (aqq -ℤ app)) 1 14)
+
+-- Document 01's l and f of a choice: l from 1 to 14 and f = +1 or −1 of a turn, and 0 where there is none
+unfoldable pub levelOf : Choice → ℕ
+levelOf NoTurn = 0
+levelOf (Turn l minus) = l
+
+unfoldable pub signOf : Choice → ℤ
+signOf NoTurn = pos 0
+signOf (Turn l minus) = cond minus (negsuc 0) (pos 1)

@@ -1,3 +1,2 @@
 pub mod Threshold
 pub mod Chosen
-pub mod Cards

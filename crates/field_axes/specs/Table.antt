@@ -6,7 +6,7 @@ use lib.Dec.{eqb, leb}
 use lib.IntN.{ℤ, pos}
 use lib.ListN.{length, take}
 use Rattle.ledger.specs.Refusal.{unless}
-use Rattle.sums.specs.Samples.{samples, sumsOf}
+use Rattle.sums.specs.Samples.{samples}
 use Rattle.scatter.specs.Table.{tableOf}
 use Rattle.scatter.specs.declared.table.Table.{Table}
 use Rattle.text.specs.Range.{allWithin}
@@ -29,4 +29,4 @@ unfoldable pub tableNumbers : ℕ → Table → List ℤ
 tableNumbers n t = (pos (t .e) ∷ []) ++ take (n * n) (t .scatter) ++ take (n * n) (t .entries)
 
 unfoldable pub tableNumbersOf : ℕ → List ℕ → List ℕ → List ℤ
-tableNumbersOf n dilutions counts = tableNumbers n (tableOf n (sumsOf (samples n dilutions counts)))
+tableNumbersOf n dilutions counts = tableNumbers n (tableOf n (samples n dilutions counts))

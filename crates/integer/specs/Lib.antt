@@ -5,4 +5,5 @@ pub mod Matrix
 pub mod Range
 pub mod Tabulate
 pub mod RoundedUp
+pub mod Padded
 pub mod laws

@@ -1,14 +1,15 @@
--- Square matrices as functions of two indices: product, transpose, and the sum of the squares of the entries.
+-- Square matrices as functions of two indices: their numbers row after row, product, transpose, and the sum of the squares of the entries.
 use mathlib.Core.Path.{_≡_}
 use mathlib.Core.Bool.{cond}
 use mathlib.Core.List.{List}
-use Prim.Native.Nat.{ℕ, _+_, _*_, _<_}
+use Prim.Native.Nat.{ℕ, _+_, _*_, _/_, _%_, _<_}
 use lib.Dec.{eqb}
 use lib.IntN.{ℤ, pos}
 use lib.ListN.{getD}
 use Rattle.integer.specs.Square.{sq}
 use Rattle.integer.specs.Sum.{sum, sumℕ}
 use Rattle.integer.specs.Dot.{dot}
+use Rattle.integer.specs.Tabulate.{tabulate}
 
 -- a matrix: its entry in row i and column j
 abbrev pub Matrix : Type 0
@@ -17,6 +18,10 @@ Matrix = ℕ → ℕ → ℤ
 -- n×n whole numbers, row after row, as a matrix; indices count from 0
 unfoldable pub matrixOf : ℕ → List ℤ → Matrix
 matrixOf n numbers i j = getD numbers (i * n + j) (pos 0)
+
+-- and the n×n numbers of a matrix, row after row
+unfoldable pub rowMajor : ℕ → Matrix → List ℤ
+rowMajor n X = tabulate (n * n) (λ p. X (p / n) (p % n))
 
 -- row i of X times column j of Y, n entries each
 unfoldable pub product : ℕ → Matrix → Matrix → Matrix

@@ -6,9 +6,11 @@ pub mod Minkowski
 pub mod Pair
 pub mod Dot
 pub mod Matrix
+pub mod RowMajor
 pub mod Range
 pub mod Tests
 pub mod Tabulate
 pub mod RoundedUp
+pub mod Padded
 pub mod Filled
 pub mod Word

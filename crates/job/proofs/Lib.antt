@@ -1,6 +1,5 @@
 pub mod Accepted
 mod Keeping
-pub mod Padding
 mod Same
 mod Bytes
 pub mod Flags

@@ -22,12 +22,13 @@ use Rattle.job.specs.declared.first.Parameters.the-variants as First
 use Rattle.job.specs.declared.last.Ending.the-variants as Last
 use Rattle.job.proofs.Records.{lineIn, Reads, bad, good, Cons, split-cons, line-read}
 use Rattle.job.specs.Job.{Job, Answer, refused, accepted, withSample, nextLine, nothing, ended, judged, jobAfter, begun, jobOfLines, jobOf}
-use Rattle.job.specs.Reading.{padded, inArrays, readingOf}
+use Rattle.integer.specs.Padded.{padded}
+use Rattle.integer.specs.laws.Padded.{padded-more}
+use Rattle.job.specs.Reading.{inArrays, readingOf}
 use Rattle.job.specs.inner.Scan.{newJob, refusedReading, finishedBy, finishedAt, kept, sampleOf, samplesAt}
 use Rattle.job.specs.laws.Scan.{readingBy, readingAt}
 use Rattle.job.specs.declared.Reading.{Reading}
 use Rattle.job.proofs.Keeping.{kept-within}
-use Rattle.job.proofs.Padding.{padded-more}
 
 refused-same : (number line : ℕ) → refusedReading number line ≡ readingOf (refused number line)
 unfolding refusedReading newJob readingOf inArrays padded
@@ -85,13 +86,13 @@ module _ (j : Job) (fair : Fair j) (xs : List ℕ) (e : length xs ≡ suc (j .n)
   kept-same =
       let room = kept-within (length (j .dilutions)) (j .n) h (fair .channels) in
       let k : length (j .dilutions) + 1 ≡ length (j .dilutions ++ (getD xs 0 0 ∷ [])) = sym (length-append (j .dilutions) (getD xs 0 0 ∷ [])) in
-      let d : set (padded 256 (j .dilutions)) (length (j .dilutions)) (getD (sets (replicate 9 0) 0 xs) 0 0) ≡ padded 256
+      let d : set (padded 256 0 (j .dilutions)) (length (j .dilutions)) (getD (sets (replicate 9 0) 0 xs) 0 0) ≡ padded 256 0
       (j .dilutions ++ (getD xs 0 0 ∷ []))
-      = rw (row-at xs 0 (omega (arith, fair .channels)) (omega arith)) (padded-more 256 (j .dilutions) (getD xs 0 0 ∷ []) (omega arith)) in
-      let c : sets (padded 2048 (j .counts)) (length (j .dilutions) * j .n) (slice 1 (j .n + 1) (sets (replicate 9 0) 0 xs)) ≡ padded 2048
+      = rw (row-at xs 0 (omega (arith, fair .channels)) (omega arith)) (padded-more 256 0 (j .dilutions) (getD xs 0 0 ∷ []) (omega arith)) in
+      let c : sets (padded 2048 0 (j .counts)) (length (j .dilutions) * j .n) (slice 1 (j .n + 1) (sets (replicate 9 0) 0 xs)) ≡ padded 2048 0
       (j .counts ++ drop 1 xs)
       = rw (row-rest xs (j .n) e (fair .channels), ← (fair .counted))
-      (padded-more 2048 (j .counts) (drop 1 xs) (omega (arith, length-drop 1 xs, fair .counted, room))) in
+      (padded-more 2048 0 (j .counts) (drop 1 xs) (omega (arith, length-drop 1 xs, fair .counted, room))) in
       λ i. record { n = j .n; limit = j .limit; tolerance = j .tolerance; k = k i; dilutions = d i; counts = c i }
 
   fair-more : Fair (withSample j xs)

@@ -1,16 +1,13 @@
 -- An answer of `jobOf` as the reader gives it: the job in arrays, or the refusal.
-use Prim.Native.Nat.{ℕ, _-_, _*_}
-use mathlib.Core.List.{List, [], _++_}
-use lib.ListN.{length, replicate}
+use Prim.Native.Nat.{_*_}
+use mathlib.Core.List.{[]}
+use lib.ListN.{length}
+use Rattle.integer.specs.Padded.{padded}
 use Rattle.job.specs.Job.{Job, Answer, refused, accepted}
 use Rattle.job.specs.declared.Job as Arrays
 use Rattle.job.specs.declared.Reading.{Reading}
 use Rattle.job.specs.declared.Outcome.the-variants.{Accepted, Refused}
 use Rattle.limits.specs.Limits.{mostChannels, mostSamples}
-
--- The list, and 0 after it up to the length m.
-unfoldable pub padded : ℕ → List ℕ → List ℕ
-padded m xs = xs ++ replicate (m - length xs) 0
 
 unfoldable pub inArrays : Job → Arrays.Job
 inArrays j =
@@ -19,8 +16,8 @@ inArrays j =
       limit = j .limit;
       tolerance = j .tolerance;
       k = length (j .dilutions);
-      dilutions = padded mostSamples (j .dilutions);
-      counts = padded (mostSamples * mostChannels) (j .counts);
+      dilutions = padded mostSamples 0 (j .dilutions);
+      counts = padded (mostSamples * mostChannels) 0 (j .counts);
     }
 
 unfoldable pub readingOf : Answer → Reading

@@ -1,12 +1,12 @@
 -- A job and its table: the job that arrays hold, and the table of its samples.
 use Prim.Native.Nat.{_*_, _≤_}
+use mathlib.Core.List.{List}
 use lib.ListN.{length, take}
 use Rattle.job.specs.Job.{Job}
 use Rattle.job.specs.Values.{Proper}
 use Rattle.job.specs.declared.Job as arrays
-use Rattle.sums.specs.Samples.{samples, sumsOf}
+use Rattle.sums.specs.Samples.{Sample, samples}
 use Rattle.scatter.specs.Table.{tableOf}
-use Rattle.sums.specs.declared.Sums.{Sums}
 use Rattle.scatter.specs.declared.table.Table.{Table}
 
 -- The first k dilutions and the first k × n counts
@@ -20,8 +20,8 @@ pub record Held (a : arrays.Job) : Type 0 where
   pub dilutions : a .k ≤ length (a .dilutions)
   pub counts : a .k * a .n ≤ length (a .counts)
 
-unfoldable pub sumsFor : Job → Sums
-sumsFor j = sumsOf (samples (j .n) (j .dilutions) (j .counts))
+unfoldable pub samplesOf : Job → List Sample
+samplesOf j = samples (j .n) (j .dilutions) (j .counts)
 
 unfoldable pub tableFor : Job → Table
-tableFor j = tableOf (j .n) (sumsFor j)
+tableFor j = tableOf (j .n) (samplesOf j)

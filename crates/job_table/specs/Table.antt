@@ -5,7 +5,7 @@ use lib.IntN.{ℤ, pos}
 use lib.ListN.{length}
 use Rattle.integer.specs.Tabulate.{tabulate}
 use Rattle.job.specs.Job.{Job}
-use Rattle.job_table.specs.Held.{sumsFor}
+use Rattle.job_table.specs.Held.{samplesOf}
 use Rattle.scatter.specs.Table.{S, scatter, shift}
 use Rattle.text.specs.Line.{numberLine}
 use Rattle.text.specs.Lines.{lines}
@@ -21,4 +21,4 @@ lineS n f i = numberLine 83 (pos (i + 1) ∷ tabulate n (f i))
 -- 'then for i = 1 to n `S`, i and the n exact sums S_i1 .. S_in'
 unfoldable pub tableText : Job → List ℕ
 tableText j =
-    lineT (j .n) (length (j .dilutions)) (shift (scatter (j .n) (sumsFor j))) ++ lines (lineS (j .n) (S (sumsFor j))) (j .n)
+    lineT (j .n) (length (j .dilutions)) (shift (scatter (j .n) (samplesOf j))) ++ lines (lineS (j .n) (S (samplesOf j))) (j .n)

@@ -9,19 +9,19 @@ ghost use Rattle.job.specs.Reply.{Answers, Replies, printedOf};
 ghost use Rattle.job_table.specs.Held.{Held, jobIn};
 ghost use Rattle.text.specs.Put.{Put, Sized};
 ghost use Rattle.text.specs.Rows.{Wide};
-ghost use Rattle.job_table.specs.inner.Done.{textOf};
+ghost use Rattle.job_table.specs.inner.Done.{textOfRows};
 ghost use Rattle.job_table.specs.Table.{tableText};
 
 fn text_length(head: &[i64; 3], n: usize, rows: &[[i64; 11]; 8]) -> usize
     requires { ⌜ (n ≤ 8) × Wide (now rows) ⌝ }
-    ensures { λ r. ⌜ Sized (textOf (take 3 (now (head .entry))) n (now (rows .entry))) 2048 r ⌝ }
+    ensures { λ r. ⌜ Sized (textOfRows (take 3 (now (head .entry))) n (now (rows .entry))) 2048 r ⌝ }
 {
     text::line::numbers_length(head, 3) + 2 + text::rows::rows_length(rows, n, n + 1)
 }
 
 fn put_text(buf: &mut [u8], head: &[i64; 3], n: usize, rows: &[[i64; 11]; 8]) -> usize
-    requires { ⌜ (n ≤ 8) × Wide (now rows) × (length (textOf (take 3 (now head)) n (now rows)) ≤ length (now buf)) ⌝ }
-    ensures { λ r. ⌜ Put (textOf (take 3 (now (head .entry))) n (now (rows .entry))) 0 (now (buf .entry)) (now (buf .exit)) r ⌝ }
+    requires { ⌜ (n ≤ 8) × Wide (now rows) × (length (textOfRows (take 3 (now head)) n (now rows)) ≤ length (now buf)) ⌝ }
+    ensures { λ r. ⌜ Put (textOfRows (take 3 (now (head .entry))) n (now (rows .entry))) 0 (now (buf .entry)) (now (buf .exit)) r ⌝ }
 {
     let at = text::line::put_line(buf, b'T', head, 3);
     text::rows::put_rows(buf, at, b'S', rows, n, n + 1)
@@ -44,7 +44,7 @@ fn table_job(job: Job, buf: &mut [u8]) -> Reply
     Reply::Written(put_text(buf, &head, n, &rows))
 }
 
-pub fn table_text(text: &[u8], buf: &mut [u8]) -> Reply
+pub(crate) fn table_text(text: &[u8], buf: &mut [u8]) -> Reply
     ensures { λ r. ⌜ Replies tableText (now (text .entry)) (now (buf .entry)) (now (buf .exit)) r ⌝ }
 {
     let reading = job::read(text);

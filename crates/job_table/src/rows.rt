@@ -5,7 +5,7 @@ ghost use Prim.Native.Nat.{_+_, _≤_, _<_};
 ghost use lib.IntN.{pos};
 ghost use lib.ListN.{getD};
 ghost use Rattle.integer.specs.Tabulate.{tabulate};
-ghost use Rattle.job_table.specs.inner.Rows.{rowOf, rowsOf};
+ghost use Rattle.job_table.specs.inner.Rows.{tableRow, tableRows};
 
 // A number, eight numbers from a place on, and two that no line has.
 fn row_from(number: usize, sums: &[i64; 64], at: usize) -> [i64; 11]
@@ -24,7 +24,7 @@ fn row_from(number: usize, sums: &[i64; 64], at: usize) -> [i64; 11]
 
 fn row_of(n: usize, sums: &[i64; 64], i: usize) -> [i64; 11]
     requires { ⌜ (n ≤ 8) × (i < 8) ⌝ }
-    ensures { λ r. ⌜ r ≡ rowOf n (now (sums .entry)) i ⌝ }
+    ensures { λ r. ⌜ r ≡ tableRow n (now (sums .entry)) i ⌝ }
 {
     row_from(i + 1, sums, i * n)
 }
@@ -32,7 +32,7 @@ fn row_of(n: usize, sums: &[i64; 64], i: usize) -> [i64; 11]
 // Those of the first n channels are the table's.
 pub(crate) fn rows_of(n: usize, sums: &[i64; 64]) -> [[i64; 11]; 8]
     requires { ⌜ n ≤ 8 ⌝ }
-    ensures { λ r. ⌜ r ≡ rowsOf n (now (sums .entry)) ⌝ }
+    ensures { λ r. ⌜ r ≡ tableRows n (now (sums .entry)) ⌝ }
 {
     [
         row_of(n, sums, 0),

@@ -5,7 +5,7 @@ use native.Mathlib.Nat.{le-trans}
 use lib.ListN.{take}
 use Rattle.job.specs.Job.{Job}
 use Rattle.job.specs.Values.{Proper}
-use Rattle.job_table.specs.Held.{sumsFor, tableFor}
+use Rattle.job_table.specs.Held.{samplesOf, tableFor}
 use Rattle.job_table.specs.laws.Laws.{channels, limit-most, tolerance-most}
 use Rattle.limits.specs.Limits.{turnLimit}
 use Rattle.run.specs.Run.{Allowed}
@@ -27,7 +27,7 @@ module _ (j : Job) (p : Proper j) where
   pub allowed : Allowed (j .n) (loadedFor j) (j .limit) (j .tolerance)
   unfolding loadedFor tableFor
   allowed =
-      table-allowed (j .n) (sumsFor j) (channels j p .0) (channels j p .1) (j .limit) (j .tolerance) (limit-most j p) (tolerance-most j p)
+      table-allowed (j .n) (samplesOf j) (channels j p .0) (channels j p .1) (j .limit) (j .tolerance) (limit-most j p) (tolerance-most j p)
 
   pub as-calls : AsCalls (j .n) (loadedFor j) (j .tolerance) (runFor j)
   unfolding loadedFor runFor

@@ -1,4 +1,3 @@
 pub mod Rounding
-pub mod Cards
 pub mod inner
 pub mod laws

@@ -1,2 +1,1 @@
 pub mod Nearest
-pub mod Cards

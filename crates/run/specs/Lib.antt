@@ -1,4 +1,3 @@
 pub mod Run
 pub mod Calls
-pub mod Cards
 pub mod laws

@@ -1,4 +1,3 @@
 pub mod Course
 pub mod Calls
 pub mod Table
-pub mod Cards

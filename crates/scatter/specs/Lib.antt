@@ -1,4 +1,3 @@
 pub mod Table
-pub mod Cards
 pub mod inner
 pub mod laws

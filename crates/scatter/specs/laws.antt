@@ -1,5 +1,5 @@
-pub mod OfSamples
+pub mod BySums
 pub mod Shift
 pub mod Bounds
 pub mod Entries
-pub mod Cards
+pub mod Table

@@ -4,13 +4,16 @@ ghost use mathlib.Core.Path.{_≡_};
 ghost use Prim.Native.Nat.{_+_, _*_, _^_, _<_, _≤_, min, max};
 ghost use lib.IntN.{pos, _-ℤ_};
 ghost use lib.ListN.{getD};
+ghost use Rattle.integer.specs.Padded.{padded};
 ghost use Rattle.integer.specs.Tabulate.{tabulate};
 ghost use Rattle.rounding.specs.Rounding.{rnd};
-ghost use Rattle.sums.specs.Samples.{samples, sumsOf};
-ghost use Rattle.scatter.specs.Table.{scatter, largest, padded, tableOf};
-ghost use Rattle.sums.specs.Ranges.{Readings, Bounded};
-ghost use Rattle.scatter.specs.inner.Ranges.{Small, ZeroFrom};
-ghost use Rattle.scatter.specs.inner.Shift.{Smallest};
+ghost use Rattle.sums.specs.Samples.{samples};
+ghost use Rattle.sums.specs.Ranges.{Readings};
+ghost use Rattle.sums.specs.inner.Ranges.{Bounded};
+ghost use Rattle.scatter.specs.Table.{largest, tableFrom, tableOf};
+ghost use Rattle.scatter.specs.inner.BySums.{scatterBySums};
+ghost use Rattle.scatter.specs.inner.Ranges.{Roundable, ZeroFrom};
+ghost use Rattle.scatter.specs.inner.Shift.{LeastShift};
 
 // n × n numbers, row after row, and zeros after them: the entries, and the exact S_ij that they are rounded from.
 pub struct Table {
@@ -38,7 +41,7 @@ fn difference(k: u64, c: u64, a: u64, b: u64) -> i64
 // S_ij, row after row.
 fn scatter_of(n: usize, t: Sums) -> [i64; 64]
     requires { ⌜ (n ≤ 8) × Bounded t ⌝ }
-    ensures { λ r. ⌜ r ≡ padded (scatter n t) ⌝ }
+    ensures { λ r. ⌜ r ≡ padded 64 (pos 0) (scatterBySums n t) ⌝ }
 {
     let mut s = [0i64; 64];
     let mut at = 0;
@@ -76,7 +79,7 @@ fn largest_of(s: &[i64; 64], size: usize) -> u64
 // The shift for the greatest |S_ij|.
 fn shift_of(m: u64) -> u32
     requires { ⌜ m < 2 ^ 62 ⌝ }
-    ensures { λ r. ⌜ Smallest m r ⌝ }
+    ensures { λ r. ⌜ LeastShift m r ⌝ }
 {
     let mut e = 0;
     let mut bound = limits::ENTRY_LIMIT;
@@ -89,7 +92,7 @@ fn shift_of(m: u64) -> u32
 
 // rnd(S_ij / 2^e), place after place; from `size` on there are zeros.
 fn entries_of(s: &[i64; 64], size: usize, e: u32) -> [i64; 64]
-    requires { ⌜ Small (now s) × ZeroFrom size (now s) × (e < 62) ⌝ }
+    requires { ⌜ Roundable (now s) × ZeroFrom size (now s) × (e < 62) ⌝ }
     ensures { λ r. ⌜ r ≡ tabulate 64 (λ p. rnd (getD (now (s .entry)) p (pos 0)) (2 ^ e)) ⌝ }
 {
     let w = 1u64 << e;
@@ -102,9 +105,10 @@ fn entries_of(s: &[i64; 64], size: usize, e: u32) -> [i64; 64]
     entries
 }
 
-pub fn table_of(n: usize, t: Sums) -> Table
+// The table of samples, by their sums.
+fn table_of(n: usize, t: Sums) -> Table
     requires { ⌜ (n ≤ 8) × Bounded t ⌝ }
-    ensures { λ r. ⌜ r ≡ tableOf n t ⌝ }
+    ensures { λ r. ⌜ r ≡ tableFrom (scatterBySums n t) ⌝ }
 {
     let scatter = scatter_of(n, t);
     let size = n * n;
@@ -119,7 +123,7 @@ pub fn table_of(n: usize, t: Sums) -> Table
 
 pub fn table_of_readings(n: usize, dilutions: &[u32], counts: &[u32]) -> Table
     requires { ⌜ Readings n (now dilutions) (now counts) ⌝ }
-    ensures { λ r. ⌜ r ≡ tableOf n (sumsOf (samples n (now (dilutions .entry)) (now (counts .entry)))) ⌝ }
+    ensures { λ r. ⌜ r ≡ tableOf n (samples n (now (dilutions .entry)) (now (counts .entry))) ⌝ }
 {
     table_of(n, sums::sums_of(n, dilutions, counts))
 }

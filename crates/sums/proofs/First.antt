@@ -8,13 +8,14 @@ use native.Mathlib.Omega.{arith}
 use lib.ListN.{length, getD, take, drop}
 use Rattle.integer.specs.Tabulate.{tabulate}
 use Rattle.integer.specs.laws.Tabulate.{length-tabulate, tabulate-suc}
-use Rattle.sums.specs.Samples.{Sample, sample, sampleAt, samples, sumsAt, sumsOf, z, products}
-use Rattle.sums.specs.inner.Samples.{raised}
+use Rattle.sums.specs.Samples.{Sample, sample, sampleAt, samples, z}
+use Rattle.sums.specs.Sums.{products, totals, sumsOf}
+use Rattle.sums.specs.inner.Raised.{raised}
 use Rattle.sums.specs.declared.Sums.{Sums}
-use Rattle.sums.specs.laws.Sums.{sumsAt-more}
+use Rattle.sums.specs.laws.Sums.{totals-more}
 use Rattle.sums.specs.Ranges.{Readings}
 use Rattle.sums.specs.inner.Ranges.{InRange, Room}
-use Rattle.sums.specs.laws.Bounds.{sample-in-range, all-in-range, sumsAt-bound}
+use Rattle.sums.specs.laws.Bounds.{sample-in-range, all-in-range, totals-bound}
 
 module _ (n : ℕ) (dilutions counts : List ℕ) (r : Readings n dilutions counts) (s start : ℕ) (more : s < length dilutions) (e : start ≡ n * s) where
   pub next-start : start + n ≡ n * (s + 1)
@@ -38,18 +39,18 @@ module _ (n : ℕ) (dilutions counts : List ℕ) (r : Readings n dilutions count
   in-range = rw the-sample (sample-in-range n dilutions counts r s)
 
   -- what the samples give at each of m places
-  module _ (m : ℕ) (v : Sample → ℕ → ℕ) {xs : List ℕ} (f : xs ≡ sumsAt m v (tabulate s (sampleAt n dilutions counts))) where
+  module _ (m : ℕ) (v : Sample → ℕ → ℕ) {xs : List ℕ} (f : xs ≡ totals m v (tabulate s (sampleAt n dilutions counts))) where
     pub sums-next : {ys : List ℕ} → ys ≡ raised m (v (sample (getD dilutions s 0) (take (start + n - start) (drop start counts)))) xs →
-        ys ≡ sumsAt m v (tabulate (s + 1) (sampleAt n dilutions counts))
+        ys ≡ totals m v (tabulate (s + 1) (sampleAt n dilutions counts))
     sums-next g = g ∙ rw (f, the-sample, add-one, tabulate-suc)
-        (sumsAt-more m v (tabulate s (sampleAt n dilutions counts)) (sampleAt n dilutions counts s))
+        (totals-more m v (tabulate s (sampleAt n dilutions counts)) (sampleAt n dilutions counts s))
 
     pub sums-room : (b : ℕ) → ((s : Sample) → InRange s → (p : ℕ) → v s p ≤ b) → Room m (256 * b) xs
-    unfolding sumsAt
+    unfolding totals
     sums-room b h =
         record {
           size = ap length f ∙ length-tabulate m _;
-          most = λ p. rw f (le-trans (sumsAt-bound m v b h _ (all-in-range n dilutions counts r s) p)
+          most = λ p. rw f (le-trans (totals-bound m v b h _ (all-in-range n dilutions counts r s) p)
               (rw length-tabulate (mul-le-mul-right b s-most)));
         }
       where
@@ -58,7 +59,7 @@ module _ (n : ℕ) (dilutions counts : List ℕ) (r : Readings n dilutions count
 
 -- after the last one
 pub all-samples : (n : ℕ) (dilutions counts : List ℕ) {s : ℕ} {xs ys : List ℕ} → s ≡ length dilutions →
-    xs ≡ sumsAt 8 z (tabulate s (sampleAt n dilutions counts)) → ys ≡ sumsAt 64 products (tabulate s (sampleAt n dilutions counts)) →
+    xs ≡ totals 8 z (tabulate s (sampleAt n dilutions counts)) → ys ≡ totals 64 products (tabulate s (sampleAt n dilutions counts)) →
     _≡_ {A = Sums} (record { k = length dilutions; channel = xs; cross = ys }) (sumsOf (samples n dilutions counts))
 unfolding samples sumsOf
 all-samples n dilutions counts e f g = rw (f, g, e, length-tabulate)

@@ -11,8 +11,9 @@ use native.Mathlib.Omega.{arith}
 use lib.ListN.{length, getD, set, List·getD-eq-default}
 use Rattle.integer.specs.laws.Tabulate.{length-tabulate, getD-tabulate}
 use Rattle.integer.specs.laws.Filled.{Filled, filled-more, filled-skip, filled-all}
-use Rattle.sums.specs.Samples.{Sample, z, products}
-use Rattle.sums.specs.inner.Samples.{raised}
+use Rattle.sums.specs.Samples.{Sample, z}
+use Rattle.sums.specs.Sums.{products}
+use Rattle.sums.specs.inner.Raised.{raised}
 use Rattle.sums.specs.laws.Sums.{products-at}
 
 module _ (m : ℕ) (f : ℕ → ℕ) (start : List ℕ) (size : length start ≡ m) where

@@ -1,4 +1,5 @@
 pub mod Samples
+pub mod Sums
 pub mod Ranges
 pub mod inner
 pub mod laws

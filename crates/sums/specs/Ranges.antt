@@ -1,9 +1,8 @@
--- The ranges of readings, and what sums of readings within them keep to.
+-- The ranges of readings.
 use mathlib.Core.Path.{_≡_}
 use mathlib.Core.List.{List}
 use Prim.Native.Nat.{ℕ, _*_, _≤_}
 use lib.ListN.{length, getD}
-use Rattle.sums.specs.declared.Sums.{Sums}
 
 -- A dilution for each sample and n counts to a sample, each within its range. Document 01 has 2 to 8 channels and 2 to 256 samples; fewer do no
 -- harm to sums and tables.
@@ -13,13 +12,3 @@ pub record Readings (n : ℕ) (dilutions counts : List ℕ) : Type 0 where
   pub counted : length counts ≡ n * length dilutions
   pub dilution : (s : ℕ) → getD dilutions s 0 ≤ 100
   pub count : (p : ℕ) → getD counts p 0 ≤ 65_535
-
--- The greatest value z: 65,535 × 100
-abbrev pub zLimit : ℕ
-zLimit = 6_553_500
-
--- Sums of at most 256 samples within the ranges
-pub record Bounded (t : Sums) : Type 0 where
-  pub number : t .k ≤ 256
-  pub channel : (i : ℕ) → getD (t .channel) i 0 ≤ t .k * zLimit
-  pub cross : (p : ℕ) → getD (t .cross) p 0 ≤ t .k * (zLimit * zLimit)

@@ -1,3 +1,3 @@
-pub mod Ranges
+pub mod Samples
 pub mod Sums
 pub mod Bounds

@@ -1,10 +1,11 @@
 // The sums of samples: their number, channel sums and cross sums, in one pass over the samples.
 ghost use mathlib.Core.Path.{_≡_};
 ghost use Prim.Native.Nat.{_*_};
-ghost use Rattle.sums.specs.Samples.{sample, samples, sumsOf, z, products};
-ghost use Rattle.sums.specs.inner.Samples.{raised};
-ghost use Rattle.sums.specs.Ranges.{Readings, zLimit};
-ghost use Rattle.sums.specs.inner.Ranges.{InRange, Room};
+ghost use Rattle.sums.specs.Samples.{sample, samples, z};
+ghost use Rattle.sums.specs.Sums.{products, sumsOf};
+ghost use Rattle.sums.specs.Ranges.{Readings};
+ghost use Rattle.sums.specs.inner.Raised.{raised};
+ghost use Rattle.sums.specs.inner.Ranges.{InRange, Room, zLimit};
 
 // A cross sum of the channels i ≤ j, counted from 0, stands at 8 × i + j; any other place is 0.
 pub struct Sums {

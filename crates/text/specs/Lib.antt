@@ -1,4 +1,5 @@
 pub mod Range
+pub mod Ascii
 pub mod Parts
 pub mod Numeral
 pub mod Decimal

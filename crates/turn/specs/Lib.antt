@@ -4,6 +4,5 @@ pub mod InUse
 pub mod Shape
 pub mod Size
 pub mod Exact
-pub mod Cards
 pub mod inner
 pub mod laws

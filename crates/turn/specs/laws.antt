@@ -10,4 +10,3 @@ pub mod Rounded
 pub mod Error
 pub mod Norm
 pub mod Congruence
-pub mod Cards

@@ -11,10 +11,9 @@ use lib.Seq.{length-take-le}
 use mir.Facts.{and-yes}
 use Rattle.ledger.specs.laws.Accepted.{passed}
 use Rattle.limits.specs.laws.Channels.{places}
-use Rattle.scatter.specs.laws.Entries.{length-padded}
-use Rattle.sums.specs.Samples.{samples, sumsOf}
+use Rattle.scatter.specs.laws.Table.{table-is}
+use Rattle.sums.specs.Samples.{Sample, samples}
 use Rattle.scatter.specs.Table.{tableOf}
-use Rattle.sums.specs.declared.Sums.{Sums}
 use Rattle.text.specs.Range.{allWithin}
 use Rattle.text.specs.laws.Range.{all-at}
 use Rattle.field_axes.specs.Table.{tableNumbers, tableNumbersOf, tableRefusal, valuesWithin}
@@ -40,25 +39,22 @@ readable n dilutions counts size e =
       room = leb→le _ size (passed (leb (1 + 2 * (n * n)) size) 12 0 (number .1) (omega arith) .0);
     }
 
-module _ (n : ℕ) (t : Sums) where
-  pub length-scatter : length (tableOf n t .scatter) ≡ 64
-  unfolding tableOf
-  length-scatter = length-padded _
+module _ (n : ℕ) (h : n ≤ 8) (ss : List Sample) where
+  pub length-scatter : length (tableOf n ss .scatter) ≡ 64
+  length-scatter = table-is n h ss .scatter .size
 
-  pub length-entries : length (tableOf n t .entries) ≡ 64
-  unfolding tableOf
-  length-entries = length-padded _
+  pub length-entries : length (tableOf n ss .entries) ≡ 64
+  length-entries = table-is n h ss .entries .size
 
--- the first n×n of them
-module _ (n : ℕ) (t : Sums) (h : n ≤ 8) where
-  pub scatter-used : length (take (n * n) (tableOf n t .scatter)) ≡ n * n
-  scatter-used = length-take-le (n * n) (tableOf n t .scatter) (rw (length-scatter n t) (places n h))
+  -- the first n×n of them
+  pub scatter-used : length (take (n * n) (tableOf n ss .scatter)) ≡ n * n
+  scatter-used = length-take-le (n * n) (tableOf n ss .scatter) (rw length-scatter (places n h))
 
-  pub entries-used : length (take (n * n) (tableOf n t .entries)) ≡ n * n
-  entries-used = length-take-le (n * n) (tableOf n t .entries) (rw (length-entries n t) (places n h))
+  pub entries-used : length (take (n * n) (tableOf n ss .entries)) ≡ n * n
+  entries-used = length-take-le (n * n) (tableOf n ss .entries) (rw length-entries (places n h))
 
 pub length-table : (n : ℕ) (dilutions counts : List ℕ) → n ≤ 8 → length (tableNumbersOf n dilutions counts) ≡ 1 + 2 * (n * n)
 unfolding tableNumbersOf tableNumbers
 length-table n dilutions counts h =
-    let t = sumsOf (samples n dilutions counts) in
-    simp (length-append, scatter-used n t h, entries-used n t h) (omega arith)
+    let ss = samples n dilutions counts in
+    simp (length-append, scatter-used n h ss, entries-used n h ss) (omega arith)

@@ -25,8 +25,8 @@ s-lines = 83 ∷ 9 ∷ 53 ∷ 9 ∷ 49 ∷ 9 ∷ 48 ∷ 10 ∷ 83 ∷ 9 ∷ 49 �
 abbrev e-line : ℕ → List ℕ
 e-line digit = 69 ∷ 9 ∷ digit ∷ 10 ∷ []
 
-abbrev samples : List ℕ
-samples = s-line ++ s-lines
+abbrev sampleLines : List ℕ
+sampleLines = s-line ++ s-lines
 
 -- A line as often as said.
 times : ℕ → List ℕ → List ℕ
@@ -35,12 +35,12 @@ times (suc m) line = line ++ times m line
 
 examples :
     -- the printed job: n = 2, limit 1, tolerance 0, three samples
-    (jobOf (p-line ++ samples ++ e-line 51)
+    (jobOf (p-line ++ sampleLines ++ e-line 51)
     ≡ accepted (record { n = 2; limit = 1; tolerance = 0; dilutions = 1 ∷ 5 ∷ 1 ∷ []; counts = 0 ∷ 0 ∷ 1 ∷ 0 ∷ 5 ∷ 5 ∷ [] }))
     -- 1: no line at all; no line after `P`; no line feed after `E 3`
     × (jobOf [] ≡ refused 1 1)
     × (jobOf p-line ≡ refused 1 2)
-    × (jobOf (p-line ++ samples ++ 69 ∷ 9 ∷ 51 ∷ []) ≡ refused 1 5)
+    × (jobOf (p-line ++ sampleLines ++ 69 ∷ 9 ∷ 51 ∷ []) ≡ refused 1 5)
     -- 1: `S 1 0`, a field too few; `S 01 0 0`, a leading zero; `S 1 10000000 0`, eight digits; `S -1 0 0`, a sign; `X 1 0 0`, another tag
     × (jobOf (p-line ++ 83 ∷ 9 ∷ 49 ∷ 9 ∷ 48 ∷ 10 ∷ []) ≡ refused 1 2)
     × (jobOf (p-line ++ 83 ∷ 9 ∷ 48 ∷ 49 ∷ 9 ∷ 48 ∷ 9 ∷ 48 ∷ 10 ∷ []) ≡ refused 1 2)
@@ -58,8 +58,8 @@ examples :
     × (jobOf (p-line ++ times 256 s-line) ≡ refused 1 258)
     × (jobOf (p-line ++ times 257 s-line) ≡ refused 3 258)
     -- 4: `E 2` after three samples; a byte after the line of `E 3`
-    × (jobOf (p-line ++ samples ++ e-line 50) ≡ refused 4 5)
-    × (jobOf (p-line ++ samples ++ e-line 51 ++ 10 ∷ []) ≡ refused 4 5)
+    × (jobOf (p-line ++ sampleLines ++ e-line 50) ≡ refused 4 5)
+    × (jobOf (p-line ++ sampleLines ++ e-line 51 ++ 10 ∷ []) ≡ refused 4 5)
 unfolding times jobOf split onto allWithin leadingZero valueFrom numberOf before numbersOf isTag recordOf lineOf within parametersInRange
     sampleInRange withSample nextLine nothing ended judged jobAfter begun jobOfLines
 examples = (refl, refl, refl, refl, refl, refl, refl, refl, refl, refl, refl, refl, refl, refl, refl, refl, refl, refl)

@@ -1,5 +1,5 @@
 -- `job_table::table_of` meets its contract: the readings of a held job are within their ranges.
-use Rattle.job_table.specs.Held.{jobIn, sumsFor, tableFor}
+use Rattle.job_table.specs.Held.{jobIn, samplesOf, tableFor}
 use Rattle.job_table.specs.laws.Laws.{counts-few, readings}
 use Rattle.job_table.proofs.table_of.Statement.{statement}
 use Rattle.job_table.proofs.table_of.Tie as tie
@@ -16,7 +16,7 @@ table-in-requires c κs =
     }
 
 returns : tie.Need-returns
-unfolding jobIn sumsFor tableFor
+unfolding jobIn samplesOf tableFor
 returns c = c .table-in .ensures
 
 pub table-of-spec : {M : Type 1} → statement M

@@ -7,5 +7,5 @@ use Rattle.text.specs.Lines.{lines}
 use Rattle.text.specs.Rows.{rowLine}
 
 -- The text of the numbers of its first line and of its rows
-unfoldable pub textOf : List ℤ → ℕ → List (List ℤ) → List ℕ
-textOf head n rows = numberLine 84 head ++ lines (rowLine 83 (n + 1) rows) n
+unfoldable pub textOfRows : List ℤ → ℕ → List (List ℤ) → List ℕ
+textOfRows head n rows = numberLine 84 head ++ lines (rowLine 83 (n + 1) rows) n

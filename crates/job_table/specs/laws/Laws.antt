@@ -5,23 +5,21 @@ use mathlib.Core.Bool.{true}
 use mathlib.Core.List.{List}
 use native.Mathlib.Nat.{mul-comm, mul-le-mul}
 use native.Mathlib.Omega.{arith}
-use lib.ListN.{length, length-append}
+use lib.ListN.{length}
 use lib.Seq.{length-take-le}
 use Rattle.job.specs.Job.{Job, Answer, refused, accepted, jobOf}
 use Rattle.text.specs.Range.{within, allWithin}
 use Rattle.text.specs.laws.Range.{all-at, both, is-within}
-use Rattle.job.specs.Reading.{padded, inArrays, readingOf}
+use Rattle.integer.specs.laws.Padded.{padded-size, padded-take}
+use Rattle.job.specs.Reading.{inArrays, readingOf}
 use Rattle.job.specs.Values.{Proper, inRange}
 use Rattle.job.specs.declared.Job as arrays
 use Rattle.job.specs.declared.Outcome.the-variants.{Accepted}
 use Rattle.job.proofs.Accepted.{accepted-proper}
-use Rattle.job.proofs.Padding.{padded-take}
-use Rattle.sums.specs.laws.Bounds.{readings-bounded}
-use Rattle.scatter.specs.laws.Bounds.{shift-bound}
+use Rattle.scatter.specs.laws.Bounds.{readings-shift}
 use Rattle.sums.specs.Ranges.{Readings}
-use Rattle.scatter.specs.Table.{tableOf}
 use Rattle.job.specs.Range.{parametersInRange}
-use Rattle.job_table.specs.Held.{Held, jobIn, sumsFor, tableFor}
+use Rattle.job_table.specs.Held.{Held, jobIn, samplesOf, tableFor}
 
 module _ (j : Job) (p : Proper j) where
   ranges : (parametersInRange (j .n) (j .limit) (j .tolerance) ≡ true) × (allWithin 1 100 (j .dilutions) ≡ true) ×
@@ -62,8 +60,8 @@ module _ (j : Job) (p : Proper j) where
       }
 
   pub shift-few : tableFor j .e < 62
-  unfolding tableFor sumsFor tableOf
-  shift-few = shift-bound (sumsFor j) (readings-bounded (j .n) (j .dilutions) (j .counts) readings) (j .n)
+  unfolding tableFor samplesOf
+  shift-few = readings-shift (j .n) (j .dilutions) (j .counts) readings
 
 -- As many samples as the arrays say
 pub samples-held : (a : arrays.Job) → Held a → length (jobIn a .dilutions) ≡ a .k
@@ -80,10 +78,6 @@ module _ (a : arrays.Job) (h : Held a) where
 
   pub counts-few : a .k * a .n ≤ 2048
   counts-few = mul-le-mul samples-few channels-held
-
-padded-size : (m : ℕ) (xs : List ℕ) → length xs ≤ length (padded m xs)
-unfolding padded
-padded-size m xs = rw length-append (omega arith)
 
 -- The arrays of a proper job hold it.
 pub held-in : (j : Job) → Proper j → jobIn (inArrays j) ≡ j
@@ -106,8 +100,8 @@ accepted-read text e = by (jobOf text) refl e
           held =
               record {
                 proper = rw (held-in j p) p;
-                dilutions = unfold inArrays in padded-size 256 (j .dilutions);
-                counts = unfold inArrays in rw (← p .counted) (padded-size 2048 (j .counts));
+                dilutions = unfold inArrays in padded-size 256 0 (j .dilutions);
+                counts = unfold inArrays in rw (← p .counted) (padded-size 2048 0 (j .counts));
               };
           is = q ∙ ap accepted (sym (held-in j p));
         }

@@ -5,12 +5,11 @@ use native.Mathlib.Omega.{arith}
 use lib.ListN.{length}
 use lib.Seq.{length-take-le}
 use borrow.Author.Needs.{needs}
-use Rattle.job_table.specs.Held.{jobIn, tableFor}
+use Rattle.job_table.specs.Held.{jobIn, samplesOf, tableFor}
 use Rattle.limits.specs.laws.Channels.{places}
 use Rattle.job_table.specs.laws.Laws.{channels-held}
 use Rattle.scatter.specs.declared.table.Table.{Table}
-use Rattle.scatter.specs.laws.Entries.{length-padded}
-use Rattle.scatter.specs.Table.{tableOf}
+use Rattle.scatter.specs.laws.Table.{table-is}
 use Rattle.report.specs.Certified.{loadedFor}
 use Rattle.report.specs.Report.{runFor}
 use Rattle.report.proofs.Bounds.{allowed}
@@ -21,8 +20,11 @@ size : (s : tie.Start) → s .args .job .n * s .args .job .n ≤ 64
 size s = places _ (channels-held (s .args .job) (s .pre))
 
 entries-within : (c : tie.After-table-of) → (let s = c .before in s .args .job .n * s .args .job .n ≤ length (c .table-of .result .entries))
-unfolding tableFor tableOf
-entries-within c = rw (c .table-of .ensures, length-padded) (size (c .before))
+unfolding jobIn tableFor
+entries-within c =
+    let s = c .before in
+    let t = table-is (s .args .job .n) (channels-held (s .args .job) (s .pre)) (samplesOf (jobIn (s .args .job))) in
+    rw (c .table-of .ensures, t .entries .size) (size s)
 
 run-requires : tie.Need-run-requires
 unfolding jobIn loadedFor

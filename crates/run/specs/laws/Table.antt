@@ -1,33 +1,32 @@
 -- A table made from readings is a matrix that a run may load.
 use mathlib.Core.Path.{_≡_, _∙_}
+use mathlib.Core.List.{List}
 use Prim.Native.Nat.{ℕ, _*_, _≤_}
-use lib.ListN.{take, length-map}
+use lib.ListN.{take}
 use Rattle.ledger.specs.laws.Accepted.{Loads}
 use Rattle.ledger.specs.Call.{load}
 use Rattle.limits.specs.Limits.{toleranceLimit}
 use Rattle.ledger.specs.Refusal.{refusalOf}
-use Rattle.scatter.specs.laws.Entries.{entries-symmetric, entries-within, length-scatter, table-entries}
+use Rattle.scatter.specs.laws.Entries.{entries-symmetric, entries-within, length-entries, length-scatter, table-entries}
 use Rattle.scatter.specs.Table.{entries, scatter, tableOf}
-use Rattle.sums.specs.declared.Sums.{Sums}
+use Rattle.sums.specs.Samples.{Sample}
 use Rattle.record.specs.laws.Accepted.{load-taken}
-use Rattle.integer.specs.Matrix.{matrixOf}
 use Rattle.run.specs.Run.{Allowed}
 
-module _ (n : ℕ) (t : Sums) (low : 2 ≤ n) (high : n ≤ 8) where
-  entries-load : Loads n (entries (scatter n t))
-  unfolding entries matrixOf
+module _ (n : ℕ) (ss : List Sample) (low : 2 ≤ n) (high : n ≤ 8) where
+  entries-load : Loads n (entries (scatter n ss))
   entries-load =
       record {
         low = low;
         high = high;
-        count = length-map (scatter n t) _ ∙ length-scatter n t;
-        small = entries-within (scatter n t);
-        same = entries-symmetric n t;
+        count = length-entries (scatter n ss) ∙ length-scatter n ss;
+        small = entries-within (scatter n ss);
+        same = entries-symmetric n ss;
       }
 
-  pub table-accepted : refusalOf 0 0 (load n (take (n * n) (tableOf n t .entries))) ≡ 0
-  table-accepted = rw (table-entries n t high) (load-taken 0 0 n _ entries-load)
+  pub table-accepted : refusalOf 0 0 (load n (take (n * n) (tableOf n ss .entries))) ≡ 0
+  table-accepted = rw (table-entries n ss) (load-taken 0 0 n _ entries-load)
 
   pub table-allowed : (limit tolerance : ℕ) → limit ≤ 16 → tolerance ≤ toleranceLimit →
-      Allowed n (take (n * n) (tableOf n t .entries)) limit tolerance
+      Allowed n (take (n * n) (tableOf n ss .entries)) limit tolerance
   table-allowed limit tolerance l k = record { matrix = table-accepted; sweeps = l; tolerance = k }

@@ -6,7 +6,7 @@ use lib.IntN.{ℤ, pos, natAbs}
 use lib.ListN.{length, getD}
 
 -- 64 numbers that can be rounded in 64 bits
-pub record Small (us : List ℤ) : Type 0 where
+pub record Roundable (us : List ℤ) : Type 0 where
   pub size : length us ≡ 64
   pub small : (p : ℕ) → natAbs (getD us p (pos 0)) < 2 ^ 62
 

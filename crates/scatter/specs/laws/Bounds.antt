@@ -1,15 +1,23 @@
 -- The sizes of S and of the shift, for sums of readings within the ranges: no number needs more than 63 bits.
-use Prim.Native.Nat.{ℕ, _+_, _*_, _/_, _%_, _-_, _^_, _<_, _≤_, min, max}
+use mathlib.Core.List.{List}
+use Prim.Native.Nat.{ℕ, _+_, _*_, _-_, _^_, _<_, _≤_, min, max}
 use native.Mathlib.Nat.{mul-le-mul, le-trans, le-refl}
 use native.Mathlib.Omega.{arith}
-use lib.IntN.{pos, natAbs, _-ℤ_}
-use lib.ListN.{getD}
+use lib.IntN.{ℤ, pos, natAbs, _-ℤ_}
+use lib.ListN.{length, getD}
+use Rattle.integer.specs.Padded.{padded}
 use Rattle.integer.specs.laws.Laws.{natAbs--ℤ}
-use Rattle.integer.specs.laws.Tabulate.{length-tabulate, tabulate-all}
+use Rattle.integer.specs.laws.Padded.{length-padded, padded-at}
+use Rattle.integer.specs.laws.RowMajor.{rowMajor-all}
+use Rattle.sums.specs.Ranges.{Readings}
+use Rattle.sums.specs.Samples.{samples}
 use Rattle.sums.specs.declared.Sums.{Sums}
-use Rattle.sums.specs.Ranges.{zLimit, Bounded}
-use Rattle.scatter.specs.inner.Ranges.{Small}
-use Rattle.scatter.specs.Table.{S, scatter, largest, shift, padded}
+use Rattle.sums.specs.inner.Ranges.{zLimit, Bounded}
+use Rattle.sums.specs.laws.Bounds.{readings-bounded}
+use Rattle.scatter.specs.Table.{largest, shift, tableFrom, tableOf}
+use Rattle.scatter.specs.inner.BySums.{SBySums, scatterBySums}
+use Rattle.scatter.specs.inner.Ranges.{Roundable}
+use Rattle.scatter.specs.laws.BySums.{scatter-by-sums}
 use Rattle.scatter.specs.laws.Shift.{largest-least, smallest-found, shift-small}
 
 difference-within : (a b m : ℕ) → a ≤ m → b ≤ m → natAbs (pos a -ℤ pos b) ≤ m
@@ -27,25 +35,25 @@ module _ (t : Sums) (b : Bounded t) where
   pub channel-times-channel : (i j : ℕ) → getD (t .channel) i 0 * getD (t .channel) j 0 ≤ 256 * (256 * (zLimit * zLimit))
   channel-times-channel i j = mul-le-mul (channel-most i) (channel-most j)
 
-  pub S-small : (i j : ℕ) → natAbs (S t i j) < 2 ^ 62
-  unfolding S
+  pub S-small : (i j : ℕ) → natAbs (SBySums t i j) < 2 ^ 62
+  unfolding SBySums
   S-small i j =
       omega (arith, difference-within _ _ (256 * (256 * (zLimit * zLimit))) (number-times-cross (8 * min i j + max i j)) (channel-times-channel i j))
 
-  pub scatter-small : (n p : ℕ) → natAbs (getD (scatter n t) p (pos 0)) < 2 ^ 62
-  unfolding scatter
-  scatter-small n = tabulate-all (λ u. natAbs u < 2 ^ 62) (n * n) (λ p. S t (p / n) (p % n)) (pos 0) (omega arith) (λ p. S-small (p / n) (p % n))
+  pub scatter-small : (n p : ℕ) → natAbs (getD (scatterBySums n t) p (pos 0)) < 2 ^ 62
+  unfolding scatterBySums
+  scatter-small n = rowMajor-all n (SBySums t) (λ u. natAbs u < 2 ^ 62) (omega arith) (λ i j g h. S-small i j)
 
-  pub padded-small : (n : ℕ) → Small (padded (scatter n t))
-  unfolding padded
-  padded-small n =
-      record {
-        size = length-tabulate 64 _;
-        small = tabulate-all (λ u. natAbs u < 2 ^ 62) 64 (λ p. getD (scatter n t) p (pos 0)) (pos 0) (omega arith) (scatter-small n);
-      }
+module _ (us : List ℤ) (h : (p : ℕ) → natAbs (getD us p (pos 0)) < 2 ^ 62) where
+  pub padded-small : length us ≤ 64 → Roundable (padded 64 (pos 0) us)
+  padded-small l = record { size = length-padded 64 (pos 0) us l; small = λ p. rw padded-at (h p) }
 
-  pub shift-bound : (n : ℕ) → shift (scatter n t) < 62
+  pub shift-bound : shift us < 62
   unfolding shift
-  shift-bound n =
-      shift-small _ _ (smallest-found (largest (scatter n t)))
-      (omega (arith, largest-least (scatter n t) (2 ^ 62 - 1) (λ p. omega (arith, scatter-small n p))))
+  shift-bound = shift-small _ _ (smallest-found (largest us)) (omega (arith, largest-least us (2 ^ 62 - 1) (λ p. omega (arith, h p))))
+
+pub readings-shift : (n : ℕ) (dilutions counts : List ℕ) → Readings n dilutions counts → tableOf n (samples n dilutions counts) .e < 62
+unfolding tableOf tableFrom
+readings-shift n dilutions counts r =
+    rw (← scatter-by-sums (samples n dilutions counts) n (r .channels))
+    (shift-bound _ (scatter-small _ (readings-bounded n dilutions counts r) n))

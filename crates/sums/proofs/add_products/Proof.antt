@@ -7,8 +7,9 @@ use native.Mathlib.Omega.{arith}
 use borrow.Author.Needs.{needs}
 use lib.ListN.{length, getD}
 use Rattle.integer.specs.laws.Filled.{Filled, filled-none}
-use Rattle.sums.specs.Samples.{sample, products}
-use Rattle.sums.specs.inner.Samples.{raised}
+use Rattle.sums.specs.Samples.{sample}
+use Rattle.sums.specs.Sums.{products}
+use Rattle.sums.specs.inner.Raised.{raised}
 use Rattle.sums.proofs.Raised.{raised-more, raised-skip, raised-all, product-at, no-product}
 use Rattle.sums.proofs.add_products.Statement.{statement}
 use Rattle.sums.proofs.add_products.Tie as tie

@@ -7,7 +7,7 @@ use borrow.Author.Needs.{needs}
 use lib.ListN.{length}
 use Rattle.integer.specs.laws.Filled.{Filled, filled-none}
 use Rattle.sums.specs.Samples.{sample, z}
-use Rattle.sums.specs.inner.Samples.{raised}
+use Rattle.sums.specs.inner.Raised.{raised}
 use Rattle.sums.proofs.Raised.{raised-more, raised-skip, raised-all, no-value}
 use Rattle.sums.proofs.add_values.Statement.{statement}
 use Rattle.sums.proofs.add_values.Tie as tie

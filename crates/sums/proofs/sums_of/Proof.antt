@@ -6,8 +6,9 @@ use native.Mathlib.Omega.{arith}
 use borrow.Author.Needs.{needs}
 use lib.ListN.{length}
 use Rattle.integer.specs.Tabulate.{tabulate}
-use Rattle.sums.specs.Samples.{sampleAt, sumsAt, sum, z, products}
-use Rattle.sums.specs.Ranges.{zLimit}
+use Rattle.sums.specs.Samples.{sampleAt, total, z}
+use Rattle.sums.specs.Sums.{products, totals}
+use Rattle.sums.specs.inner.Ranges.{zLimit}
 use Rattle.sums.specs.laws.Bounds.{z-bound, products-bound}
 use Rattle.sums.proofs.First.{next-start, part-fits, in-range, sums-next, sums-room, all-samples}
 use Rattle.sums.proofs.sums_of.Statement.{statement}
@@ -15,14 +16,14 @@ use Rattle.sums.proofs.sums_of.Tie as tie
 
 abbrev Inv-loop : tie.InvT-loop
 Inv-loop n dilutions counts channel₀ cross₀ s₀ start₀ channel cross s start =
-    (s ≤ length dilutions) × (start ≡ n * s) × (channel ≡ sumsAt 8 z (tabulate s (sampleAt n dilutions counts))) ×
-    (cross ≡ sumsAt 64 products (tabulate s (sampleAt n dilutions counts)))
+    (s ≤ length dilutions) × (start ≡ n * s) × (channel ≡ totals 8 z (tabulate s (sampleAt n dilutions counts))) ×
+    (cross ≡ totals 64 products (tabulate s (sampleAt n dilutions counts)))
 
 abbrev μ-loop : tie.MeasureT-loop
 μ-loop n dilutions counts channel₀ cross₀ s₀ start₀ channel cross s start = length dilutions - s
 
 loop-holds : tie.Need-loop-holds Inv-loop μ-loop
-unfolding sumsAt tabulate sum
+unfolding totals tabulate total
 loop-holds c = (search needs, sym (mul-zero _), refl, refl)
 
 part : (c : tie.In-loop Inv-loop μ-loop) →

@@ -1,17 +1,28 @@
--- What private functions promise: The ranges of readings, and what sums of readings within them keep to.
+-- What samples and sums of readings within the ranges keep to.
 use mathlib.Core.Path.{_≡_}
 use mathlib.Core.List.{List}
-use Prim.Native.Nat.{ℕ, _≤_}
+use Prim.Native.Nat.{ℕ, _*_, _≤_}
 use lib.ListN.{length, getD}
 use Rattle.sums.specs.Samples.{Sample}
+use Rattle.sums.specs.declared.Sums.{Sums}
 
--- The same of one sample
+-- One sample of readings within the ranges
 pub record InRange (s : Sample) : Type 0 where
   pub channels : length (s .counts) ≤ 8
   pub dilution : s .dilution ≤ 100
   pub count : (i : ℕ) → getD (s .counts) i 0 ≤ 65_535
 
+-- The greatest value z: 65,535 × 100
+abbrev pub zLimit : ℕ
+zLimit = 6_553_500
+
 -- m places, none above b
 pub record Room (m b : ℕ) (xs : List ℕ) : Type 0 where
   pub size : length xs ≡ m
   pub most : (p : ℕ) → getD xs p 0 ≤ b
+
+-- Sums of at most 256 samples within the ranges
+pub record Bounded (t : Sums) : Type 0 where
+  pub number : t .k ≤ 256
+  pub channel : (i : ℕ) → getD (t .channel) i 0 ≤ t .k * zLimit
+  pub cross : (p : ℕ) → getD (t .cross) p 0 ≤ t .k * (zLimit * zLimit)

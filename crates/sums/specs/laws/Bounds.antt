@@ -9,10 +9,15 @@ use lib.ListN.{length, getD, take, drop, length-take}
 use lib.Seq.{getD-drop}
 use Rattle.integer.specs.Tabulate.{tabulate}
 use Rattle.integer.specs.laws.Tabulate.{length-tabulate, tabulate-all}
-use Rattle.sums.specs.Samples.{Sample, z, sampleAt, samples, sum, products, sumsAt, sumsOf}
-use Rattle.sums.specs.Ranges.{Readings, zLimit, Bounded}
-use Rattle.sums.specs.inner.Ranges.{InRange}
-use Rattle.sums.specs.laws.Ranges.{noSample, AllInRange}
+use Rattle.sums.specs.Samples.{Sample, z, sampleAt, samples, total}
+use Rattle.sums.specs.Sums.{products, totals, sumsOf}
+use Rattle.sums.specs.Ranges.{Readings}
+use Rattle.sums.specs.inner.Ranges.{InRange, zLimit, Bounded}
+use Rattle.sums.specs.laws.Samples.{noSample}
+
+-- every sample of a list is in range
+abbrev pub AllInRange : List Sample → Type 0
+AllInRange ss = (s : ℕ) → InRange (getD ss s noSample)
 
 pub z-bound : (s : Sample) → InRange s → (i : ℕ) → z s i ≤ zLimit
 unfolding z
@@ -24,21 +29,21 @@ products-bound s r p =
     elim (leb (p / 8) (p % 8)) as (λ t. cond t (z s (p / 8) * z s (p % 8)) 0 ≤ zLimit * zLimit)
     [ true ↦ mul-le-mul (z-bound s r (p / 8)) (z-bound s r (p % 8)) | false ↦ omega arith ]
 
-sum-bound : (f : Sample → ℕ) (b : ℕ) (ss : List Sample) → ((s : ℕ) → f (getD ss s noSample) ≤ b) → sum f ss ≤ length ss * b
-unfolding sum
-sum-bound f b [] h = omega arith
-sum-bound f b (s ∷ ss) h = rw suc-mul (omega (arith, h zero, sum-bound f b ss (λ q. h (suc q))))
+total-bound : (f : Sample → ℕ) (b : ℕ) (ss : List Sample) → ((s : ℕ) → f (getD ss s noSample) ≤ b) → total f ss ≤ length ss * b
+unfolding total
+total-bound f b [] h = omega arith
+total-bound f b (s ∷ ss) h = rw suc-mul (omega (arith, h zero, total-bound f b ss (λ q. h (suc q))))
 
-pub sumsAt-bound : (m : ℕ) (v : Sample → ℕ → ℕ) (b : ℕ) → ((s : Sample) → InRange s → (p : ℕ) → v s p ≤ b) → (ss : List Sample) → AllInRange ss →
-    (p : ℕ) → getD (sumsAt m v ss) p 0 ≤ length ss * b
-unfolding sumsAt
-sumsAt-bound m v b h ss r =
-    tabulate-all (λ x. x ≤ length ss * b) m (λ p. sum (λ s. v s p) ss) 0 (omega arith) (λ p. sum-bound (λ s. v s p) b ss (λ s. h _ (r s) p))
+pub totals-bound : (m : ℕ) (v : Sample → ℕ → ℕ) (b : ℕ) → ((s : Sample) → InRange s → (p : ℕ) → v s p ≤ b) → (ss : List Sample) → AllInRange ss →
+    (p : ℕ) → getD (totals m v ss) p 0 ≤ length ss * b
+unfolding totals
+totals-bound m v b h ss r =
+    tabulate-all (λ x. x ≤ length ss * b) m (λ p. total (λ s. v s p) ss) 0 (omega arith) (λ p. total-bound (λ s. v s p) b ss (λ s. h _ (r s) p))
 
 pub sums-bounded : (ss : List Sample) → length ss ≤ 256 → AllInRange ss → Bounded (sumsOf ss)
 unfolding sumsOf
 sums-bounded ss h r =
-    record { number = h; channel = sumsAt-bound 8 z zLimit z-bound ss r; cross = sumsAt-bound 64 products (zLimit * zLimit) products-bound ss r }
+    record { number = h; channel = totals-bound 8 z zLimit z-bound ss r; cross = totals-bound 64 products (zLimit * zLimit) products-bound ss r }
 
 pub take-bound : (b n : ℕ) (l : List ℕ) → ((i : ℕ) → getD l i 0 ≤ b) → (i : ℕ) → getD (take n l) i 0 ≤ b
 take-bound b zero [] h i = omega arith

@@ -1,4 +1,4 @@
--- `scatter_vectors::main` is safe and ends.
+-- `test_tables::main` is safe and ends.
 use Prim.Native.Nat.{_-_, _≤_}
 use borrow.Author.Needs.{needs}
 use Rattle.test_tables.proofs.main.Statement.{statement}

@@ -1,4 +1,4 @@
--- `scatter_vectors::print_table` is safe: there are at most 64 entries.
+-- `test_tables::print_table` is safe: there are at most 64 entries.
 use native.Mathlib.Omega.{arith}
 use borrow.Author.Needs.{needs}
 use Rattle.limits.specs.laws.Channels.{places}

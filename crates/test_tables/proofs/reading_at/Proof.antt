@@ -1,4 +1,4 @@
--- `scatter_vectors::reading_at` meets its contract.
+-- `test_tables::reading_at` meets its contract.
 use borrow.Author.Needs.{needs}
 use Rattle.test_tables.proofs.reading_at.Statement.{statement}
 use Rattle.test_tables.proofs.reading_at.Tie as tie

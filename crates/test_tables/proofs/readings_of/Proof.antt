@@ -1,4 +1,4 @@
--- `scatter_vectors::readings_of` meets its contract: each write is within the range.
+-- `test_tables::readings_of` meets its contract: each write is within the range.
 use Prim.Native.Nat.{_-_, _≤_}
 use borrow.Author.Needs.{needs}
 use Rattle.sums.specs.inner.Ranges.{Room}

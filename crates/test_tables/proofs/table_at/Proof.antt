@@ -1,4 +1,4 @@
--- `scatter_vectors::table_at` meets its contract: the readings are within the ranges.
+-- `test_tables::table_at` meets its contract: the readings are within the ranges.
 use mathlib.Core.Path.{sym}
 use native.Mathlib.Nat.{mul-le-mul}
 use native.Mathlib.Omega.{arith}

@@ -19,6 +19,8 @@ use Rattle.integer.specs.laws.Pair.{Rotated, rotated-squares, rotated-columns, 
 use Rattle.integer.specs.Matrix.{Matrix, Same, product, transpose, conjugate, diagonal, squares}
 use Rattle.integer.specs.laws.Matrix.{conjugate-cong, conjugate-rows, conjugate-diagonal, product-transpose, diagonal-same, diagonal-other}
 use Rattle.integer.specs.laws.Matrix.{diagonal-transpose, diagonal-*, dot-diagonal, dot-pair}
+use Rattle.choice.specs.Choice.{signOf}
+use Rattle.choice.specs.declared.Choice.the-variants.{Turn}
 use Rattle.turn.specs.Rotation.{rotationOf, signed}
 use Rattle.turn.specs.Turn.{atPair}
 use Rattle.turn.specs.laws.Place.{Place, at-p, at-q, neither, place, atPair-p, atPair-q, atPair-neither, places}
@@ -47,6 +49,12 @@ rotationOf-whole l minus = record {
       (linear-combination (pos (4 ^ l) ∷ pos (2 ^ l) ∷ []) (pos 4) (ap pos (square-of-power l)) (search reading depth 20) tt);
   positive = omega arith;
 }
+
+-- 's = f × 2^(l+1)', with f as the choice of a turn gives it
+pub rotationOf-sign : (l : ℕ) (minus : Bool) → rotationOf l minus .s ≡ signOf (Turn l minus) *ℤ pos (2 ^ (l + 1))
+unfolding rotationOf signed signOf
+rotationOf-sign l true = ring (pos (2 ^ (l + 1)) ∷ []) (search reading depth 20) tt
+rotationOf-sign l false = ring (pos (2 ^ (l + 1)) ∷ []) (search reading depth 20) tt
 
 module _ (r : Rotation) (n p q : ℕ) (l : p < q) (k : q < n) where
   row-p : (j : ℕ) → exact r p q p j ≡ atPair p q j (r .c) (r .s) (pos 0)

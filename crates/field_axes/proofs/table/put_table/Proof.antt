@@ -16,16 +16,16 @@ use Rattle.field_axes.proofs.table.put_table.Tie as tie
 -- the sums and the entries in use
 module _ (c : tie.After-table-of-readings) where
   sums : (let n = c .before .before .before .args .n in length (take (n * n) (c .table-of-readings .result .scatter)) ≡ n * n)
-  sums = rw (c .table-of-readings .ensures) (scatter-used _ _ (c .before .before .before .pre .readings .channels))
+  sums = rw (c .table-of-readings .ensures) (scatter-used _ (c .before .before .before .pre .readings .channels) _)
 
   entries : (let n = c .before .before .before .args .n in length (take (n * n) (c .table-of-readings .result .entries)) ≡ n * n)
-  entries = rw (c .table-of-readings .ensures) (entries-used _ _ (c .before .before .before .pre .readings .channels))
+  entries = rw (c .table-of-readings .ensures) (entries-used _ (c .before .before .before .pre .readings .channels) _)
 
   sums-within : (let n = c .before .before .before .args .n in n * n ≤ length (c .table-of-readings .result .scatter))
-  sums-within = rw (c .table-of-readings .ensures, length-scatter) (places _ (c .before .before .before .pre .readings .channels))
+  sums-within = let h = c .before .before .before .pre .readings .channels in rw (c .table-of-readings .ensures, length-scatter _ h) (places _ h)
 
   entries-within : (let n = c .before .before .before .args .n in n * n ≤ length (c .table-of-readings .result .entries))
-  entries-within = rw (c .table-of-readings .ensures, length-entries) (places _ (c .before .before .before .pre .readings .channels))
+  entries-within = let h = c .before .before .before .pre .readings .channels in rw (c .table-of-readings .ensures, length-entries _ h) (places _ h)
 
 put-requires-2 : tie.Need-put-requires-2
 put-requires-2 c κs =

@@ -1,4 +1,4 @@
--- `scatter_text::answer` meets its contract: 2,048 bytes are room for every text, and for the line of a refusal.
+-- `job_table::lines::answer` meets its contract: 2,048 bytes are room for every text, and for the line of a refusal.
 use Prim.Native.Nat.{_≤_}
 use mathlib.Core.Path.{_≡_}
 use native.Mathlib.Omega.{arith}

@@ -1,4 +1,4 @@
--- `scatter_text::table_job` meets its contract: the text is that of the job's table, and it is written where it fits.
+-- `job_table::lines::table_job` meets its contract: the text is that of the job's table, and it is written where it fits.
 use mathlib.Core.Path.{_≡_, ap, _∙_}
 use mathlib.Core.List.{[], _∷_}
 use Prim.Native.Nat.{_≤_}
@@ -15,7 +15,7 @@ use Rattle.job_table.specs.laws.Laws.{channels-held, samples-few, shift-
 use Rattle.scatter.specs.declared.table.Table.{Table}
 use Rattle.text.specs.Put.{Sized}
 use Rattle.text.specs.Rows.{Wide}
-use Rattle.job_table.specs.inner.Done.{textOf}
+use Rattle.job_table.specs.inner.Done.{textOfRows}
 use Rattle.job_table.specs.laws.TextLaws.{text-of-arrays}
 use Rattle.job_table.specs.laws.Rows.{rows-wide}
 use Rattle.job_table.specs.Table.{tableText}
@@ -33,11 +33,11 @@ module _ (c : tie.After-rows-of) where
   table = c .before .before .before .before .before .table-of .result
 
   -- What is written is the text of the job's table.
-  written : textOf (toZ w64 (job .n) ∷ toZ w64 (job .k) ∷ toZ w64 (table .e) ∷ []) (job .n) (c .rows-of .result) ≡ tableText (jobIn job)
+  written : textOfRows (toZ w64 (job .n) ∷ toZ w64 (job .k) ∷ toZ w64 (table .e) ∷ []) (job .n) (c .rows-of .result) ≡ tableText (jobIn job)
   written =
       let h = start .pre in
       let t = c .before .before .before .before .before .table-of .ensures in
-      ap (textOf _ (job .n)) (c .rows-of .ensures)
+      ap (textOfRows _ (job .n)) (c .rows-of .ensures)
       ∙ rw (
         toZ-pos w64 {n = job .n} (omega (arith, channels-held job h)),
         toZ-pos w64 {n = job .k} (omega (arith, samples-few job h)),

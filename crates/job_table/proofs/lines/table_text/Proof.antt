@@ -1,4 +1,4 @@
--- `scatter_text::table_text` meets its contract: the job's refusal is the answer, or the table of the job that was read.
+-- `job_table::lines::table_text` meets its contract: the job's refusal is the answer, or the table of the job that was read.
 use borrow.Author.Needs.{needs}
 use Rattle.job_table.specs.laws.Laws.{Read, accepted-read}
 use Rattle.job.specs.laws.Replying.{replies-answered, replies-refused}

@@ -1,14 +1,14 @@
--- `scatter_text::text_length` meets its contract: the first line, and the rows.
+-- `job_table::lines::text_length` meets its contract: the first line, and the rows.
 use native.Mathlib.Omega.{arith}
 use borrow.Author.Needs.{needs}
 use lib.ListN.{length-append}
 use Rattle.text.specs.laws.Numbers.{length-number-line}
-use Rattle.job_table.specs.inner.Done.{textOf}
+use Rattle.job_table.specs.inner.Done.{textOfRows}
 use Rattle.job_table.proofs.lines.text_length.Statement.{statement}
 use Rattle.job_table.proofs.lines.text_length.Tie as tie
 
 returns : tie.Need-returns
-unfolding textOf
+unfolding textOfRows
 returns c =
     let first = c .before .numbers-length .ensures in
     let rows = c .rows-length .ensures in

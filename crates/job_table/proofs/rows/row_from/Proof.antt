@@ -1,4 +1,4 @@
--- `scatter_text::rows::row_from` meets its contract: the row is written place after place.
+-- `job_table::rows::row_from` meets its contract: the row is written place after place.
 use mathlib.Core.Path.{_≡_, refl, sym, _∙_}
 use mathlib.Core.List.{List, [], _∷_, _++_}
 use native.Mathlib.Decide.{ℕ-discrete}

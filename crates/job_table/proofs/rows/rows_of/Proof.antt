@@ -1,13 +1,13 @@
--- `scatter_text::rows::rows_of` meets its contract.
+-- `job_table::rows::rows_of` meets its contract.
 use mathlib.Core.List.{[], _∷_}
 use borrow.Author.Needs.{needs}
 use Rattle.integer.specs.Tabulate.{tabulate}
-use Rattle.job_table.specs.inner.Rows.{rowsOf}
+use Rattle.job_table.specs.inner.Rows.{tableRows}
 use Rattle.job_table.proofs.rows.rows_of.Statement.{statement}
 use Rattle.job_table.proofs.rows.rows_of.Tie as tie
 
 returns : tie.Need-returns
-unfolding rowsOf tabulate
+unfolding tableRows tabulate
 returns c k =
     c .before .before .before .before .before .before .before .row-of .ensures k
     ∷ c .before .before .before .before .before .before .row-of2 .ensures k

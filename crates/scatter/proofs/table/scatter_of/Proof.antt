@@ -8,20 +8,21 @@ use borrow.Author.Needs.{needs}
 use lib.IntN.{pos}
 use Rattle.limits.specs.laws.Channels.{place-below}
 use Rattle.integer.specs.laws.Filled.{Filled, filled-none, filled-more}
-use Rattle.scatter.specs.Table.{scatter, padded}
+use Rattle.integer.specs.Padded.{padded}
+use Rattle.scatter.specs.inner.BySums.{scatterBySums}
 use Rattle.scatter.specs.laws.Bounds.{number-times-cross, channel-times-channel}
 use Rattle.scatter.proofs.Places.{zeros, S-stored, all-rows}
 use Rattle.scatter.proofs.table.scatter_of.Statement.{statement}
 use Rattle.scatter.proofs.table.scatter_of.Tie as tie
 
 abbrev Inv-loop2 : tie.InvT-loop2
-Inv-loop2 n t s₀ at₀ i j₀ s at j = (j ≤ n) × (at ≡ i * n + j) × Filled (pos 0) (padded (scatter n t)) zeros s at
+Inv-loop2 n t s₀ at₀ i j₀ s at j = (j ≤ n) × (at ≡ i * n + j) × Filled (pos 0) (padded 64 (pos 0) (scatterBySums n t)) zeros s at
 
 abbrev μ-loop2 : tie.MeasureT-loop2
 μ-loop2 n t s₀ at₀ i j₀ s at j = n - j
 
 abbrev Inv-loop : tie.InvT-loop
-Inv-loop n t s₀ at₀ i₀ s at i = (i ≤ n) × (at ≡ i * n) × Filled (pos 0) (padded (scatter n t)) zeros s at
+Inv-loop n t s₀ at₀ i₀ s at i = (i ≤ n) × (at ≡ i * n) × Filled (pos 0) (padded 64 (pos 0) (scatterBySums n t)) zeros s at
 
 abbrev μ-loop : tie.MeasureT-loop
 μ-loop n t s₀ at₀ i₀ s at i = n - i
@@ -56,7 +57,7 @@ loop2-again c =
       search needs,
       omega arith,
       filled-more (l .inv .2) (l .at) (l .at + 1) _ refl (omega arith) (omega (arith, room t, l .inv .2 .size))
-          (S-stored (a .args .n) (a .args .t2) (a .pre .1) (a .pre .0) _ _ (t .before .before .loop-test .taken) (t .loop2-test .taken) _ _ _
+          (S-stored (a .args .n) (a .args .t2) (a .pre .1) _ _ (t .before .before .loop-test .taken) (t .loop2-test .taken) _ _ _
           (c .difference .ensures) (c .before .before .before .before .place-of .ensures) (l .inv .1)),
     )
 

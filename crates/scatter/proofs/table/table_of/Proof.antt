@@ -1,7 +1,7 @@
 -- `scatter::table::table_of` meets its contract: each part is the definition's.
 use native.Mathlib.Omega.{arith}
 use borrow.Author.Needs.{needs}
-use Rattle.scatter.proofs.Assembled.{scatter-small, zero-from, most-small, shift-below, assembled}
+use Rattle.scatter.proofs.Assembled.{all-small, zero-from, most-small, shift-below, assembled}
 use Rattle.scatter.proofs.table.table_of.Statement.{statement}
 use Rattle.scatter.proofs.table.table_of.Tie as tie
 
@@ -25,7 +25,7 @@ entries-of-requires : tie.Need-entries-of-requires
 entries-of-requires c κs =
     let s = c .before .before .before .before in
     let a = s .before in (
-      scatter-small (a .args .n) (a .args .t) (a .pre .0) (a .pre .1) (s .scatter-of .ensures),
+      all-small (a .args .n) (a .args .t) (a .pre .0) (a .pre .1) (s .scatter-of .ensures),
       zero-from (a .args .n) (a .args .t) (a .pre .0) (a .pre .1) (s .scatter-of .ensures),
       shift-below (a .args .n) (a .args .t) (a .pre .0) (a .pre .1) (s .scatter-of .ensures) (c .before .before .largest-of .ensures)
           (c .before .shift-of .ensures),

@@ -1,5 +1,4 @@
--- What private functions promise: Document 01, 'From readings to a table': samples, their values z, and their sums. Samples and channels count
--- from 0 here.
+-- What a sample adds to the sums so far.
 use mathlib.Core.List.{List}
 use Prim.Native.Nat.{ℕ, _+_}
 use lib.ListN.{getD}

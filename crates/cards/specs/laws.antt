@@ -1,0 +1,5 @@
+pub mod Equal
+pub mod Limit
+pub mod Runs
+pub mod Printed
+pub mod Cards

@@ -1,0 +1,73 @@
+-- The runs of cards 5 and 12, computed.
+use Prim.Native.Nat.{ℕ, _-_, _+_, _≤_}
+use mathlib.Core.Path.{_≡_, refl, ap, _∙_}
+use mathlib.Core.Bool.{true, false}
+use mathlib.Core.List.{[], _∷_}
+use native.Mathlib.Omega.{arith}
+use lib.IntN.{pos}
+use Rattle.choice.specs.Choice.{choose, fits, minusSign, negative, smallestFit}
+use Rattle.choice.specs.Threshold.{threshold, u, w}
+use Rattle.integer.specs.RoundedUp.{roundedUp}
+use Rattle.integer.specs.Matrix.{diagonal, matrixOf}
+use Rattle.integer.specs.Sum.{sumℕ}
+use Rattle.integer.specs.Tabulate.{tabulate}
+use Rattle.ledger.specs.Axis.{errorOf}
+use Rattle.ledger.specs.Call.{axis, load, loosePair, sweep}
+use Rattle.ledger.specs.Pairs.{cyclic, row, rowsFrom}
+use Rattle.ledger.specs.Refusal.{equal, refusalOf, symmetric, entriesWithin}
+use Rattle.record.specs.Flat.{entriesOf, flatOf, keptEntry, rowsOf}
+use Rattle.record.specs.Loose.{looseOf}
+use Rattle.record.specs.Record.{acceptedOf, afterOf, answerOf, axisOf, fresh, loadedRecord, sweptOf, valueOf, workOf, workedOf}
+use Rattle.record.specs.Work.{chosen, workBy, workPair, workPairs}
+use Rattle.record.specs.declared.Record.{Record}
+use Rattle.record.specs.declared.query.Answer.the-variants.{Axis}
+use Rattle.rounding.specs.Rounding.{rnd}
+use Rattle.record.specs.Run.{noPair, noTurn, runFrom, tried}
+use Rattle.record.specs.declared.run.Run.{Run}
+use Rattle.run.specs.Run.{runOf}
+use Rattle.record.specs.declared.run.Outcome.the-variants.{Spent, Still}
+use Rattle.record.specs.laws.Running.{run-still, run-sweeps}
+use Rattle.turn.specs.InUse.{inUse}
+use Rattle.turn.specs.Rotation.{first, rotationOf, second, signed}
+use Rattle.turn.specs.Turn.{array, at, atPair, eight, hpp, hpq, hqp, hqq, newp, newpp, newpq, newq, newqq, turnAxes, turnMatrix, turned, turnedAxes}
+use Rattle.cards.specs.Cards.{neg, twoByTwo}
+
+-- card 5: the record before the sweep
+abbrev stuck : Record
+stuck = afterOf fresh (load 2 (twoByTwo (pos 0) (pos 1) (pos 1_048_576)))
+
+-- its pair is loose before and after a sweep, which makes no turn
+stays : (noPair (answerOf stuck (loosePair 0)) ≡ false) × (noTurn (answerOf stuck sweep) ≡ true) ×
+    (noPair (answerOf (afterOf stuck sweep) (loosePair 0)) ≡ false)
+unfolding noPair noTurn answerOf valueOf afterOf acceptedOf fresh loadedRecord inUse sweptOf workOf workedOf looseOf tabulate keptEntry entriesOf rowsOf
+    flatOf chosen workBy workPair workPairs cyclic rowsFrom row matrixOf equal symmetric entriesWithin refusalOf diagonal choose smallestFit fits threshold
+    roundedUp u w minusSign negative eight at
+stays = (refl, refl, refl)
+
+pub still : (limit : ℕ) → 1 ≤ limit → runOf 2 (twoByTwo (pos 0) (pos 1) (pos 1_048_576)) limit 0 .outcome ≡ Still
+unfolding runOf
+still limit h =
+    ap (λ (ran : Run). ran .outcome)
+    (run-sweeps limit 0 0 false stuck (stays .0) refl (limit - 1) (omega arith)
+    ∙ run-still (limit - 1) (0 + 1) 0 _ (afterOf stuck sweep) (stays .2) (stays .1))
+
+-- card 12: the run of the three samples' table
+abbrev pub threeRun : Run
+threeRun = runOf 2 (twoByTwo (pos 50) (pos 25) (pos 50)) 1 0
+
+-- `spent`, 1 sweep, m = 1, and the two axes
+pub record Spends : Type 0 where
+  pub outcome : threeRun .outcome ≡ Spent
+  pub sweeps : threeRun .sweeps ≡ 1
+  pub turns : threeRun .last .m ≡ 1
+  pub axis-1 : answerOf (threeRun .last) (axis 1) ≡ Axis (pos 26624) 7172
+  pub row-1 : axisOf (threeRun .last) 1 ≡ pos 644245094 ∷ neg 858993459 ∷ pos 0 ∷ pos 0 ∷ pos 0 ∷ pos 0 ∷ pos 0 ∷ pos 0 ∷ []
+  pub axis-2 : answerOf (threeRun .last) (axis 2) ≡ Axis (pos 75776) 7172
+  pub row-2 : axisOf (threeRun .last) 2 ≡ pos 858993459 ∷ pos 644245094 ∷ pos 0 ∷ pos 0 ∷ pos 0 ∷ pos 0 ∷ pos 0 ∷ pos 0 ∷ []
+
+pub spends : Spends
+unfolding runOf runFrom tried noPair noTurn answerOf valueOf afterOf acceptedOf axisOf fresh loadedRecord inUse sweptOf workOf workedOf looseOf tabulate
+    keptEntry entriesOf rowsOf flatOf chosen workBy workPair workPairs errorOf cyclic rowsFrom row matrixOf equal symmetric entriesWithin refusalOf diagonal
+    sumℕ choose smallestFit fits threshold roundedUp u w minusSign negative rotationOf signed first second turnMatrix turnAxes turnedAxes array
+    eight at turned newp newq newpp newpq newqq hpp hpq hqp hqq atPair rnd
+spends = record { outcome = refl; sweeps = refl; turns = refl; axis-1 = refl; row-1 = refl; axis-2 = refl; row-2 = refl }
