@@ -6,7 +6,7 @@ use borrow.Author.Tests.{eq-eqb, le-leb, lt-leb, ne-eqb}
 use lib.IntN.{ℤ}
 use Rattle.ledger.specs.Call.{load}
 use Rattle.ledger.specs.Refusal.{refusalOf}
-use Rattle.limits.specs.Limits.{toleranceLimit}
+use Rattle.limits.specs.Limits.{toleranceLimit, leastSweeps, mostSweeps}
 use Rattle.field_axes.specs.Solution.{solveRefusal}
 
 module _ (n : ℕ) (numbers : List ℤ) (limit t size : ℕ) where
@@ -22,20 +22,20 @@ module _ (n : ℕ) (numbers : List ℤ) (limit t size : ℕ) where
     module _ (low : 1 ≤ limit) where
       pub limit-high : 16 < limit → 2 ≡ solveRefusal n numbers limit t size
       unfolding solveRefusal
-      limit-high h = rw (eq-eqb _ 0 taken, le-leb 1 limit low, lt-leb limit 16 h)
+      limit-high h = rw (eq-eqb _ 0 taken, le-leb leastSweeps limit low, lt-leb limit mostSweeps h)
 
-      module _ (high : limit ≤ 16) where
+      module _ (high : limit ≤ mostSweeps) where
         pub tolerance-high : toleranceLimit < t → 2 ≡ solveRefusal n numbers limit t size
         unfolding solveRefusal
-        tolerance-high h = rw (eq-eqb _ 0 taken, le-leb 1 limit low, le-leb limit 16 high, lt-leb t toleranceLimit h)
+        tolerance-high h = rw (eq-eqb _ 0 taken, le-leb leastSweeps limit low, le-leb limit mostSweeps high, lt-leb t toleranceLimit h)
 
         module _ (within : t ≤ toleranceLimit) where
           pub buffer-short : size < 3 + n * (n + 2) → 12 ≡ solveRefusal n numbers limit t size
           unfolding solveRefusal
           buffer-short h = rw (
             eq-eqb _ 0 taken,
-            le-leb 1 limit low,
-            le-leb limit 16 high,
+            le-leb leastSweeps limit low,
+            le-leb limit mostSweeps high,
             le-leb t toleranceLimit within,
             lt-leb (3 + n * (n + 2)) size h,
           )
@@ -44,8 +44,8 @@ module _ (n : ℕ) (numbers : List ℤ) (limit t size : ℕ) where
           unfolding solveRefusal
           none-refused h = rw (
             eq-eqb _ 0 taken,
-            le-leb 1 limit low,
-            le-leb limit 16 high,
+            le-leb leastSweeps limit low,
+            le-leb limit mostSweeps high,
             le-leb t toleranceLimit within,
             le-leb (3 + n * (n + 2)) size h,
           )

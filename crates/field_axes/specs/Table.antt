@@ -14,7 +14,8 @@ use Rattle.limits.specs.Limits.{leastChannels, mostChannels, leastDilution, mos
 
 -- n from 2 to 8, dilutions from 1 to 100, counts up to 65,535
 unfoldable pub valuesWithin : ℕ → List ℕ → List ℕ → Bool
-valuesWithin n dilutions counts = leb leastChannels n && (leb n mostChannels && (allWithin leastDilution mostDilution dilutions && allWithin 0 mostCount counts))
+valuesWithin n dilutions counts =
+    leb leastChannels n && (leb n mostChannels && (allWithin leastDilution mostDilution dilutions && allWithin 0 mostCount counts))
 
 -- 'Values out of range get 2, counts that aren't n to a sample get 6, fewer than 2 or more than 256 samples get 3, a short buffer gets 12'
 unfoldable pub tableRefusal : ℕ → List ℕ → List ℕ → ℕ → ℕ

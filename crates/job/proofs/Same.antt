@@ -29,6 +29,7 @@ use Rattle.job.specs.inner.Scan.{newJob, refusedReading, finishedBy, fin
 use Rattle.job.specs.laws.Scan.{readingBy, readingAt}
 use Rattle.job.specs.declared.Reading.{Reading}
 use Rattle.job.proofs.Keeping.{kept-within}
+use Rattle.limits.specs.Limits.{leastChannels, mostChannels, leastSweeps, mostSweeps}
 
 refused-same : (number line : ℕ) → refusedReading number line ≡ readingOf (refused number line)
 unfolding refusedReading newJob readingOf inArrays padded
@@ -189,7 +190,8 @@ lines-are (l ∷ part ∷ parts) = refl
 
 few : (n limit tolerance : ℕ) → parametersInRange n limit tolerance ≡ true → n ≤ 8
 unfolding parametersInRange
-few n limit tolerance e = is-within 2 8 n (both (within 2 8 n) _ (both (within 2 8 n && within 1 16 limit) _ e .0) .0) .1
+few n limit tolerance e = is-within leastChannels mostChannels n
+    (both (within leastChannels mostChannels n) _ (both (within leastChannels mostChannels n && within leastSweeps mostSweeps limit) _ e .0) .0) .1
 
 few-by : (t : Bool) (a b c d n limit tolerance next : ℕ) → (t ≡ true → a ≤ 8) →
     cond t (First.Read a b c d) (First.Refused 2) ≡ First.Read n limit tolerance next → n ≤ 8

@@ -18,7 +18,7 @@ use Rattle.turn.specs.laws.Eight.{square-cong, square-of}
 use Rattle.turn.specs.Shape.{Shaped}
 use Rattle.turn.specs.Size.{Small}
 use Rattle.turn.specs.Turn.{at}
-use Rattle.limits.specs.Limits.{toleranceLimit}
+use Rattle.limits.specs.Limits.{toleranceLimit, mostSweeps}
 use Rattle.record.specs.laws.Accepted.{loose-pair-taken, sweep-taken, turns-suffice}
 use Rattle.record.specs.laws.After.{after-kept}
 use Rattle.record.specs.laws.Fill.{kept-flatOf}
@@ -110,7 +110,7 @@ pub begun : (refused n limit t : ℕ) (a v : List (List ℤ)) → Holds refused 
 begun refused n limit t a v h = record { is = rw sub-zero; within = omega arith; few = omega arith; holds = h }
 
 -- on what a run is given no call of it is refused
-module _ (refused n limit t : ℕ) (some : 1 ≤ n) (sixteen : limit ≤ 16) (tolerance : t ≤ toleranceLimit) where
+module _ (refused n limit t : ℕ) (some : 1 ≤ n) (sixteen : limit ≤ mostSweeps) (tolerance : t ≤ toleranceLimit) where
   module _ (m sweeps : ℕ) (z : Run) (a v : List (List ℤ)) (idle : Bool) (g : Going refused n limit t z a v m sweeps idle) where
     abbrev now : Record
     now = heldOf refused n m a v
@@ -139,7 +139,10 @@ module _ (refused n limit t : ℕ) (some : 1 ≤ n) (sixteen : limit ≤ 16) (to
             let goes = run-sweeps (limit - sweeps) sweeps t idle now loose i (limit - (sweeps + 1)) (omega (arith, g .within)) in
             let taken = sweep-taken n m some (turns-suffice n m sweeps (g .holds .keeps .size) (omega (arith, g .within)) (g .few)) in
             record {
-              is = g .is ∙ goes ∙ rw (swept-leaves refused n m a v (g .holds) taken made a′ v′ w, swept-idle refused n m a v (g .holds) taken made a′ v′ w);
+              is = g .is ∙ goes ∙ rw (
+                swept-leaves refused n m a v (g .holds) taken made a′ v′ w,
+                swept-idle refused n m a v (g .holds) taken made a′ v′ w,
+              );
               within = omega (arith, g .within);
               few = omega (arith, g .few, swept-more refused n m a v (g .holds) taken made a′ v′ w some);
               holds = swept-holds refused n m a v (g .holds) taken made a′ v′ w;

@@ -7,7 +7,7 @@ use Rattle.job.specs.Job.{Job}
 use Rattle.job.specs.Values.{Proper}
 use Rattle.job_table.specs.Held.{samplesOf, tableFor}
 use Rattle.job_table.specs.laws.Laws.{channels, limit-most, tolerance-most}
-use Rattle.limits.specs.Limits.{turnLimit}
+use Rattle.limits.specs.Limits.{turnLimit, mostSweeps}
 use Rattle.run.specs.Run.{Allowed}
 use Rattle.run.specs.laws.Calls.{AsCalls, run-calls}
 use Rattle.run.specs.laws.Course.{run-ends, run-kept}
@@ -15,7 +15,7 @@ use Rattle.run.specs.laws.Table.{table-allowed}
 use Rattle.report.specs.Certified.{loadedFor}
 use Rattle.report.specs.Report.{runFor}
 
-pub sweeps-most : (j : Job) → Proper j → runFor j .sweeps ≤ 16
+pub sweeps-most : (j : Job) → Proper j → runFor j .sweeps ≤ mostSweeps
 unfolding runFor
 sweeps-most j p = le-trans (run-ends (j .n) (take (j .n * j .n) (tableFor j .entries)) (j .limit) (j .tolerance) .within) (limit-most j p)
 

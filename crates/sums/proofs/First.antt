@@ -16,6 +16,7 @@ use Rattle.sums.specs.laws.Sums.{totals-more}
 use Rattle.sums.specs.Ranges.{Readings}
 use Rattle.sums.specs.inner.Ranges.{InRange, Room}
 use Rattle.sums.specs.laws.Bounds.{sample-in-range, all-in-range, totals-bound}
+use Rattle.limits.specs.Limits.{mostSamples}
 
 module _ (n : ℕ) (dilutions counts : List ℕ) (r : Readings n dilutions counts) (s start : ℕ) (more : s < length dilutions) (e : start ≡ n * s) where
   pub next-start : start + n ≡ n * (s + 1)
@@ -45,7 +46,7 @@ module _ (n : ℕ) (dilutions counts : List ℕ) (r : Readings n dilutions count
     sums-next g = g ∙ rw (f, the-sample, add-one, tabulate-suc)
         (totals-more m v (tabulate s (sampleAt n dilutions counts)) (sampleAt n dilutions counts s))
 
-    pub sums-room : (b : ℕ) → ((s : Sample) → InRange s → (p : ℕ) → v s p ≤ b) → Room m (256 * b) xs
+    pub sums-room : (b : ℕ) → ((s : Sample) → InRange s → (p : ℕ) → v s p ≤ b) → Room m (mostSamples * b) xs
     unfolding totals
     sums-room b h =
         record {
@@ -54,7 +55,7 @@ module _ (n : ℕ) (dilutions counts : List ℕ) (r : Readings n dilutions count
               (rw length-tabulate (mul-le-mul-right b s-most)));
         }
       where
-        s-most : s ≤ 256
+        s-most : s ≤ mostSamples
         s-most = omega (arith, r .number)
 
 -- after the last one

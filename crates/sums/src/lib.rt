@@ -6,6 +6,7 @@ ghost use Rattle.sums.specs.Sums.{products, sumsOf};
 ghost use Rattle.sums.specs.Ranges.{Readings};
 ghost use Rattle.sums.specs.inner.Raised.{raised};
 ghost use Rattle.sums.specs.inner.Ranges.{InRange, Room, zLimit};
+ghost use Rattle.limits.specs.Limits.{mostSamples};
 
 // A cross sum of the channels i ≤ j, counted from 0, stands at 8 × i + j; any other place is 0.
 pub struct Sums {
@@ -23,7 +24,7 @@ fn product(a: u32, b: u32) -> u64
 
 // A sample's values, added to the channel sums.
 fn add_values(dilution: u32, counts: &[u32], channel: &mut [u64; 8])
-    requires { ⌜ InRange (sample dilution (now counts)) × Room 8 (256 * zLimit) (now channel) ⌝ }
+    requires { ⌜ InRange (sample dilution (now counts)) × Room 8 (mostSamples * zLimit) (now channel) ⌝ }
     ensures { λ r. ⌜ now (channel .exit) ≡ raised 8 (z (sample dilution (now (counts .entry)))) (now (channel .entry)) ⌝ }
 {
     let mut i = 0;
@@ -35,7 +36,7 @@ fn add_values(dilution: u32, counts: &[u32], channel: &mut [u64; 8])
 
 // A sample's products, added to the cross sums: z_i × z_j as (z_i × dilution) × count_j, so that each is one multiplication, of 32 bits by 32.
 fn add_products(dilution: u32, counts: &[u32], cross: &mut [u64; 64])
-    requires { ⌜ InRange (sample dilution (now counts)) × Room 64 (256 * (zLimit * zLimit)) (now cross) ⌝ }
+    requires { ⌜ InRange (sample dilution (now counts)) × Room 64 (mostSamples * (zLimit * zLimit)) (now cross) ⌝ }
     ensures { λ r. ⌜ now (cross .exit) ≡ raised 64 (products (sample dilution (now (counts .entry)))) (now (cross .entry)) ⌝ }
 {
     let mut i = 0;

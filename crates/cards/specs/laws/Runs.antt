@@ -39,8 +39,10 @@ stuck = afterOf fresh (load 2 (twoByTwo (pos 0) (pos 1) (pos 1_048_576)))
 -- its pair is loose before and after a sweep, which makes no turn
 stays : (noPair (answerOf stuck (loosePair 0)) ≡ false) × (noTurn (answerOf stuck sweep) ≡ true) ×
     (noPair (answerOf (afterOf stuck sweep) (loosePair 0)) ≡ false)
-unfolding noPair noTurn answerOf valueOf afterOf acceptedOf fresh loadedRecord inUse sweptOf workOf workedOf looseOf tabulate keptEntry entriesOf rowsOf
-    flatOf chosen workBy workPair workPairs cyclic rowsFrom row matrixOf equal symmetric entriesWithin refusalOf diagonal choose smallestFit fits threshold
+unfolding noPair noTurn answerOf valueOf afterOf acceptedOf fresh loadedRecord inUse sweptOf workOf workedOf looseOf tabulate keptEntry entriesOf
+    rowsOf
+    flatOf chosen workBy workPair workPairs cyclic rowsFrom row matrixOf equal symmetric entriesWithin refusalOf diagonal choose smallestFit fits
+    threshold
     roundedUp u w minusSign negative eight at
 stays = (refl, refl, refl)
 
@@ -66,8 +68,10 @@ pub record Spends : Type 0 where
   pub row-2 : axisOf (threeRun .last) 2 ≡ pos 858993459 ∷ pos 644245094 ∷ pos 0 ∷ pos 0 ∷ pos 0 ∷ pos 0 ∷ pos 0 ∷ pos 0 ∷ []
 
 pub spends : Spends
-unfolding runOf runFrom tried noPair noTurn answerOf valueOf afterOf acceptedOf axisOf fresh loadedRecord inUse sweptOf workOf workedOf looseOf tabulate
-    keptEntry entriesOf rowsOf flatOf chosen workBy workPair workPairs errorOf cyclic rowsFrom row matrixOf equal symmetric entriesWithin refusalOf diagonal
+unfolding runOf runFrom tried noPair noTurn answerOf valueOf afterOf acceptedOf axisOf fresh loadedRecord inUse sweptOf workOf workedOf looseOf
+    tabulate
+    keptEntry entriesOf rowsOf flatOf chosen workBy workPair workPairs errorOf cyclic rowsFrom row matrixOf equal symmetric entriesWithin refusalOf
+    diagonal
     sumℕ choose smallestFit fits threshold roundedUp u w minusSign negative rotationOf signed first second turnMatrix turnAxes turnedAxes array
     eight at turned newp newq newpp newpq newqq hpp hpq hqp hqq atPair rnd
 spends = record { outcome = refl; sweeps = refl; turns = refl; axis-1 = refl; row-1 = refl; axis-2 = refl; row-2 = refl }

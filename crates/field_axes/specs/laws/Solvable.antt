@@ -14,7 +14,7 @@ use borrow.Author.Tests.{eqb-true, eqb-false}
 use Rattle.ledger.specs.laws.Accepted.{load-accepted, passed}
 use Rattle.ledger.specs.Call.{load}
 use Rattle.ledger.specs.Refusal.{refusalOf}
-use Rattle.limits.specs.Limits.{toleranceLimit}
+use Rattle.limits.specs.Limits.{toleranceLimit, leastSweeps, mostSweeps}
 use Rattle.report.specs.laws.AxisNumbers.{length-row, length-values}
 use Rattle.record.specs.Record.{axisOf}
 use Rattle.record.specs.declared.Record.{Record}
@@ -33,10 +33,10 @@ pub solvable : (n : ℕ) (numbers : List ℤ) (limit t size : ℕ) → solveRefu
 unfolding solveRefusal
 solvable n numbers limit t size e =
     let load = neither (refusalOf 0 0 (load n numbers)) _ e in
-    let ranges = passed (leb 1 limit && (leb limit 16 && leb t toleranceLimit)) 2 _ (load .1) (omega arith) in
-    let upper = and-yes (leb limit 16) (leb t toleranceLimit) (and-yes (leb 1 limit) _ (ranges .0) .1) in
+    let ranges = passed (leb leastSweeps limit && (leb limit mostSweeps && leb t toleranceLimit)) 2 _ (load .1) (omega arith) in
+    let upper = and-yes (leb limit mostSweeps) (leb t toleranceLimit) (and-yes (leb leastSweeps limit) _ (ranges .0) .1) in
     record {
-      allowed = record { matrix = load .0; sweeps = leb→le limit 16 (upper .0); tolerance = leb→le t toleranceLimit (upper .1) };
+      allowed = record { matrix = load .0; sweeps = leb→le limit mostSweeps (upper .0); tolerance = leb→le t toleranceLimit (upper .1) };
       room = leb→le _ size (passed (leb (3 + n * (n + 2)) size) 12 0 (ranges .1) (omega arith) .0);
     }
 

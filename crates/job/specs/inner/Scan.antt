@@ -17,7 +17,14 @@ use Rattle.limits.specs.Limits.{mostChannels, mostSamples}
 
 unfoldable pub newJob : ℕ → ℕ → ℕ → Job
 newJob n limit tolerance =
-    record { n = n; limit = limit; tolerance = tolerance; k = 0; dilutions = replicate mostSamples 0; counts = replicate (mostSamples * mostChannels) 0 }
+    record {
+      n = n;
+      limit = limit;
+      tolerance = tolerance;
+      k = 0;
+      dilutions = replicate mostSamples 0;
+      counts = replicate (mostSamples * mostChannels) 0;
+    }
 
 unfoldable pub refusedReading : ℕ → ℕ → Reading
 refusedReading number line = record { outcome = Whole.Refused number line; job = newJob 0 0 0 }

@@ -20,17 +20,20 @@ use Rattle.scatter.specs.laws.Bounds.{readings-shift}
 use Rattle.sums.specs.Ranges.{Readings}
 use Rattle.job.specs.Range.{parametersInRange}
 use Rattle.job_table.specs.Held.{Held, jobIn, samplesOf, tableFor}
+use Rattle.limits.specs.Limits.{leastDilution, mostDilution, mostCount, leastSamples, mostSamples, leastChannels, mostChannels, leastSweeps}
+use Rattle.limits.specs.Limits.{mostSweeps, toleranceLimit}
 
 module _ (j : Job) (p : Proper j) where
-  ranges : (parametersInRange (j .n) (j .limit) (j .tolerance) ≡ true) × (allWithin 1 100 (j .dilutions) ≡ true) ×
-      (allWithin 0 65535 (j .counts) ≡ true)
+  ranges : (parametersInRange (j .n) (j .limit) (j .tolerance) ≡ true) × (allWithin leastDilution mostDilution (j .dilutions) ≡ true) ×
+      (allWithin 0 mostCount (j .counts) ≡ true)
   unfolding inRange
   ranges =
       let b = both _ _ (p .ranges) in
       let d = both _ _ (b .0) in
       (d .0, d .1, b .1)
 
-  parameters : (within 2 8 (j .n) ≡ true) × (within 1 16 (j .limit) ≡ true) × (within 0 1048576 (j .tolerance) ≡ true)
+  parameters : (within leastChannels mostChannels (j .n) ≡ true) × (within leastSweeps mostSweeps (j .limit) ≡ true) ×
+      (within 0 toleranceLimit (j .tolerance) ≡ true)
   unfolding parametersInRange
   parameters =
       let b = both _ _ (ranges .0) in
@@ -38,16 +41,16 @@ module _ (j : Job) (p : Proper j) where
       (d .0, d .1, b .1)
 
   pub channels : (2 ≤ j .n) × (j .n ≤ 8)
-  channels = is-within 2 8 (j .n) (parameters .0)
+  channels = is-within leastChannels mostChannels (j .n) (parameters .0)
 
-  pub limit-most : j .limit ≤ 16
-  limit-most = is-within 1 16 (j .limit) (parameters .1) .1
+  pub limit-most : j .limit ≤ mostSweeps
+  limit-most = is-within leastSweeps mostSweeps (j .limit) (parameters .1) .1
 
-  pub tolerance-most : j .tolerance ≤ 1048576
-  tolerance-most = is-within 0 1048576 (j .tolerance) (parameters .2) .1
+  pub tolerance-most : j .tolerance ≤ toleranceLimit
+  tolerance-most = is-within 0 toleranceLimit (j .tolerance) (parameters .2) .1
 
-  pub number : (2 ≤ length (j .dilutions)) × (length (j .dilutions) ≤ 256)
-  number = is-within 2 256 (length (j .dilutions)) (p .samples)
+  pub number : (leastSamples ≤ length (j .dilutions)) × (length (j .dilutions) ≤ mostSamples)
+  number = is-within leastSamples mostSamples (length (j .dilutions)) (p .samples)
 
   pub readings : Readings (j .n) (j .dilutions) (j .counts)
   readings =
@@ -55,8 +58,8 @@ module _ (j : Job) (p : Proper j) where
         channels = channels .1;
         number = number .1;
         counted = p .counted ∙ mul-comm (length (j .dilutions)) (j .n);
-        dilution = all-at 1 100 (j .dilutions) (ranges .1);
-        count = all-at 0 65535 (j .counts) (ranges .2);
+        dilution = all-at leastDilution mostDilution (j .dilutions) (ranges .1);
+        count = all-at 0 mostCount (j .counts) (ranges .2);
       }
 
   pub shift-few : tableFor j .e < 62
@@ -73,7 +76,7 @@ module _ (a : arrays.Job) (h : Held a) where
   unfolding jobIn
   channels-held = channels (jobIn a) (h .proper) .1
 
-  pub samples-few : a .k ≤ 256
+  pub samples-few : a .k ≤ mostSamples
   samples-few = rw (samples-held a h) at (number (jobIn a) (h .proper) .1)
 
   pub counts-few : a .k * a .n ≤ 2048

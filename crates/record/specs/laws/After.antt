@@ -70,7 +70,14 @@ worked-kept r w b k =
 
 refused-kept : (r : Record) → Kept r → Kept (refusedOf r)
 unfolding refusedOf workOf
-refused-kept r k = record { size = k .size; channels = k .channels; turns = k .turns; work = k .work; matrix-length = k .matrix-length; axes-length = k .axes-length }
+refused-kept r k = record {
+  size = k .size;
+  channels = k .channels;
+  turns = k .turns;
+  work = k .work;
+  matrix-length = k .matrix-length;
+  axes-length = k .axes-length;
+}
 
 turned-kept : (r : Record) (p q : ℕ) → Kept r → refusalOf (r .n) (r .m) (turn p q) ≡ 0 → Kept (turnedOf r p q)
 unfolding turnedOf workedOf workOf

@@ -10,7 +10,7 @@ use lib.ListN.{length}
 use Rattle.ledger.specs.laws.Accepted as given
 use Rattle.ledger.specs.Call.{Call, axis, load, loosePair, sweep}
 use Rattle.ledger.specs.laws.Cyclic.{cyclic-length}
-use Rattle.limits.specs.Limits.{toleranceLimit}
+use Rattle.limits.specs.Limits.{toleranceLimit, mostSweeps}
 use Rattle.ledger.specs.Pairs.{cyclic}
 use Rattle.ledger.specs.Refusal.{refusalOf}
 use Rattle.record.specs.laws.Accepted.{after-accepted, loose-pair-taken, sweep-taken, turns-suffice}
@@ -79,7 +79,8 @@ module _ (n t : ℕ) (low : 1 ≤ n) (high : n ≤ 8) (h : t ≤ toleranceLimit)
       let a = loose-pair-taken (r .n) (r .m) (omega (arith, e)) t h in
       (a, after-accepted r (loosePair t) a)
 
-  sweep-leaves : (sweeps : ℕ) (r : Record) → Swept sweeps r → sweeps < 16 → (refusalOf (r .n) (r .m) sweep ≡ 0) × Swept (suc sweeps) (afterOf r sweep)
+  sweep-leaves : (sweeps : ℕ) (r : Record) → Swept sweeps r → sweeps < mostSweeps →
+      (refusalOf (r .n) (r .m) sweep ≡ 0) × Swept (suc sweeps) (afterOf r sweep)
   unfolding acceptedOf sweptOf workedOf workOf
   sweep-leaves sweeps r s l = (a, rw (after-accepted r sweep a) (record { channels = s .channels; turns = grown }))
     where
@@ -111,7 +112,8 @@ module _ (n t : ℕ) (low : 1 ≤ n) (high : n ≤ 8) (h : t ≤ toleranceLimit)
         swept = rw (k, e) s;
       }
 
-  course-rounds : {left sweeps : ℕ} {idle : Bool} {r : Record} {z : Run} → Course t left sweeps idle r z → Swept sweeps r → sweeps + left ≤ 16 →
+  course-rounds : {left sweeps : ℕ} {idle : Bool} {r : Record} {z : Run} → Course t left sweeps idle r z → Swept sweeps r →
+      sweeps + left ≤ mostSweeps →
       Rounds sweeps r z
   unfolding NoneRefused rounds afterFrom
   course-rounds (settles e) s l = stopped _ _ _ s refl refl

@@ -5,7 +5,7 @@ use Prim.Native.Nat.{ℕ, _*_, _≤_}
 use lib.ListN.{take}
 use Rattle.ledger.specs.laws.Accepted.{Loads}
 use Rattle.ledger.specs.Call.{load}
-use Rattle.limits.specs.Limits.{toleranceLimit}
+use Rattle.limits.specs.Limits.{toleranceLimit, mostSweeps}
 use Rattle.ledger.specs.Refusal.{refusalOf}
 use Rattle.scatter.specs.laws.Entries.{entries-symmetric, entries-within, length-entries, length-scatter, table-entries}
 use Rattle.scatter.specs.Table.{entries, scatter, tableOf}
@@ -27,6 +27,6 @@ module _ (n : ℕ) (ss : List Sample) (low : 2 ≤ n) (high : n ≤ 8) where
   pub table-accepted : refusalOf 0 0 (load n (take (n * n) (tableOf n ss .entries))) ≡ 0
   table-accepted = rw (table-entries n ss) (load-taken 0 0 n _ entries-load)
 
-  pub table-allowed : (limit tolerance : ℕ) → limit ≤ 16 → tolerance ≤ toleranceLimit →
+  pub table-allowed : (limit tolerance : ℕ) → limit ≤ mostSweeps → tolerance ≤ toleranceLimit →
       Allowed n (take (n * n) (tableOf n ss .entries)) limit tolerance
   table-allowed limit tolerance l k = record { matrix = table-accepted; sweeps = l; tolerance = k }

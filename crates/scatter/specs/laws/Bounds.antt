@@ -19,26 +19,31 @@ use Rattle.scatter.specs.inner.BySums.{SBySums, scatterBySums}
 use Rattle.scatter.specs.inner.Ranges.{Roundable}
 use Rattle.scatter.specs.laws.BySums.{scatter-by-sums}
 use Rattle.scatter.specs.laws.Shift.{largest-least, smallest-found, shift-small}
+use Rattle.limits.specs.Limits.{mostSamples}
 
 difference-within : (a b m : ℕ) → a ≤ m → b ≤ m → natAbs (pos a -ℤ pos b) ≤ m
 difference-within a b m h g = omega (arith, natAbs--ℤ a b)
 
 module _ (t : Sums) (b : Bounded t) where
-  pub number-times-cross : (p : ℕ) → t .k * getD (t .cross) p 0 ≤ 256 * (256 * (zLimit * zLimit))
+  pub number-times-cross : (p : ℕ) → t .k * getD (t .cross) p 0 ≤ mostSamples * (mostSamples * (zLimit * zLimit))
   number-times-cross p =
       mul-le-mul (b .number)
       (le-trans (b .cross p) (mul-le-mul {n₁ = t .k} {m₁ = zLimit * zLimit} (b .number) (le-refl (zLimit * zLimit))))
 
-  channel-most : (i : ℕ) → getD (t .channel) i 0 ≤ 256 * zLimit
+  channel-most : (i : ℕ) → getD (t .channel) i 0 ≤ mostSamples * zLimit
   channel-most i = omega (arith, b .channel i, b .number)
 
-  pub channel-times-channel : (i j : ℕ) → getD (t .channel) i 0 * getD (t .channel) j 0 ≤ 256 * (256 * (zLimit * zLimit))
+  pub channel-times-channel : (i j : ℕ) → getD (t .channel) i 0 * getD (t .channel) j 0 ≤ mostSamples * (mostSamples * (zLimit * zLimit))
   channel-times-channel i j = mul-le-mul (channel-most i) (channel-most j)
 
   pub S-small : (i j : ℕ) → natAbs (SBySums t i j) < 2 ^ 62
   unfolding SBySums
   S-small i j =
-      omega (arith, difference-within _ _ (256 * (256 * (zLimit * zLimit))) (number-times-cross (8 * min i j + max i j)) (channel-times-channel i j))
+      omega (
+        arith,
+        difference-within _ _ (mostSamples * (mostSamples * (zLimit * zLimit))) (number-times-cross (8 * min i j + max i j))
+            (channel-times-channel i j),
+      )
 
   pub scatter-small : (n p : ℕ) → natAbs (getD (scatterBySums n t) p (pos 0)) < 2 ^ 62
   unfolding scatterBySums

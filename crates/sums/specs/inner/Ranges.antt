@@ -5,16 +5,17 @@ use Prim.Native.Nat.{ℕ, _*_, _≤_}
 use lib.ListN.{length, getD}
 use Rattle.sums.specs.Samples.{Sample}
 use Rattle.sums.specs.declared.Sums.{Sums}
+use Rattle.limits.specs.Limits.{mostDilution, mostCount, mostSamples}
 
 -- One sample of readings within the ranges
 pub record InRange (s : Sample) : Type 0 where
   pub channels : length (s .counts) ≤ 8
-  pub dilution : s .dilution ≤ 100
-  pub count : (i : ℕ) → getD (s .counts) i 0 ≤ 65_535
+  pub dilution : s .dilution ≤ mostDilution
+  pub count : (i : ℕ) → getD (s .counts) i 0 ≤ mostCount
 
 -- The greatest value z: 65,535 × 100
 abbrev pub zLimit : ℕ
-zLimit = 6_553_500
+zLimit = mostCount * mostDilution
 
 -- m places, none above b
 pub record Room (m b : ℕ) (xs : List ℕ) : Type 0 where
@@ -23,6 +24,6 @@ pub record Room (m b : ℕ) (xs : List ℕ) : Type 0 where
 
 -- Sums of at most 256 samples within the ranges
 pub record Bounded (t : Sums) : Type 0 where
-  pub number : t .k ≤ 256
+  pub number : t .k ≤ mostSamples
   pub channel : (i : ℕ) → getD (t .channel) i 0 ≤ t .k * zLimit
   pub cross : (p : ℕ) → getD (t .cross) p 0 ≤ t .k * (zLimit * zLimit)

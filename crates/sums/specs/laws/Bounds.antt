@@ -14,6 +14,7 @@ use Rattle.sums.specs.Sums.{products, totals, sumsOf}
 use Rattle.sums.specs.Ranges.{Readings}
 use Rattle.sums.specs.inner.Ranges.{InRange, zLimit, Bounded}
 use Rattle.sums.specs.laws.Samples.{noSample}
+use Rattle.limits.specs.Limits.{mostCount, mostSamples}
 
 -- every sample of a list is in range
 abbrev pub AllInRange : List Sample → Type 0
@@ -40,7 +41,7 @@ unfolding totals
 totals-bound m v b h ss r =
     tabulate-all (λ x. x ≤ length ss * b) m (λ p. total (λ s. v s p) ss) 0 (omega arith) (λ p. total-bound (λ s. v s p) b ss (λ s. h _ (r s) p))
 
-pub sums-bounded : (ss : List Sample) → length ss ≤ 256 → AllInRange ss → Bounded (sumsOf ss)
+pub sums-bounded : (ss : List Sample) → length ss ≤ mostSamples → AllInRange ss → Bounded (sumsOf ss)
 unfolding sumsOf
 sums-bounded ss h r =
     record { number = h; channel = totals-bound 8 z zLimit z-bound ss r; cross = totals-bound 64 products (zLimit * zLimit) products-bound ss r }
@@ -59,7 +60,7 @@ module _ (n : ℕ) (dilutions counts : List ℕ) (r : Readings n dilutions count
       record {
         channels = rw length-take (omega (arith, r .channels));
         dilution = r .dilution s;
-        count = take-bound 65_535 n (drop (n * s) counts) (λ j. rw getD-drop (r .count (n * s + j)));
+        count = take-bound mostCount n (drop (n * s) counts) (λ j. rw getD-drop (r .count (n * s + j)));
       }
 
   pub all-in-range : (m : ℕ) → AllInRange (tabulate m (sampleAt n dilutions counts))

@@ -69,7 +69,8 @@ returns c =
     let r = s .args .t1 in
     let is-record = itself r (s .args .limit) (s .args .tolerance) (s .pre) _ _ (first .unpacked .ensures) (second .unpacked2 .ensures) in
     record {
-      is = ap (stop (ran .run-rows .result .outcome) (ran .run-rows .result .sweeps)) (c .with-rows .ensures) ∙ ran .run-rows .ensures .is (r .refused)
+      is = ap (stop (ran .run-rows .result .outcome) (ran .run-rows .result .sweeps)) (c .with-rows .ensures)
+          ∙ ran .run-rows .ensures .is (r .refused)
           ∙ ap (runFrom (s .args .limit) 0 false (s .args .tolerance)) is-record;
       keeps = rw (c .with-rows .ensures) (ran .run-rows .ensures .holds (r .refused) .keeps);
     }

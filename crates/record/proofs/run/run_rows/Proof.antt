@@ -62,7 +62,8 @@ loop-again c = λ k.
     let swept = c .before .before .before in
     let l = swept .before .before .before .before .before in
     let given = l .before .pre in
-    sweeps-on k _ _ _ (given .loaded) (given .sweeps) (given .tolerated) _ _ _ _ _ _ (l .loop .inv k) _ (swept .before .before .before .is-settled .ensures)
+    sweeps-on k _ _ _ (given .loaded) (given .sweeps) (given .tolerated) _ _ _ _ _ _ (l .loop .inv k) _
+    (swept .before .before .before .is-settled .ensures)
     (swept .before .before .if1 .left) (swept .before .if2 .left) (swept .if3 .left) _ _ _ (c .work-pairs .ensures)
 
 pub run-rows-spec : {M : Type 1} → statement M

@@ -55,7 +55,8 @@ turn-matrix-requires : tie.Need-turn-matrix-requires
 unfolding chosen
 turn-matrix-requires c κs =
     let s = c .before .before .before .before .before .before .before .before .before in
-    let chose = sym (c .before .before .before .before .before .before .before .choice-at .ensures) ∙ c .before .before .before .before .before .l .given .1 in
+    let chose = sym (c .before .before .before .before .before .before .before .choice-at .ensures)
+    ∙ c .before .before .before .before .before .l .given .1 in
     let range = l-range (s .args .n) (work s) (pair s) _ _ chose in (
       s .pre .0,
       s .pre .1,

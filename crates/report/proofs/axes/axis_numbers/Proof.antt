@@ -49,7 +49,8 @@ returns-2 c =
     let f : SFits w64 (pos (c .before .before .value .given .0 .1 .0)) = error-fits (c .before) in
     let h : SFits w64 (c .before .before .value .given .0 .0) = search needs in
     let g : SFits w64 (pos (start a .args .i)) = record { sfits = omega (arith, start a .pre .2, start a .pre .0 .size) } in
-    c .numbers-of2 .ensures ∙ rw (toZ-ofZ g, toZ-ofZ h, toZ-ofZ f) (numbers-by (start a .args .r) (start a .args .i) _ _ _ _ (a .axis .ensures .answers) (a .axis .ensures .row) told)
+    c .numbers-of2 .ensures ∙ rw (toZ-ofZ g, toZ-ofZ h, toZ-ofZ f)
+    (numbers-by (start a .args .r) (start a .args .i) _ _ _ _ (a .axis .ensures .answers) (a .axis .ensures .row) told)
 
 pub axis-numbers-spec : {M : Type 1} → statement M
 axis-numbers-spec =
