@@ -1,4 +1,5 @@
 pub mod Threshold
 pub mod Choice
+pub mod Rule
 pub mod Widest
 pub mod laws

@@ -1,2 +1,2 @@
 pub mod Threshold
-pub mod Chosen
+pub mod Smallest

@@ -2,9 +2,8 @@
 use mathlib.Core.Path.{_≡_}
 use mathlib.Core.Bool.{Bool}
 use Prim.Native.Nat.{ℕ, _≤_}
-use native.Mathlib.Omega.{arith}
 use Rattle.ledger.specs.Pairs.{Pair}
-use Rattle.choice.specs.laws.Chosen.{chosen-from}
+use Rattle.choice.specs.laws.Smallest.{chosen-rule}
 use Rattle.choice.specs.declared.Choice.the-variants.{NoTurn, Turn}
 use Rattle.record.specs.Work.{Work, chosen, workBy, workPair}
 
@@ -19,4 +18,4 @@ module _ (n : ℕ) (w : Work) (pair : Pair) where
 
   pub l-range : (l : ℕ) (minus : Bool) → chosen w pair ≡ Turn l minus → (1 ≤ l) × (l ≤ 14)
   unfolding chosen
-  l-range l minus e = let f = chosen-from _ _ _ l minus e in (f .least, omega (arith, f .most))
+  l-range l minus e = let rule = chosen-rule _ _ _ l minus e in (rule .size .low, rule .size .high)
