@@ -7,6 +7,7 @@ use native.Mathlib.Omega.{arith}
 use lib.ListN.{getD, set, take, replicate, length-replicate, length-set}
 use lib.Seq.{length-take-le, getD-set-same, getD-set-other}
 use Rattle.integer.specs.laws.Tabulate.{getD-repeated}
+use Rattle.limits.specs.Limits.{mostChannels, mostSamples, mostDilution, mostCount}
 use Rattle.sums.specs.Ranges.{Readings}
 use Rattle.sums.specs.inner.Ranges.{Room}
 use Rattle.sums.specs.laws.Bounds.{take-bound}
@@ -22,13 +23,14 @@ module _ {m b : ℕ} where
       most q (yes e) = rw (e, getD-set-same xs p v 0 (omega (arith, r .size))) l
       most q (no f) = rw (getD-set-other xs p q v 0 f) (r .most q)
 
-pub readings : {m l : ℕ} (n k : ℕ) {dilutions counts : List ℕ} → Room m 100 dilutions → Room l 65_535 counts → n ≤ 8 → k ≤ 256 → k ≤ m → n * k ≤ l →
+pub readings : {m l : ℕ} (n k : ℕ) {dilutions counts : List ℕ} → Room m mostDilution dilutions → Room l mostCount counts →
+    n ≤ mostChannels → k ≤ mostSamples → k ≤ m → n * k ≤ l →
     Readings n (take k dilutions) (take (n * k) counts)
 readings n k {dilutions} {counts} r q h g f e =
     record {
       channels = h;
       number = rw (length-take-le k dilutions (omega (arith, r .size))) g;
       counted = rw (length-take-le k dilutions (omega (arith, r .size))) (length-take-le (n * k) counts (omega (arith, q .size)));
-      dilution = take-bound 100 k dilutions (r .most);
-      count = take-bound 65_535 (n * k) counts (q .most);
+      dilution = take-bound mostDilution k dilutions (r .most);
+      count = take-bound mostCount (n * k) counts (q .most);
     }

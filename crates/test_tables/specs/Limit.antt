@@ -1,7 +1,8 @@
 -- The greatest count and the greatest dilution.
 use mathlib.Core.Bool.{Bool, true, false}
 use Prim.Native.Nat.{ℕ}
+use Rattle.limits.specs.Limits.{mostCount, mostDilution}
 
 abbrev pub limitOf : Bool → ℕ
-limitOf true = 65_535
-limitOf false = 100
+limitOf true = mostCount
+limitOf false = mostDilution

@@ -7,8 +7,8 @@ use native.Mathlib.Omega.{arith}
 use lib.IntN.{pos}
 use Rattle.choice.specs.Choice.{choose, fits, minusSign, negative, smallestFit}
 use Rattle.choice.specs.Threshold.{threshold, u, w}
-use Rattle.integer.specs.RoundedUp.{roundedUp}
 use Rattle.integer.specs.Matrix.{diagonal, matrixOf}
+use Rattle.integer.specs.RoundedUp.{roundedUp}
 use Rattle.integer.specs.Sum.{sumℕ}
 use Rattle.integer.specs.Tabulate.{tabulate}
 use Rattle.ledger.specs.Axis.{errorOf}
@@ -23,10 +23,10 @@ use Rattle.record.specs.declared.Record.{Record}
 use Rattle.record.specs.declared.query.Answer.the-variants.{Axis}
 use Rattle.rounding.specs.Rounding.{rnd}
 use Rattle.record.specs.Run.{noPair, noTurn, runFrom, tried}
-use Rattle.record.specs.declared.run.Run.{Run}
-use Rattle.run.specs.Run.{runOf}
 use Rattle.record.specs.declared.run.Outcome.the-variants.{Spent, Still}
+use Rattle.record.specs.declared.run.Run.{Run}
 use Rattle.record.specs.laws.Running.{run-still, run-sweeps}
+use Rattle.run.specs.Run.{runOf}
 use Rattle.turn.specs.InUse.{inUse}
 use Rattle.turn.specs.Rotation.{first, rotationOf, second, signed}
 use Rattle.turn.specs.Turn.{array, at, atPair, eight, hpp, hpq, hqp, hqq, newp, newpp, newpq, newq, newqq, turnAxes, turnMatrix, turned, turnedAxes}
@@ -40,16 +40,14 @@ stuck = afterOf fresh (load 2 (twoByTwo (pos 0) (pos 1) (pos 1_048_576)))
 stays : (noPair (answerOf stuck (loosePair 0)) ≡ false) × (noTurn (answerOf stuck sweep) ≡ true) ×
     (noPair (answerOf (afterOf stuck sweep) (loosePair 0)) ≡ false)
 unfolding noPair noTurn answerOf valueOf afterOf acceptedOf fresh loadedRecord inUse sweptOf workOf workedOf looseOf tabulate keptEntry entriesOf
-    rowsOf
-    flatOf chosen workBy workPair workPairs cyclic rowsFrom row matrixOf equal symmetric entriesWithin refusalOf diagonal choose smallestFit fits
-    threshold
-    roundedUp u w minusSign negative eight at
+    rowsOf flatOf chosen workBy workPair workPairs cyclic rowsFrom row matrixOf equal symmetric entriesWithin refusalOf diagonal choose smallestFit
+    fits threshold roundedUp u w minusSign negative eight at
 stays = (refl, refl, refl)
 
 pub still : (limit : ℕ) → 1 ≤ limit → runOf 2 (twoByTwo (pos 0) (pos 1) (pos 1_048_576)) limit 0 .outcome ≡ Still
 unfolding runOf
 still limit h =
-    ap (λ (ran : Run). ran .outcome)
+    ap (λ (run : Run). run .outcome)
     (run-sweeps limit 0 0 false stuck (stays .0) refl (limit - 1) (omega arith)
     ∙ run-still (limit - 1) (0 + 1) 0 _ (afterOf stuck sweep) (stays .2) (stays .1))
 
@@ -69,9 +67,7 @@ pub record Spends : Type 0 where
 
 pub spends : Spends
 unfolding runOf runFrom tried noPair noTurn answerOf valueOf afterOf acceptedOf axisOf fresh loadedRecord inUse sweptOf workOf workedOf looseOf
-    tabulate
-    keptEntry entriesOf rowsOf flatOf chosen workBy workPair workPairs errorOf cyclic rowsFrom row matrixOf equal symmetric entriesWithin refusalOf
-    diagonal
-    sumℕ choose smallestFit fits threshold roundedUp u w minusSign negative rotationOf signed first second turnMatrix turnAxes turnedAxes array
-    eight at turned newp newq newpp newpq newqq hpp hpq hqp hqq atPair rnd
+    tabulate keptEntry entriesOf rowsOf flatOf chosen workBy workPair workPairs errorOf cyclic rowsFrom row matrixOf equal symmetric entriesWithin
+    refusalOf diagonal sumℕ choose smallestFit fits threshold roundedUp u w minusSign negative rotationOf signed first second turnMatrix turnAxes
+    turnedAxes array eight at turned newp newq newpp newpq newqq hpp hpq hqp hqq atPair rnd
 spends = record { outcome = refl; sweeps = refl; turns = refl; axis-1 = refl; row-1 = refl; axis-2 = refl; row-2 = refl }

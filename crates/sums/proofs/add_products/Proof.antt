@@ -7,9 +7,11 @@ use native.Mathlib.Omega.{arith}
 use borrow.Author.Needs.{needs}
 use lib.ListN.{length, getD}
 use Rattle.integer.specs.laws.Filled.{Filled, filled-none}
+use Rattle.limits.specs.Limits.{mostDilution}
 use Rattle.sums.specs.Samples.{sample}
 use Rattle.sums.specs.Sums.{products}
 use Rattle.sums.specs.inner.Raised.{raised}
+use Rattle.sums.specs.inner.Ranges.{zLimit}
 use Rattle.sums.proofs.Raised.{raised-more, raised-skip, raised-all, product-at, no-product}
 use Rattle.sums.proofs.add_products.Statement.{statement}
 use Rattle.sums.proofs.add_products.Tie as tie
@@ -36,14 +38,14 @@ abbrev μ-loop : tie.MeasureT-loop
 
 -- What is multiplied: a value and a factor keep within 32 bits, a product within 64.
 module _ (s : tie.Start Inv-loop2 μ-loop2 Inv-loop μ-loop) where
-  value : (i : ℕ) → getD (s .args .counts .now) i 0 * s .args .dilution ≤ 6_553_500
+  value : (i : ℕ) → getD (s .args .counts .now) i 0 * s .args .dilution ≤ zLimit
   value i = mul-le-mul (s .pre .0 .count i) (s .pre .0 .dilution)
 
-  factor : (i : ℕ) → getD (s .args .counts .now) i 0 * s .args .dilution * s .args .dilution ≤ 655_350_000
+  factor : (i : ℕ) → getD (s .args .counts .now) i 0 * s .args .dilution * s .args .dilution ≤ zLimit * mostDilution
   factor i = mul-le-mul (value i) (s .pre .0 .dilution)
 
   product : (i j : ℕ) → getD (s .args .counts .now) i 0 * s .args .dilution * s .args .dilution * getD
-      (s .args .counts .now) j 0 ≤ 6_553_500 * 6_553_500
+      (s .args .counts .now) j 0 ≤ zLimit * zLimit
   product i j = mul-le-mul (factor i) (s .pre .0 .count j)
 
 mul-factor-2 : tie.Need-mul-factor-2 Inv-loop2 μ-loop2 Inv-loop μ-loop
