@@ -1,6 +1,6 @@
 pub mod AxisNumbers
 pub mod Report
-pub mod Certified
+pub mod Certificate
 pub mod Text
 pub mod inner
 pub mod laws

@@ -16,9 +16,13 @@ use Rattle.run.specs.Run.{runOf}
 use Rattle.text.specs.Line.{numberLine, wordLine}
 use Rattle.text.specs.Lines.{lines}
 
--- The run on the job's table
+-- The n × n entries of the job's table, which its run loads
+abbrev pub loadedFor : Job → List ℤ
+loadedFor j = take (j .n * j .n) (tableFor j .entries)
+
+-- The run on them
 unfoldable pub runFor : Job → Run
-runFor j = runOf (j .n) (take (j .n * j .n) (tableFor j .entries)) (j .limit) (j .tolerance)
+runFor j = runOf (j .n) (loadedFor j) (j .limit) (j .tolerance)
 
 -- '`R` n k e sweeps-run m outcome'; 82 is `R`
 unfoldable pub headOf : Job → List ℤ

@@ -1,9 +1,9 @@
 -- Laws of this subject: The list of a function's values at 0, 1, .., and its laws; and what stands in a list of one value repeated.
 use mathlib.Core.Path.{_≡_, refl, ap}
-use mathlib.Core.List.{[], _∷_, _++_}
-use Prim.Native.Nat.{ℕ, zero, suc, _<_}
+use mathlib.Core.List.{List, [], _∷_, _++_}
+use Prim.Native.Nat.{ℕ, zero, suc, _≤_, _<_}
 use native.Mathlib.Omega.{arith}
-use lib.ListN.{length, getD, replicate}
+use lib.ListN.{length, getD, replicate, take}
 use Rattle.integer.specs.Tabulate.{tabulate}
 
 module _ {A : Type 0} where
@@ -28,6 +28,13 @@ module _ {A : Type 0} where
   unfolding tabulate
   tabulate-ext zero f g e = refl
   tabulate-ext (suc m) f g e = rw (e zero (omega arith), tabulate-ext m (λ i. f (suc i)) (λ i. g (suc i)) (λ i h. e (suc i) (omega arith)))
+
+  -- the first n of more values
+  pub take-tabulate : (n m : ℕ) (f : ℕ → A) (xs : List A) → n ≤ m → take n (tabulate m f ++ xs) ≡ tabulate n f
+  unfolding tabulate
+  take-tabulate zero m f xs h = refl
+  take-tabulate (suc n) zero f xs h = absurd (omega arith)
+  take-tabulate (suc n) (suc m) f xs h = ap (λ l. f zero ∷ l) (take-tabulate n m (λ i. f (suc i)) xs (omega arith))
 
   -- what holds of the default and of every value of f holds of every element
   pub tabulate-all : (P : A → Type 0) (m : ℕ) (f : ℕ → A) (d : A) → P d → ((i : ℕ) → P (f i)) → (i : ℕ) → P (getD (tabulate m f) i d)

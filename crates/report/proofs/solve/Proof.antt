@@ -10,7 +10,6 @@ use Rattle.limits.specs.laws.Channels.{places}
 use Rattle.job_table.specs.laws.Laws.{channels-held}
 use Rattle.scatter.specs.declared.table.Table.{Table}
 use Rattle.scatter.specs.laws.Table.{table-is}
-use Rattle.report.specs.Certified.{loadedFor}
 use Rattle.report.specs.Report.{runFor}
 use Rattle.report.proofs.Bounds.{allowed}
 use Rattle.report.proofs.solve.Statement.{statement}
@@ -27,7 +26,7 @@ entries-within c =
     rw (c .table-of .ensures, t .entries .size) (size s)
 
 run-requires : tie.Need-run-requires
-unfolding jobIn loadedFor
+unfolding jobIn
 run-requires c κs =
     let t = c .before .before in
     rw (t .table-of .ensures) (allowed (jobIn (t .before .args .job)) (t .before .pre .proper))
