@@ -1,7 +1,7 @@
 // Document 01, 'The bench keeps one record through the day': the five calls on a record lent by `&mut`. Each answers as the call by value does,
 // and leaves that call's record.
-ghost use Rattle.ledger.specs.Call.{load, loosePair, sweep, turn};
-ghost use Rattle.record.specs.Done.{AxisDone, Done};
+ghost use Rattle.ledger.specs.Call.{load, sweep, turn};
+ghost use Rattle.record.specs.Done.{AxisDone, Done, LooseDone};
 ghost use Rattle.record.specs.Kept.{Kept};
 use crate::Answer;
 use crate::AxisAnswer;
@@ -39,7 +39,7 @@ pub fn sweep(r: &mut Record) -> Answer
 
 pub fn loose_pair(r: &mut Record, t: u64) -> Answer
     requires { ⌜ Kept (now r) ⌝ }
-    ensures { λ z. ⌜ Done (now (r .entry)) (loosePair t) z (now (r .exit)) ⌝ }
+    ensures { λ z. ⌜ LooseDone (now (r .entry)) t z (now (r .exit)) ⌝ }
 {
     let done = (*r).loose_pair(t);
     let next = done.next;

@@ -1,8 +1,8 @@
 // The record and its calls: one matrix with its axes, the turns made of it, and the count of refused calls.
-ghost use Rattle.ledger.specs.Call.{axis, load, loosePair, sweep, turn};
+ghost use Rattle.ledger.specs.Call.{axis, load, sweep, turn};
 ghost use Rattle.record.specs.declared.query.Answer.the-variants.{Refused};
 ghost use Rattle.record.specs.Worked.{workAt};
-ghost use Rattle.record.specs.Done.{AxisDone, Done, Fresh};
+ghost use Rattle.record.specs.Done.{AxisDone, Done, Fresh, LooseDone};
 ghost use Rattle.record.specs.Kept.{Kept};
 ghost use Rattle.record.specs.RunDone.{RunDone, Runnable};
 ghost use Rattle.record.specs.Record.{counted, refusedOf, workedOf};
@@ -191,7 +191,7 @@ impl Record {
 
     pub fn loose_pair(self, t: u64) -> Step
         requires { ⌜ Kept self ⌝ }
-        ensures { λ z. ⌜ Done self (loosePair t) (z .answer) (z .next) ⌝ }
+        ensures { λ z. ⌜ LooseDone self t (z .answer) (z .next) ⌝ }
     {
         let n = self.n;
         let number = query::loose_pair_refusal(n, t);

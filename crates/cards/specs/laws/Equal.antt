@@ -34,8 +34,8 @@ use Rattle.record.specs.Run.{noPair, stop}
 use Rattle.run.specs.Run.{runOf}
 use Rattle.record.specs.laws.Running.{run-settled}
 use Rattle.record.specs.declared.run.Outcome.the-variants.{Settled}
-use Rattle.record.specs.Loose.{looseOf}
-use Rattle.record.specs.laws.Loose.{PairOrNone, loose-holds}
+use Rattle.record.specs.Loose.{PairOrNone, looseOf}
+use Rattle.record.specs.laws.Loose.{loose-holds}
 use Rattle.record.specs.declared.query.Answer.the-variants.{NoPair}
 use Rattle.integer.specs.Matrix.{matrixOf}
 use Rattle.cards.specs.Cards.{SettledAtOnce, zeroTable}

@@ -1,4 +1,4 @@
--- Laws of this subject: Document 01, 'Loose pair t': the answer, and what holds of it.
+-- What holds of the answer of the search, and so of a loose-pair call.
 use mathlib.Core.Path.{_≡_, refl}
 use mathlib.Core.Bool.{Bool, true, false, cond}
 use mathlib.Core.List.{List, [], _∷_}
@@ -8,27 +8,20 @@ use native.Mathlib.Numerals.{unary-clauses}
 use native.Mathlib.Omega.{arith}
 use lib.Dec.{ltb}
 use lib.IntN.{natAbs}
-use borrow.Author.Tests.{ltb-true, ltb-false}
+use borrow.Author.Tests.{eq-eqb, ltb-true, ltb-false}
 use Rattle.integer.specs.Matrix.{Matrix}
+use Rattle.ledger.specs.Call.{loosePair}
 use Rattle.ledger.specs.laws.Cyclic.{Each, cyclic-pairs}
 use Rattle.ledger.specs.Pairs.{Pair, cyclic}
+use Rattle.ledger.specs.Refusal.{refusalOf}
 use Rattle.record.specs.laws.Among.{Among, here, there, cyclic-among}
 use Rattle.record.specs.declared.query.Answer.{Answer}
 use Rattle.record.specs.declared.query.Answer.the-variants.{Pair as PairIs, NoPair}
-use Rattle.record.specs.Loose.{looseOf}
-
-abbrev pub PairOrNone : Answer → Type 0
-PairOrNone answer = ((p : ℕ) × (q : ℕ) × (answer ≡ PairIs p q)) ⊎ (answer ≡ NoPair)
-
--- the answer counts from 1, the matrix from 0
-abbrev pub IsLoose : ℕ → Matrix → ℕ → ℕ → ℕ → Type 0
-IsLoose n a t p q = (1 ≤ p) × (p < q) × (q ≤ n) × (t < natAbs (a (p - 1) (q - 1)))
-
--- 'some pair p < q with |a_pq| > t units, and none only if none exists'
-pub record LooseHolds (n : ℕ) (a : Matrix) (t : ℕ) (answer : Answer) : Type 0 where
-  pub pair-or-none : PairOrNone answer
-  pub pair-is-loose : (p q : ℕ) → answer ≡ PairIs p q → IsLoose n a t p q
-  pub none-only-if-none : answer ≡ NoPair → (p q : ℕ) → p < q → q < n → natAbs (a p q) ≤ t
+use Rattle.record.specs.Done.{Done, LooseDone}
+use Rattle.record.specs.Flat.{keptEntry}
+use Rattle.record.specs.Loose.{IsLoose, LooseHolds, PairOrNone, looseOf}
+use Rattle.record.specs.Record.{answerOf, valueOf}
+use Rattle.record.specs.declared.Record.{Record}
 
 -- the search
 module _ (a : Matrix) (t : ℕ) where
@@ -81,4 +74,12 @@ loose-holds n a t =
       pair-or-none = pair-or-no-pair a t (cyclic n);
       pair-is-loose = λ p q. found-is-loose a t n p q (cyclic n) (cyclic-pairs n);
       none-only-if-none = λ e p q h k. none-above a t (record { p = p; q = q }) (cyclic n) (cyclic-among n p q h k) e;
+    }
+
+pub loose-done : {r : Record} {t : ℕ} {answer : Answer} {next : Record} → Done r (loosePair t) answer next → LooseDone r t answer next
+unfolding answerOf valueOf
+loose-done {r} {t} d =
+    record {
+      done = d;
+      holds = λ e. rw (d .answers, eq-eqb (refusalOf (r .n) (r .m) (loosePair t)) 0 e) (loose-holds (r .n) (keptEntry (r .a)) t);
     }

@@ -26,7 +26,7 @@ returns-3 c =
     let l = n .before in
     let s = l .before in
     plays-done _ _ _ _ _ (one-is _ _ (s .pre .0) _ (n .natural-at .ensures) _ (l .if1 .left) _ (x .t .given .1)) refl
-    (c .before .loose-pair .ensures) (c .done .ensures)
+    (c .before .loose-pair .ensures .done) (c .done .ensures)
 
 pub loose-pair-spec : {M : Type 1} → statement M
 loose-pair-spec =

@@ -8,6 +8,7 @@ use Rattle.ledger.specs.Pairs.{cyclic}
 use Rattle.ledger.specs.Refusal.{refusalOf}
 use Rattle.record.proofs.Search.{same-loose}
 use Rattle.record.specs.laws.Fill.{at-rowsOf}
+use Rattle.record.specs.laws.Loose.{loose-done}
 use Rattle.record.specs.Record.{acceptedOf, valueOf}
 use Rattle.record.proofs.Outcome.{accepted, refuses}
 use Rattle.record.proofs.Record.loose_pair.Statement.{statement}
@@ -17,8 +18,9 @@ returns : tie.Need-returns
 unfolding refusalOf
 returns c =
     let s = c .before .before .before in
-    refuses (s .args .t1) (loosePair (s .args .t)) (s .pre) _ (c .before .before .loose-pair-refusal .ensures) _ (c .before .if1 .taken)
-    (c .refuse .ensures)
+    loose-done
+    (refuses (s .args .t1) (loosePair (s .args .t)) (s .pre) _ (c .before .before .loose-pair-refusal .ensures) _ (c .before .if1 .taken)
+    (c .refuse .ensures))
 
 loose-pair-of-requires : tie.Need-loose-pair-of-requires
 loose-pair-of-requires c κs = c .before .before .before .before .before .before .pre .size
@@ -30,12 +32,13 @@ returns-2 c =
     let checked = unpacked .before .before .before in
     let s = checked .before .before in
     let r = s .args .t1 in
-    accepted r (loosePair (s .args .t)) (s .pre) _ (checked .before .loose-pair-refusal .ensures) _ _ (checked .if1 .left)
+    loose-done
+    (accepted r (loosePair (s .args .t)) (s .pre) _ (checked .before .loose-pair-refusal .ensures) _ _ (checked .if1 .left)
     (c .loose-pair-of .ensures ∙
     rw (unpacked .unpacked .ensures)
     (same-loose (r .n) _ _ (s .args .t) (cyclic (r .n)) (cyclic-pairs (r .n))
     (λ i j h l. at-rowsOf (r .a) i j (omega (arith, h, s .pre .size)) (omega (arith, l, s .pre .size)))))
-    refl
+    refl)
 
 pub loose-pair-spec : {M : Type 1} → statement M
 loose-pair-spec =
