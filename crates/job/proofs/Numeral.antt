@@ -32,10 +32,6 @@ may-not : (v b : ℕ) → 1 ≤ v → 999999 < v → mayFollow v b ≡ false
 unfolding mayFollow
 may-not v b h g = simp (le-ltb v 1 h, lt-ltb 999999 v g)
 
-may-not-0 : (b : ℕ) → mayFollow 0 b ≡ false
-unfolding mayFollow
-may-not-0 b = refl
-
 -- A first digit, by whether it is one: t.
 digit-step : (t : Bool) (x y : Option ℕ) (p q z : Bool) → (t ≡ true → x ≡ cond (p && q && z) y none) →
     cond t x none ≡ cond (p && (t && q) && z) y none

@@ -69,9 +69,6 @@ module _ (refused n m : ℕ) (a v : List (List ℤ)) (h : Holds refused n m a v)
   held-ready =
       record { kept = rw work-held at (h .keeps .work); few = omega (arith, h .keeps .turns); matrix = h .matrix; axes = h .axes }
 
-  pub held-small : Small a
-  held-small = matrix-small n (workAt a v m) (held-ready .kept) (held-ready .few)
-
   held-loose : (t : ℕ) → refusalOf n m (loosePair t) ≡ 0 → noPair (looseOf (at a) t (cyclic n)) ≡ noPair (answerOf r (loosePair t))
   unfolding answerOf valueOf
   held-loose t e =

@@ -10,10 +10,6 @@ use Rattle.integer.specs.laws.Sum.{pos-sumℕ, sum-cong, sum-+, sum-*}
 use Rattle.integer.specs.laws.Pair.{Rotated}
 use Rattle.integer.specs.Dot.{dot}
 
-pub dot-self : (n : ℕ) (x : ℕ → ℤ) → dot n x x ≡ pos (sumℕ n (λ i. sq (x i)))
-unfolding dot
-dot-self n x = sym (pos-sumℕ n (λ i. sq (x i)) ∙ sum-cong n (λ i l. pos-sq (x i)))
-
 pub dot-cong : (n : ℕ) {x x′ y y′ : ℕ → ℤ} → ((i : ℕ) → i < n → x i ≡ x′ i) → ((i : ℕ) → i < n → y i ≡ y′ i) → dot n x y ≡ dot n x′ y′
 unfolding dot
 dot-cong n h k = sum-cong n (λ i l. ap₂ _*ℤ_ (h i l) (k i l))

@@ -104,10 +104,3 @@ natAbs--ℤ a (suc b) = by-order (ltb a (suc b)) refl
 
 pub natAbs-opposite : (a b : ℕ) → natAbs (negℤ (pos a) -ℤ pos b) ≡ a + b
 natAbs-opposite a b = rw (← negℤ-+ℤ) (natAbs-negℤ (pos a +ℤ pos b))
-
-pub *ℤ-cancel : (k : ℕ) (a b : ℤ) → zero < k → pos k *ℤ a ≡ pos k *ℤ b → a ≡ b
-*ℤ-cancel k a b h e = eq-of-difference a b (natAbs-zero (a -ℤ b) (eq-of-mul-eq-mul-left k h (natAbs (a -ℤ b)) zero difference))
-  where
-    difference : k * natAbs (a -ℤ b) ≡ k * zero
-    difference = sym (natAbs-*ℤ (pos k) (a -ℤ b)) ∙ ap natAbs (*ℤ-+ℤ (pos k) a (negℤ b) ∙ ap₂ _+ℤ_ e (*ℤ-negℤ (pos k) b) ∙ +ℤ-invr (pos k *ℤ b))
-        ∙ sym (mul-zero k)

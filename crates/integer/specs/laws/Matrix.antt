@@ -165,10 +165,6 @@ pub squares-cong : (n : ℕ) {X Y : Matrix} → Same n X Y → squares n X ≡ s
 unfolding squares
 squares-cong n h = sumℕ-cong n (λ i l. sumℕ-cong n (λ j k. ap sq (h i j l k)))
 
-pub squares-transpose : (n : ℕ) (X : Matrix) → squares n (transpose X) ≡ squares n X
-unfolding squares
-squares-transpose n X = sumℕ-exchange n n (λ i j. sq (X j i))
-
 pub squares-* : (n : ℕ) (k : ℤ) (X : Matrix) → squares n (λ i j. k *ℤ X i j) ≡ sq k * squares n X
 unfolding squares
 squares-* n k X = sumℕ-cong n (λ i l. sumℕ-cong n (λ j o. sq-*ℤ k (X i j)) ∙ sumℕ-* n (sq k) (λ j. sq (X i j)))
@@ -183,9 +179,6 @@ squares-+ n = minkowski₂ n n
 pub row-≤-squares : (n : ℕ) (X : Matrix) (i : ℕ) → i < n → sumℕ n (λ j. sq (X i j)) ≤ squares n X
 unfolding squares
 row-≤-squares n X i = term-≤-sumℕ n i (λ i. sumℕ n (λ j. sq (X i j)))
-
-pub entry-≤ : (n k : ℕ) (X : Matrix) → squares n X ≤ k * k → (i j : ℕ) → i < n → j < n → natAbs (X i j) ≤ k
-entry-≤ n k X h i j l o = natAbs-≤ (X i j) k (le-trans (term-≤-sumℕ n j (λ j. sq (X i j)) o) (le-trans (row-≤-squares n X i l) h))
 
 -- entries of size at most k
 pub squares-≤ : (n k : ℕ) (X : Matrix) → ((i j : ℕ) → i < n → j < n → natAbs (X i j) ≤ k) → squares n X ≤ n * k * (n * k)

@@ -54,6 +54,3 @@ sq-≤ z n h = mul-le-mul h h
 pub natAbs-≤ : (z : ℤ) (n : ℕ) → sq z ≤ n * n → natAbs z ≤ n
 unfolding sq
 natAbs-≤ z n h = le-of-squares (natAbs z) n h
-
-pub sq-zero : (z : ℤ) → sq z ≡ zero → z ≡ pos zero
-sq-zero z h = natAbs-zero z (omega (arith, natAbs-≤ z zero (omega arith)))

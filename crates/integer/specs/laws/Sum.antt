@@ -76,13 +76,6 @@ sum-but-one (suc n) p f g l h = cases (ℕ-discrete p n) (λ l′. sum-but-one n
         rw (h n (omega arith) (λ e′. e (sym e′)))
         (linear-combination (sum n f ∷ sum n g ∷ f p ∷ g p ∷ g n ∷ []) (pos 1) (ih (omega arith)) (search reading depth 20) tt)
 
--- splitting off the term at p
-pub sum-split : (n p : ℕ) (f : ℕ → ℤ) → p < n → sum n f ≡ f p +ℤ sum n (update f p (pos zero))
-sum-split n p f l =
-    linear-combination (sum n f ∷ sum n (update f p (pos zero)) ∷ f p ∷ []) (pos 1)
-    (rw (update-same f p (pos zero)) at (sum-but-one n p f (update f p (pos zero)) l (λ i k e. sym (update-other f p (pos zero) i e))))
-    (search reading depth 20) tt
-
 -- a function that is 0 but at p
 pub sum-delta : (n p : ℕ) (f : ℕ → ℤ) → p < n → ((i : ℕ) → i < n → i ≢ p → f i ≡ pos zero) → sum n f ≡ f p
 sum-delta n p f l h = sym (+ℤ-idr (sum n f)) ∙ sum-but-one n p f (λ i. pos zero) l h ∙ ap (λ x. x +ℤ f p) (sum-zero n) ∙ +ℤ-idl (f p)
@@ -105,12 +98,6 @@ sum-but-two n p q f g l k h = linear-combination (sum n f ∷ sum n g ∷ sum n 
 
     second : sum n m +ℤ g q ≡ sum n g +ℤ f q
     second = rw (update-other f p (g p) q (omega arith)) at (sum-but-one n q m g k (λ i j e. agree i j e (ℕ-discrete i p)))
-
-pub sum-but-two-≡ : (n p q : ℕ) (f g : ℕ → ℤ) → p < q → q < n → ((i : ℕ) → i < n → i ≢ p → i ≢ q → f i ≡ g i) → f p +ℤ f q ≡ g p +ℤ g q →
-    sum n f ≡ sum n g
-sum-but-two-≡ n p q f g l k h e =
-    linear-combination (sum n f ∷ sum n g ∷ f p ∷ f q ∷ g p ∷ g q ∷ []) (pos 1) (ap₂ _+ℤ_ (sum-but-two n p q f g l k h) e)
-    (search reading depth 20) tt
 
 pub natAbs-sum : (n : ℕ) (f : ℕ → ℤ) → natAbs (sum n f) ≤ sumℕ n (λ i. natAbs (f i))
 unfolding sum sumℕ
@@ -150,10 +137,6 @@ sumℕ-but-two n p q f g l k h = pos-injective (sumℕ n f + (g p + g q)) (sum�
 pub sumℕ-but-two-≡ : (n p q : ℕ) (f g : ℕ → ℕ) → p < q → q < n → ((i : ℕ) → i < n → i ≢ p → i ≢ q → f i ≡ g i) → f p + f q ≡ g p + g q →
     sumℕ n f ≡ sumℕ n g
 sumℕ-but-two-≡ n p q f g l k h e = omega (arith, sumℕ-but-two n p q f g l k h)
-
-pub sumℕ-but-two-≤ : (n p q : ℕ) (f g : ℕ → ℕ) → p < q → q < n → ((i : ℕ) → i < n → i ≢ p → i ≢ q → f i ≡ g i) → f p + f q ≤ g p + g q →
-    sumℕ n f ≤ sumℕ n g
-sumℕ-but-two-≤ n p q f g l k h e = omega (arith, sumℕ-but-two n p q f g l k h)
 
 -- order in ℕ
 pub term-≤-sumℕ : (n p : ℕ) (f : ℕ → ℕ) → p < n → f p ≤ sumℕ n f

@@ -93,10 +93,6 @@ module _ (r : Record) (i : ℕ) (h : i < r .n) where
   place : suc i - 1 ≡ i
   place = omega arith
 
-  pub numbers-are : axisNumbers r (suc i) ≡ pos (suc i) ∷ keptEntry (r .a) i i ∷ pos (errorOf (r .n) (keptEntry (r .a)) (r .m) i) ∷ entriesOf (r .v) i
-  unfolding axisNumbers axisValues answerOf valueOf axisOf
-  numbers-are = rw (taken, place)
-
   pub error-small : Kept r → errorOf (r .n) (keptEntry (r .a)) (r .m) i < 2 ^ 63
   unfolding errorOf roundedUp workOf
   error-small k =
