@@ -1,4 +1,6 @@
 mod Printing
 pub mod Splitting
-pub mod Digits
+mod Digits
 mod Lines
+mod Asking
+mod Lists

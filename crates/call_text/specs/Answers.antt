@@ -12,29 +12,37 @@ use Rattle.record.specs.declared.query.Answer.{Answer}
 use Rattle.record.specs.declared.query.Answer.the-variants.{Loaded, Turned, Swept, Pair, NoPair, Axis, Refused}
 use Rattle.text.specs.Line.{line}
 use Rattle.call_text.specs.declared.answer.Printed.{Printed}
+use Rattle.call_text.specs.declared.answer.Told.{Told}
 
--- An answer, by the record after the call and by row i of v: `L`; `T` and 1 or 0; `W` and the number of turns; `Q` p q, or `Q` none;
--- `A` a_ii r_i and the n numbers of row i; of a refused call `X`, its number, and the count of refused calls.
-unfoldable pub shown : Record → Answer → List ℤ → List ℕ
-shown r Loaded row = line ((76 ∷ []) ∷ [])
-shown r (Turned true) row = line ((84 ∷ []) ∷ digits 1 ∷ [])
-shown r (Turned false) row = line ((84 ∷ []) ∷ digits 0 ∷ [])
-shown r (Swept k) row = line ((87 ∷ []) ∷ digits k ∷ [])
-shown r (Pair p q) row = line ((81 ∷ []) ∷ digits p ∷ digits q ∷ [])
-shown r NoPair row = line ((81 ∷ []) ∷ (110 ∷ 111 ∷ 110 ∷ 101 ∷ []) ∷ [])
-shown r (Axis entry error) row = line ((65 ∷ []) ∷ number entry ∷ digits error ∷ map number (take (r .n) row))
-shown r (Refused k) row = line ((88 ∷ []) ∷ digits k ∷ digits (r .refused) ∷ [])
+-- `L`; `T` and 1 or 0; `W` and the number of turns; `Q` p q, or `Q` none; `A` a_ii r_i and the n numbers of row i; of a refused call `X`, its number,
+-- and the count of refused calls
+unfoldable pub shownAs : Answer → Told → List ℕ
+shownAs Loaded t = line ((76 ∷ []) ∷ [])
+shownAs (Turned true) t = line ((84 ∷ []) ∷ digits 1 ∷ [])
+shownAs (Turned false) t = line ((84 ∷ []) ∷ digits 0 ∷ [])
+shownAs (Swept k) t = line ((87 ∷ []) ∷ digits k ∷ [])
+shownAs (Pair p q) t = line ((81 ∷ []) ∷ digits p ∷ digits q ∷ [])
+shownAs NoPair t = line ((81 ∷ []) ∷ (110 ∷ 111 ∷ 110 ∷ 101 ∷ []) ∷ [])
+shownAs (Axis entry error) t = line ((65 ∷ []) ∷ number entry ∷ digits error ∷ map number (take (t .n) (t .row)))
+shownAs (Refused k) t = line ((88 ∷ []) ∷ digits k ∷ digits (t .refused) ∷ [])
+
+unfoldable pub shown : Told → List ℕ
+shown t = shownAs (t .answer) t
 
 -- row i of v, of an axis call
-unfoldable pub rowOf : Record → Call → List ℤ
-rowOf r (load n numbers) = replicate 8 (pos 0)
-rowOf r (turn p q) = replicate 8 (pos 0)
-rowOf r sweep = replicate 8 (pos 0)
-rowOf r (loosePair t) = replicate 8 (pos 0)
-rowOf r (axis i) = axisOf r i
+unfoldable pub rowFor : Record → Call → List ℤ
+rowFor r (load n numbers) = replicate 8 (pos 0)
+rowFor r (turn p q) = replicate 8 (pos 0)
+rowFor r sweep = replicate 8 (pos 0)
+rowFor r (loosePair t) = replicate 8 (pos 0)
+rowFor r (axis i) = axisOf r i
+
+-- the answer of a call on the record r, with n and the count after it
+unfoldable pub toldOf : Record → Call → Told
+toldOf r call = record { answer = answerOf r call; row = rowFor r call; n = afterOf r call .n; refused = afterOf r call .refused }
 
 unfoldable pub answerLine : Record → Call → List ℕ
-answerLine r call = shown (afterOf r call) (answerOf r call) (rowOf r call)
+answerLine r call = shown (toldOf r call)
 
 -- a line in an array, 0 after it
 unfoldable pub linePrinted : List ℕ → Printed

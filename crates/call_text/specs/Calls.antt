@@ -3,58 +3,68 @@ use Prim.Native.Nat.{ℕ}
 use mathlib.Core.Bool.{cond}
 use mathlib.Core.List.{List, [], _∷_}
 use mathlib.Core.Option.{Option, none, some}
-use lib.Dec.{eqb}
+use lib.Dec.{eqb, leb}
 use lib.IntN.{ℤ, pos, negsuc}
+use lib.ListN.{length}
 use Rattle.text.specs.Parts.{split}
 use Rattle.ledger.specs.Call.{Call, load, turn, sweep, loosePair, axis}
-use Rattle.call_text.specs.Numbers.{numbersOf}
+use Rattle.call_text.specs.Numbers.{beyond, eachNumber}
+
+-- 'negative where the call's argument is a natural (n, p, q, t, i) is a value out of that argument's range'
+unfoldable pub argument : ℤ → ℕ
+argument (pos x) = x
+argument (negsuc x) = beyond
 
 -- `L` n and the numbers
-unfoldable pub loadOf : List ℤ → Option Call
-loadOf [] = none
-loadOf (pos n ∷ numbers) = some (load n numbers)
-loadOf (negsuc n ∷ numbers) = none
+unfoldable pub loadBy : List ℤ → Option Call
+loadBy [] = none
+loadBy (n ∷ numbers) = some (load (argument n) numbers)
 
 -- `T` p q
-unfoldable pub turnOf : List ℤ → Option Call
-turnOf [] = none
-turnOf (x ∷ []) = none
-turnOf (pos p ∷ pos q ∷ []) = some (turn p q)
-turnOf (pos p ∷ negsuc q ∷ []) = none
-turnOf (negsuc p ∷ y ∷ []) = none
-turnOf (x ∷ y ∷ z ∷ xs) = none
+unfoldable pub turnBy : List ℤ → Option Call
+turnBy [] = none
+turnBy (p ∷ []) = none
+turnBy (p ∷ q ∷ []) = some (turn (argument p) (argument q))
+turnBy (p ∷ q ∷ x ∷ xs) = none
 
 -- `W`
-unfoldable pub sweepOf : List ℤ → Option Call
-sweepOf [] = some sweep
-sweepOf (x ∷ xs) = none
+unfoldable pub sweepBy : List ℤ → Option Call
+sweepBy [] = some sweep
+sweepBy (x ∷ xs) = none
 
 -- `Q` t, and `A` i
-unfoldable pub oneOf : (ℕ → Call) → List ℤ → Option Call
-oneOf call [] = none
-oneOf call (pos x ∷ []) = some (call x)
-oneOf call (negsuc x ∷ []) = none
-oneOf call (x ∷ y ∷ xs) = none
+unfoldable pub oneBy : (ℕ → Call) → List ℤ → Option Call
+oneBy call [] = none
+oneBy call (x ∷ []) = some (call (argument x))
+oneBy call (x ∷ y ∷ xs) = none
 
 -- The call of a tag and numbers: 76 is `L`, 84 `T`, 87 `W`, 81 `Q`, 65 `A`.
 unfoldable pub callBy : ℕ → List ℤ → Option Call
 callBy tag numbers =
-    cond (eqb tag 76) (loadOf numbers)
-    (cond (eqb tag 84) (turnOf numbers)
-    (cond (eqb tag 87) (sweepOf numbers)
-    (cond (eqb tag 81) (oneOf loosePair numbers)
-    (cond (eqb tag 65) (oneOf axis numbers) none))))
+    cond (eqb tag 76) (loadBy numbers)
+    (cond (eqb tag 84) (turnBy numbers)
+    (cond (eqb tag 87) (sweepBy numbers)
+    (cond (eqb tag 81) (oneBy loosePair numbers)
+    (cond (eqb tag 65) (oneBy axis numbers) none))))
 
 unfoldable pub withNumbers : ℕ → Option (List ℤ) → Option Call
 withNumbers tag none = none
 withNumbers tag (some numbers) = callBy tag numbers
 
--- A tag is one byte. A line has at most 101 numbers: n, and 100 of a matrix.
-unfoldable pub callOfFields : List (List ℕ) → Option Call
-callOfFields [] = none
-callOfFields ([] ∷ fields) = none
-callOfFields ((tag ∷ []) ∷ fields) = withNumbers tag (numbersOf 101 fields)
-callOfFields ((tag ∷ b ∷ bs) ∷ fields) = none
+-- a tag is one byte
+unfoldable pub callOfFields : ℕ → List (List ℕ) → Option Call
+callOfFields most [] = none
+callOfFields most ([] ∷ fields) = none
+callOfFields most ((tag ∷ []) ∷ fields) = cond (leb (length fields) most) (withNumbers tag (eachNumber fields)) none
+callOfFields most ((tag ∷ b ∷ bs) ∷ fields) = none
+
+-- the call of a line that may have so many numbers
+unfoldable pub callWithin : ℕ → List ℕ → Option Call
+callWithin most line = callOfFields most (split 9 line)
+
+-- 'A line has at most 4,096 numbers; more make it no call'
+unfoldable pub numberLimit : ℕ
+numberLimit = 4096
 
 unfoldable pub callOf : List ℕ → Option Call
-callOf line = callOfFields (split 9 line)
+callOf line = callWithin numberLimit line

@@ -1,4 +1,6 @@
 pub mod Answers
 pub mod Numbers
 pub mod Calls
+pub mod Requests
 pub mod inner
+pub mod laws

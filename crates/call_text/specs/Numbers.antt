@@ -1,6 +1,6 @@
 -- The numbers of a line of calls, of bytes: 45 is a minus, 48 to 57 are the decimal digits.
 use Prim.Native.Nat.{ℕ, zero, suc}
-use mathlib.Core.Bool.{cond, _&&_}
+use mathlib.Core.Bool.{Bool, cond, not, _&&_}
 use mathlib.Core.List.{List, [], _∷_}
 use mathlib.Core.Option.{Option, none, some}
 use lib.Dec.{eqb, leb, ltb}
@@ -10,31 +10,39 @@ use Rattle.text.specs.Numeral.{leadingZero, valueFrom}
 use Rattle.text.specs.Parts.{before}
 use Rattle.text.specs.Range.{allWithin}
 
--- the value of digits that follow digits of the value v
-unfoldable pub digitsFrom : ℕ → List ℕ → Option ℕ
-digitsFrom v f = cond (allWithin 48 57 f) (some (valueFrom v f)) none
+-- 'decimal digits, no leading zero unless it is 0'
+unfoldable pub numeral : List ℕ → Bool
+numeral f = ltb 0 (length f) && (not (leadingZero f) && allWithin 48 57 f)
 
--- 'A number is 1 to 10 decimal digits', without a leading zero unless it is 0
-unfoldable pub numberOf : List ℕ → Option ℕ
-numberOf f = cond (ltb 0 (length f) && leb (length f) 10) (cond (leadingZero f) none (digitsFrom 0 f)) none
+-- 'of any length: one of more than 10 digits stands for 9,999,999,999, which is beyond every range'
+abbrev pub digitLimit : ℕ
+digitLimit = 10
 
-unfoldable pub positive : Option ℕ → Option ℤ
-positive none = none
-positive (some x) = some (pos x)
+abbrev pub beyond : ℕ
+beyond = 9999999999
 
--- 0 has no minus
-unfoldable pub negative : Option ℕ → Option ℤ
-negative none = none
-negative (some zero) = none
-negative (some (suc x)) = some (negsuc x)
+unfoldable pub standsFor : List ℕ → ℕ
+standsFor f = cond (leb (length f) digitLimit) (valueFrom 0 f) beyond
 
--- 'also with a leading minus'
+unfoldable pub unsignedOf : List ℕ → Option ℕ
+unsignedOf f = cond (numeral f) (some (standsFor f)) none
+
+unfoldable pub withoutMinus : Option ℕ → Option ℤ
+withoutMinus none = none
+withoutMinus (some x) = some (pos x)
+
+-- '-0 is none'
+unfoldable pub withMinus : Option ℕ → Option ℤ
+withMinus none = none
+withMinus (some zero) = none
+withMinus (some (suc x)) = some (negsuc x)
+
+-- 'an optional minus'
 unfoldable pub signedOf : List ℕ → Option ℤ
 signedOf [] = none
-signedOf (b ∷ bs) = cond (eqb b 45) (negative (numberOf bs)) (positive (numberOf (b ∷ bs)))
+signedOf (b ∷ bs) = cond (eqb b 45) (withMinus (unsignedOf bs)) (withoutMinus (unsignedOf (b ∷ bs)))
 
--- the numbers of at most m fields, each of which has to be one
-unfoldable pub numbersOf : ℕ → List (List ℕ) → Option (List ℤ)
-numbersOf m [] = some []
-numbersOf zero (f ∷ fs) = none
-numbersOf (suc m) (f ∷ fs) = before (signedOf f) (numbersOf m fs)
+-- the numbers of fields, each of which has to be one
+unfoldable pub eachNumber : List (List ℕ) → Option (List ℤ)
+eachNumber [] = some []
+eachNumber (f ∷ fs) = before (signedOf f) (eachNumber fs)

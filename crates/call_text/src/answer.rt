@@ -1,6 +1,5 @@
 // The line that an answer prints.
 use record::Answer;
-use record::Record;
 use text::line::put_numbers;
 use text::put_byte;
 use text::put_bytes;
@@ -9,7 +8,6 @@ use text::put_number;
 ghost use mathlib.Core.List.{[], _∷_, map};
 ghost use Prim.Native.Nat.{_+_, _≤_};
 ghost use lib.ListN.{length, take};
-ghost use Rattle.record.specs.Kept.{Kept};
 ghost use Rattle.text.specs.Decimal.{digits, number};
 ghost use Rattle.text.specs.Line.{line};
 ghost use Rattle.call_text.specs.Answers.{shown};
@@ -19,12 +17,12 @@ const TAB: u8 = b'\t';
 
 const LINE_FEED: u8 = b'\n';
 
-// What a line does: whether it is a call, its answer with the row of an axis call, and the record after it.
-pub struct Played {
-    pub known: bool,
+// A call's answer, and what its line says beside it: row i of v of an axis call, else 0; the record's channels and its count of refused calls.
+pub struct Told {
     pub answer: Answer,
     pub row: [i64; 8],
-    pub next: Record,
+    pub n: usize,
+    pub refused: u32,
 }
 
 // A line, and 0 after it.
@@ -111,13 +109,12 @@ pub fn nothing() -> Printed
     Printed { bytes, len: 0 }
 }
 
-pub fn answer_line(p: Played) -> Printed
-    requires { ⌜ Kept (p .next) ⌝ }
-    ensures { λ r. ⌜ Prints (shown (p .next) (p .answer) (p .row)) r ⌝ }
+pub fn answer_line(told: Told) -> Printed
+    requires { ⌜ told .n ≤ 8 ⌝ }
+    ensures { λ r. ⌜ Prints (shown told) r ⌝ }
 {
-    let answer = p.answer;
-    let row = p.row;
-    let next = p.next;
+    let answer = told.answer;
+    let row = told.row;
     match answer {
         Answer::Loaded => loaded_line(),
         Answer::Turned(made) => {
@@ -130,7 +127,7 @@ pub fn answer_line(p: Played) -> Printed
         Answer::Swept(turns) => one_number(b'W', turns),
         Answer::Pair { p, q } => two_numbers(b'Q', p as u64, q as u64),
         Answer::NoPair => none_line(),
-        Answer::Axis { entry, error } => axis_line(entry, error, row, next.channels()),
-        Answer::Refused(number) => two_numbers(b'X', number as u64, next.refused_calls() as u64),
+        Answer::Axis { entry, error } => axis_line(entry, error, row, told.n),
+        Answer::Refused(number) => two_numbers(b'X', number as u64, told.refused as u64),
     }
 }

@@ -1,5 +1,6 @@
-// The reader of a line of calls: its tag and its numbers.
+// Lines of calls and of answers: what a line asks for, and the line that an answer prints.
 pub mod answer;
-pub mod field;
+mod field;
 pub mod find;
-pub mod line;
+mod line;
+pub mod request;

@@ -1,57 +1,36 @@
-// A line of calls: its tag and its numbers.
+// The fields of a line of calls, parted by one tab: its tag and its numbers.
 use crate::field::Signed;
 use crate::field::number;
 use crate::find::find;
-ghost use mathlib.Core.Path.{_≡_};
-ghost use Rattle.call_text.specs.inner.Read.{LineRead, noLine};
+ghost use Rattle.call_text.specs.inner.Read.{FieldsRead};
 
-// At most 101 numbers: n, and 100 of a matrix. Where it is no line, all is 0.
-pub struct Line {
-    pub valid: bool,
-    pub tag: u8,
-    pub count: usize,
-    pub numbers: [i64; 101],
+pub enum Fields {
+    Are { tag: u8, count: usize },
+    No,
 }
 
-fn no_line() -> Line
-    ensures { λ r. ⌜ r ≡ noLine ⌝ }
+// The numbers go into the lent array, one after the other, up to the first field that is none or for which the array has no place.
+pub(crate) fn read_fields(line: &[u8], numbers: &mut [i64]) -> Fields
+    ensures { λ z. ⌜ FieldsRead (now (line .entry)) (now (numbers .entry)) (now (numbers .exit)) z ⌝ }
 {
-    let numbers = [0i64; 101];
-    Line {
-        valid: false,
-        tag: 0,
-        count: 0,
-        numbers,
-    }
-}
-
-pub fn line_of(line: &[u8]) -> Line
-    ensures { λ r. ⌜ LineRead (now (line .entry)) r ⌝ }
-{
-    let mut numbers = [0i64; 101];
     let mut count = 0;
     let mut at = find(line, 0, b'\t');
     if at != 1 {
-        return no_line();
+        return Fields::No;
     }
     let tag = line[0];
     while at < line.len() {
         let start = at + 1;
         let end = find(line, start, b'\t');
         let Signed::Is(x) = number(&line[start..end]) else {
-            return no_line();
+            return Fields::No;
         };
-        if 101 <= count {
-            return no_line();
+        if numbers.len() <= count {
+            return Fields::No;
         }
         numbers[count] = x;
         count += 1;
         at = end;
     }
-    Line {
-        valid: true,
-        tag,
-        count,
-        numbers,
-    }
+    Fields::Are { tag, count }
 }

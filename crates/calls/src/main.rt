@@ -1,37 +1,49 @@
 // Plays the calls of standard input, of which it reads at most 65,536 bytes, on one record.
 use libc::STDIN_FILENO;
 use libc::STDOUT_FILENO;
+use play::INPUT_LIMIT;
+use play::cursor::Cursor;
+use play::step::Stepped;
+use play::step::step;
 use record::Record;
 ghost use Prim.Native.Nat.{_≤_};
+ghost use mathlib.Core.Path.{_≡_};
 
-fn write_line(bytes: [u8; 256], len: usize)
-    requires { ⌜ len ≤ 256 ⌝ }
+// Prints what a line printed, and answers whether the next one is to be played.
+fn show(done: Stepped) -> bool
+    requires { ⌜ done .line .len ≤ 256 ⌝ }
+    ensures { λ r. ⌜ r ≡ done .more ⌝ }
 {
+    let line = done.line;
+    let bytes = line.bytes;
+    let len = line.len;
     io::write_all(STDOUT_FILENO, &bytes[..len]);
+    done.more
 }
 
-// Line after line from the first, while there is more.
-fn play_all(text: &[u8]) {
+// Line after line from the first, each on the record that those before it left.
+fn play_all(text: &[u8], left: bool) {
     let mut r = Record::new();
-    let mut at = 0;
-    let mut k: u64 = 1;
+    let mut here = Cursor::start();
     loop {
-        let done = play::step(r, text, at, k);
-        let line = done.line;
-        let bytes = line.bytes;
-        write_line(bytes, line.len);
-        if !done.more {
+        let done = step(&mut r, text, left, here);
+        if !show(done) {
             return;
         }
         let next = done.next;
-        r = next;
-        at = done.at;
-        k += 1;
+        here = next;
     }
 }
 
+// Whether one more byte can be read.
+fn input_left() -> bool {
+    let mut byte = [0u8; 1];
+    io::read_full(STDIN_FILENO, &mut byte) == 1
+}
+
 fn main() {
-    let mut input = io::large_buffer();
+    let mut input = [0u8; INPUT_LIMIT];
     let size = io::read_full(STDIN_FILENO, &mut input);
-    play_all(&input[..size]);
+    let left = size == INPUT_LIMIT && input_left();
+    play_all(&input[..size], left);
 }

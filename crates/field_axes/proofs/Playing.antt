@@ -17,10 +17,10 @@ use Rattle.field_axes.specs.Done.{PlaysText}
 -- what is written fits the buffer
 fitting : (text : List ℕ) (size n : ℕ) → Written n ≡ outputOf text size → n ≤ size
 unfolding outputOf
-fitting text size n = by-test (leb (length (played text)) size) refl
+fitting text size n = by-test (leb (length (played false text)) size) refl
   where
-    by-test : (b : Bool) → leb (length (played text)) size ≡ b → Written n ≡ cond b (Written (length (played text))) TooShort → n ≤ size
-    by-test true t e = let q : n ≡ length (played text) = cc in rw q (leb-true _ _ t)
+    by-test : (b : Bool) → leb (length (played false text)) size ≡ b → Written n ≡ cond b (Written (length (played false text))) TooShort → n ≤ size
+    by-test true t e = let q : n ≡ length (played false text) = cc in rw q (leb-true _ _ t)
     by-test false t e = let x : _≡_ {A = ℕ} 0 1 = cc in absurd (omega arith)
 
 module _ (text entry exit : List ℕ) (done : Output) (r : PlaysAll text entry exit done) where

@@ -4,7 +4,7 @@ use mathlib.Core.List.{List}
 use Prim.Native.Nat.{ℕ}
 use lib.IntN.{ℤ}
 use lib.ListN.{length}
-use Rattle.play.specs.Buffer as played
+use Rattle.play.specs.Buffer.{outputOf, playedInto}
 use Rattle.job.specs.Reply.{bufferOf, replyOf}
 use Rattle.report.specs.Report.{reportOf}
 use Rattle.field_axes.specs.Answer.{countOrRefusal, lent}
@@ -27,5 +27,5 @@ pub record ReportsText (text entry exit : List ℕ) (at : ℕ) (r : ℤ) : Type 
   pub buffer : exit ≡ bufferOf reportOf text entry
 
 pub record PlaysText (text entry exit : List ℕ) (r : ℤ) : Type 0 where
-  pub answer : r ≡ lengthOrShort (played.outputOf text (length entry))
-  pub buffer : exit ≡ played.bufferOf text entry
+  pub answer : r ≡ lengthOrShort (outputOf text (length entry))
+  pub buffer : exit ≡ playedInto text entry

@@ -1,4 +1,10 @@
+mod Reading
+mod Saying
+pub mod Frame
+pub mod Lending
+mod LentCalls
+pub mod Contracts
+mod Switching
+mod Arrays
 mod Stepping
-mod Whole
 mod Passing
-mod Playing

@@ -1,5 +1,5 @@
 pub mod Text
-pub mod Buffer
 pub mod Steps
+pub mod Buffer
 pub mod inner
 pub mod laws

@@ -1,45 +1,66 @@
--- A step of a text of calls: what the line at a place of the text does.
+-- A step of a text of calls: what the line at a cursor does to the record, and what it prints.
 use Prim.Native.Nat.{ℕ, _+_, _≤_, _<_}
 use mathlib.Core.Path.{_≡_}
-use mathlib.Core.Bool.{true, false, cond}
-use mathlib.Core.List.{List, [], _∷_, _++_}
+use mathlib.Core.Bool.{Bool, true, false, cond, not, _&&_}
+use mathlib.Core.List.{List, [], _∷_}
 use mathlib.Core.Option.{Option, none, some}
 use lib.Dec.{eqb}
 use lib.ListN.{drop, length}
 use Rattle.text.specs.Parts.{split}
 use Rattle.ledger.specs.Call.{Call}
-use Rattle.record.specs.Kept.{Kept}
-use Rattle.record.specs.Record.{afterOf}
+use Rattle.record.specs.Record.{afterOf, fresh}
 use Rattle.record.specs.declared.Record.{Record}
 use Rattle.call_text.specs.Answers.{answerLine, linePrinted}
 use Rattle.call_text.specs.Calls.{callOf}
-use Rattle.play.specs.Text.{played, playedFrom, unknownLine}
-use Rattle.play.specs.declared.Stepped.{Stepped}
+use Rattle.play.specs.Text.{unknownLine}
+use Rattle.play.specs.declared.cursor.Cursor.{Cursor}
+use Rattle.play.specs.declared.step.Stepped.{Stepped}
 
--- It stops at the end of the text, or at a line that is no call.
-unfoldable pub stopped : Record → ℕ → List ℕ → Stepped
-stopped r at text = record { more = false; at = at; next = r; line = linePrinted text }
+-- the text's start, line 1
+unfoldable pub startCursor : Cursor
+startCursor = record { at = 0; line = 1 }
 
-unfoldable pub onward : Record → ℕ → ℕ → ℕ → Option Call → Stepped
-onward r k at size none = stopped r at (unknownLine k)
-onward r k at size (some call) =
-    record { more = true; at = at + size + 1; next = afterOf r call; line = linePrinted (answerLine r call) }
+-- after a line of so many bytes and its line feed
+unfoldable pub pastLine : Cursor → ℕ → Cursor
+pastLine here size = record { at = here .at + size + 1; line = here .line + 1 }
 
-unfoldable pub stepped : Record → ℕ → ℕ → List (List ℕ) → Stepped
-stepped r k at [] = stopped r at []
-stepped r k at (part ∷ []) = cond (eqb (length part) 0) (stopped r at []) (stopped r at (unknownLine k))
-stepped r k at (line ∷ part ∷ parts) = onward r k at (length line) (callOf line)
+-- the lines from a cursor on
+unfoldable pub linesFrom : List ℕ → Cursor → List (List ℕ)
+linesFrom text here = split 10 (drop (here .at) text)
 
--- A place of a text that the lines before it lead to, with the record that they leave: what they have printed, and then what the lines
--- from this one on, which is line k, print on that record, is what the text prints.
-pub record Reached (text : List ℕ) (r : Record) (at k : ℕ) : Type 0 where
-  pub before : List ℕ
-  pub is : played text ≡ before ++ playedFrom r k (split 10 (drop at text))
-  pub keeps : Kept r
+-- the call of the first of them, if it is one
+unfoldable pub firstCall : List (List ℕ) → Option Call
+firstCall [] = none
+firstCall (part ∷ []) = none
+firstCall (line ∷ part ∷ parts) = callOf line
 
--- what a step ensures: line k, at a place of the text
-pub record Steps (r : Record) (text : List ℕ) (at k : ℕ) (z : Stepped) : Type 0 where
-  pub is : z ≡ stepped r k at (split 10 (drop at text))
+unfoldable pub afterCall : Record → Option Call → Record
+afterCall r none = r
+afterCall r (some call) = afterOf r call
+
+-- the text's end, or a line that is no call
+unfoldable pub stoppedAt : Cursor → List ℕ → Stepped
+stoppedAt here text = record { more = false; next = here; line = linePrinted text }
+
+unfoldable pub steppedBy : Record → Cursor → ℕ → Option Call → Stepped
+steppedBy r here size none = stoppedAt here (unknownLine (here .line))
+steppedBy r here size (some call) = record { more = true; next = pastLine here size; line = linePrinted (answerLine r call) }
+
+unfoldable pub stepped : Bool → Record → Cursor → List (List ℕ) → Stepped
+stepped left r here [] = stoppedAt here []
+stepped left r here (part ∷ []) = cond (eqb (length part) 0 && not left) (stoppedAt here []) (stoppedAt here (unknownLine (here .line)))
+stepped left r here (line ∷ part ∷ parts) = steppedBy r here (length line) (callOf line)
+
+-- What the lines before a cursor have come to: a fresh record at the text's start; or what a line that is a call leaves, and the cursor after it.
+pub data Reached (text : List ℕ) : Record → Cursor → Type 0 where
+  begun : Reached text fresh startCursor
+  gone : {r : Record} {here : Cursor} (line part : List ℕ) (parts : List (List ℕ)) (call : Call) → Reached text r here →
+      linesFrom text here ≡ line ∷ part ∷ parts → callOf line ≡ some call → Reached text (afterOf r call) (pastLine here (length line))
+
+-- the line at a cursor, played on the record r: what it prints, and the record after it
+pub record Steps (text : List ℕ) (left : Bool) (here : Cursor) (r : Record) (z : Stepped) (next : Record) : Type 0 where
+  pub is : z ≡ stepped left r here (linesFrom text here)
+  pub leaves : next ≡ afterCall r (firstCall (linesFrom text here))
   pub short : z .line .len ≤ 256
-  pub moves : z .more ≡ true → (at < z .at) × (z .at ≤ length text)
-  pub reaches : z .more ≡ true → Reached text (z .next) (z .at) (k + 1)
+  pub moves : z .more ≡ true → (here .at < z .next .at) × (z .next .at ≤ length text)
+  pub reaches : z .more ≡ true → Reached text next (z .next)

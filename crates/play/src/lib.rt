@@ -1,76 +1,15 @@
 // Calls read from text, played on a record, and answered by text.
-mod line;
+mod call;
+pub mod cursor;
 mod passes;
+pub mod step;
 
-use call_text::answer::Printed;
-use call_text::answer::answer_line;
-use call_text::answer::nothing;
-use call_text::answer::one_number;
-use call_text::find::find;
-use call_text::line::line_of;
-use line::play_line;
 use passes::fits;
 use passes::put_played;
-use record::Record;
-ghost use Rattle.call_text.specs.inner.Answers.{Prints};
 ghost use Rattle.play.specs.Buffer.{PlaysAll};
-ghost use Rattle.play.specs.Steps.{Reached, Steps};
-ghost use Rattle.play.specs.Text.{unknownLine};
 
-// What the line at a place of a text does: whether the next line is to be played, the place where that one starts, the record, and what
-// is printed.
-pub struct Stepped {
-    pub more: bool,
-    pub at: usize,
-    pub next: Record,
-    pub line: Printed,
-}
-
-fn unknown_line(k: u64) -> Printed
-    ensures { λ r. ⌜ Prints (unknownLine k) r ⌝ }
-{
-    one_number(b'?', k)
-}
-
-// Plays the line at a place of the text, which is line k, on the record that the lines before it left.
-pub fn step(r: Record, text: &[u8], at: usize, k: u64) -> Stepped
-    requires { ⌜ Reached (now text) r at k ⌝ }
-    ensures { λ z. ⌜ Steps r (now (text .entry)) at k z ⌝ }
-{
-    if text.len() <= at {
-        return Stepped {
-            more: false,
-            at,
-            next: r,
-            line: nothing(),
-        };
-    }
-    let end = find(text, at, b'\n');
-    if text.len() <= end {
-        return Stepped {
-            more: false,
-            at,
-            next: r,
-            line: unknown_line(k),
-        };
-    }
-    let played = play_line(r, line_of(&text[at..end]));
-    if !played.known {
-        return Stepped {
-            more: false,
-            at,
-            next: r,
-            line: unknown_line(k),
-        };
-    }
-    let next = played.next;
-    Stepped {
-        more: true,
-        at: end + 1,
-        next,
-        line: answer_line(played),
-    }
-}
+// How many bytes of its input the program reads.
+pub const INPUT_LIMIT: usize = 65_536;
 
 // The length of what was written, or that the buffer is too short.
 pub enum Output {

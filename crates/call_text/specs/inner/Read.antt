@@ -1,14 +1,17 @@
--- What the readers answer, by the definitions that they answer of.
+-- What the private readers answer, by the definitions that they answer of.
 use Prim.Native.Nat.{ℕ, _≤_}
-use mathlib.Core.Bool.{cond, false}
-use mathlib.Core.List.{List}
+use mathlib.Core.Bool.{cond}
+use mathlib.Core.List.{List, [], _∷_}
 use mathlib.Core.Path.{_≡_}
 use mathlib.Core.Option.{Option, none, some}
-use lib.IntN.{ℤ, pos}
-use lib.ListN.{take, replicate}
-use Rattle.ledger.specs.Call.{Call}
-use Rattle.call_text.specs.Calls.{callBy, callOf}
-use Rattle.call_text.specs.declared.line.Line.{Line}
+use lib.Dec.{leb}
+use lib.IntN.{ℤ}
+use lib.ListN.{length}
+use Rattle.text.specs.Parts.{split}
+use Rattle.call_text.specs.Numbers.{eachNumber}
+use Rattle.call_text.specs.Requests.{leftIn}
+use Rattle.call_text.specs.declared.line.Fields.{Fields}
+use Rattle.call_text.specs.declared.line.Fields.the-variants as Fields
 use Rattle.call_text.specs.declared.field.Unsigned.{Unsigned}
 use Rattle.call_text.specs.declared.field.Unsigned.the-variants as Unsigned
 use Rattle.call_text.specs.declared.field.Signed.{Signed}
@@ -22,13 +25,17 @@ unfoldable pub signedIs : Option ℤ → Signed
 signedIs none = Signed.No
 signedIs (some x) = Signed.Is x
 
-abbrev pub noLine : Line
-noLine = record { valid = false; tag = 0; count = 0; numbers = replicate 101 (pos 0) }
+-- a line's tag, and how many numbers follow it
+unfoldable pub counted : ℕ → Option (List ℤ) → Fields
+counted tag none = Fields.No
+counted tag (some numbers) = Fields.Are tag (length numbers)
 
--- the call of a line as it was read
-unfoldable pub found : Line → Option Call
-found l = cond (l .valid) (callBy (l .tag) (take (l .count) (l .numbers))) none
+unfoldable pub fieldsBy : ℕ → List (List ℕ) → Fields
+fieldsBy most [] = Fields.No
+fieldsBy most ([] ∷ fields) = Fields.No
+fieldsBy most ((tag ∷ []) ∷ fields) = cond (leb (length fields) most) (counted tag (eachNumber fields)) Fields.No
+fieldsBy most ((tag ∷ b ∷ bs) ∷ fields) = Fields.No
 
-pub record LineRead (line : List ℕ) (l : Line) : Type 0 where
-  pub reads : callOf line ≡ found l
-  pub within : l .count ≤ 101
+pub record FieldsRead (line : List ℕ) (entry exit : List ℤ) (z : Fields) : Type 0 where
+  pub is : z ≡ fieldsBy (length entry) (split 9 line)
+  pub leaves : exit ≡ leftIn entry line

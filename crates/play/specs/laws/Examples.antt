@@ -1,45 +1,80 @@
 -- Short texts of calls and what they print, as one theorem about the definitions. A text is written here with its bytes.
 use Prim.Native.Nat.{ℕ}
 use mathlib.Core.Path.{_≡_, refl}
+use mathlib.Core.Bool.{true, false}
 use mathlib.Core.List.{List, [], _∷_, _++_}
+use Rattle.integer.specs.Matrix.{matrixOf}
 use Rattle.text.specs.Numeral.{leadingZero, valueFrom}
 use Rattle.text.specs.Parts.{before, onto, split}
 use Rattle.text.specs.Range.{allWithin, within}
-use Rattle.ledger.specs.Refusal.{refusalOf}
-use Rattle.record.specs.Record.{afterOf, answerOf, counted, fresh, refusedOf}
+use Rattle.ledger.specs.Refusal.{equal, refusalOf, symmetric}
+use Rattle.ledger.specs.Refusal.{entriesWithin}
+use Rattle.record.specs.Record.{acceptedOf, afterOf, answerOf, counted, fresh, loadedRecord, refusedOf, valueOf}
 use Rattle.text.specs.Decimal.{digits, digitsBy}
-use Rattle.call_text.specs.Answers.{answerLine, rowOf, shown}
-use Rattle.call_text.specs.Calls.{callBy, callOf, callOfFields, loadOf, oneOf, sweepOf, turnOf, withNumbers}
-use Rattle.call_text.specs.Numbers.{digitsFrom, negative, numberOf, numbersOf, positive, signedOf}
+use Rattle.call_text.specs.Answers.{answerLine, rowFor, shown, shownAs, toldOf}
+use Rattle.call_text.specs.Calls.{argument, callBy, callOf, callOfFields, callWithin, loadBy, numberLimit, oneBy, sweepBy, turnBy, withNumbers}
+use Rattle.call_text.specs.Numbers.{eachNumber, numeral, signedOf, standsFor, unsignedOf, withMinus, withoutMinus}
 use Rattle.text.specs.Line.{further, line}
-use Rattle.play.specs.Text.{answered, played, playedFrom, unknownLine}
+use Rattle.play.specs.Text.{lineThen, played, playedFrom, unknownLine}
 
 -- `W`, with a line feed
 abbrev w-line : List ℕ
 w-line = 87 ∷ 10 ∷ []
 
--- `X 10` and a digit, with tabs for blanks here and below
+-- a tag and one number; `L`, 2 and an entry, then 0, 0 and 1, with tabs for blanks here and below
+abbrev one : ℕ → List ℕ → List ℕ
+one tag number = tag ∷ 9 ∷ number ++ 10 ∷ []
+
+abbrev load-2 : List ℕ → List ℕ
+load-2 entry = 76 ∷ 9 ∷ 50 ∷ 9 ∷ entry ++ 9 ∷ 48 ∷ 9 ∷ 48 ∷ 9 ∷ 49 ∷ 10 ∷ []
+
+-- 10,000,000,000, and 18,446,744,073,709,551,617, which is 2^64 + 1
+abbrev ten-billion : List ℕ
+ten-billion = 49 ∷ 48 ∷ 48 ∷ 48 ∷ 48 ∷ 48 ∷ 48 ∷ 48 ∷ 48 ∷ 48 ∷ 48 ∷ []
+
+abbrev past-64-bits : List ℕ
+past-64-bits = 49 ∷ 56 ∷ 52 ∷ 52 ∷ 54 ∷ 55 ∷ 52 ∷ 52 ∷ 48 ∷ 55 ∷ 51 ∷ 55 ∷ 48 ∷ 57 ∷ 53 ∷ 53 ∷ 49 ∷ 54 ∷ 49 ∷ 55 ∷ []
+
+-- `X`, a number of one digit and the count; `X 10` and the count
+abbrev refused : ℕ → ℕ → List ℕ
+refused digit count = 88 ∷ 9 ∷ digit ∷ 9 ∷ count ∷ 10 ∷ []
+
 abbrev refused-10 : ℕ → List ℕ
-refused-10 digit = 88 ∷ 9 ∷ 49 ∷ 48 ∷ 9 ∷ digit ∷ 10 ∷ []
+refused-10 count = 88 ∷ 9 ∷ 49 ∷ 48 ∷ 9 ∷ count ∷ 10 ∷ []
 
 -- `?` and a digit
 abbrev unknown : ℕ → List ℕ
 unknown digit = 63 ∷ 9 ∷ digit ∷ 10 ∷ []
 
 examples :
-    -- no text; no matrix loaded, twice; a second line that no line feed ends
-    (played [] ≡ [])
-    × (played (w-line ++ w-line) ≡ refused-10 49 ++ refused-10 50)
-    × (played (w-line ++ 87 ∷ []) ≡ refused-10 49 ++ unknown 50)
-    -- an empty line; `A 01`, a leading zero; `A -1`, a minus; `A 1 2`, a number too many
-    × (played (10 ∷ []) ≡ unknown 49)
-    × (played (65 ∷ 9 ∷ 48 ∷ 49 ∷ 10 ∷ w-line) ≡ unknown 49)
-    × (played (65 ∷ 9 ∷ 45 ∷ 49 ∷ 10 ∷ []) ≡ unknown 49)
-    × (played (65 ∷ 9 ∷ 49 ∷ 9 ∷ 50 ∷ 10 ∷ []) ≡ unknown 49)
-    -- `L 2 -0`, no number; `L 9 -1`: 5, n outside 2..8
-    × (played (76 ∷ 9 ∷ 50 ∷ 9 ∷ 45 ∷ 48 ∷ 10 ∷ []) ≡ unknown 49)
-    × (played (76 ∷ 9 ∷ 57 ∷ 9 ∷ 45 ∷ 49 ∷ 10 ∷ []) ≡ 88 ∷ 9 ∷ 53 ∷ 9 ∷ 49 ∷ 10 ∷ [])
-unfolding played playedFrom answered unknownLine split onto callOf callOfFields withNumbers callBy loadOf turnOf sweepOf oneOf numbersOf before
-    signedOf positive negative numberOf digitsFrom leadingZero valueFrom allWithin within answerLine shown rowOf afterOf answerOf refusedOf counted
-    fresh refusalOf line further digits digitsBy
-examples = (refl, refl, refl, refl, refl, refl, refl, refl, refl)
+    -- no text; no matrix loaded, twice; a second line that no line feed ends; input that is left after a line, and in one
+    (played false [] ≡ [])
+    × (played false (w-line ++ w-line) ≡ refused-10 49 ++ refused-10 50)
+    × (played false (w-line ++ 87 ∷ []) ≡ refused-10 49 ++ unknown 50)
+    × (played true w-line ≡ refused-10 49 ++ unknown 50)
+    × (played true (w-line ++ 87 ∷ []) ≡ refused-10 49 ++ unknown 50)
+    -- an empty line; `B 1`, no tag; `L`, no n; `W 1` and `A 1 2`, a number too many
+    × (played false (10 ∷ w-line) ≡ unknown 49)
+    × (played false (one 66 (49 ∷ [])) ≡ unknown 49)
+    × (played false (76 ∷ 10 ∷ []) ≡ unknown 49)
+    × (played false (one 87 (49 ∷ [])) ≡ unknown 49)
+    × (played false (one 65 (49 ∷ 9 ∷ 50 ∷ [])) ≡ unknown 49)
+    -- no numbers: `A 01`, `A -0`, `A -`, `A -01`
+    × (played false (one 65 (48 ∷ 49 ∷ [])) ≡ unknown 49)
+    × (played false (one 65 (45 ∷ 48 ∷ [])) ≡ unknown 49)
+    × (played false (one 65 (45 ∷ [])) ≡ unknown 49)
+    × (played false (one 65 (45 ∷ 48 ∷ 49 ∷ [])) ≡ unknown 49)
+    -- `L 9`, `L -1`: 5; `L 2`: 6; the entries -10,000,000,000 and 2^64 + 1: 8
+    × (played false (one 76 (57 ∷ [])) ≡ refused 53 49)
+    × (played false (one 76 (45 ∷ 49 ∷ [])) ≡ refused 53 49)
+    × (played false (one 76 (50 ∷ [])) ≡ refused 54 49)
+    × (played false (load-2 (45 ∷ ten-billion)) ≡ refused 56 49)
+    × (played false (load-2 past-64-bits) ≡ refused 56 49)
+    -- after a load: `Q -1` and `Q` 10,000,000,000: 2; `A -1` and `A` 2^64 + 1: 9
+    × (played false (load-2 (49 ∷ []) ++ one 81 (45 ∷ 49 ∷ []) ++ one 81 ten-billion) ≡ 76 ∷ 10 ∷ refused 50 49 ++ refused 50 50)
+    × (played false (load-2 (49 ∷ []) ++ one 65 (45 ∷ 49 ∷ []) ++ one 65 past-64-bits) ≡ 76 ∷ 10 ∷ refused 57 49 ++ refused 57 50)
+unfolding played playedFrom lineThen unknownLine split onto callOf callWithin numberLimit callOfFields withNumbers callBy loadBy turnBy sweepBy oneBy
+    argument eachNumber before signedOf withMinus withoutMinus unsignedOf standsFor numeral leadingZero valueFrom allWithin within answerLine toldOf
+    shown shownAs rowFor afterOf answerOf acceptedOf loadedRecord valueOf refusedOf counted fresh refusalOf entriesWithin symmetric equal matrixOf line
+    further digits digitsBy
+examples = (refl, refl, refl, refl, refl, refl, refl, refl, refl, refl, refl, refl, refl, refl, refl, refl, refl, refl, refl, refl, refl)

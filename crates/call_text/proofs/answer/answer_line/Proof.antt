@@ -3,44 +3,44 @@ use borrow.Author.Needs.{needs}
 use mir.Facts.{toZ-ofZ}
 use mir.Syntax.{w64}
 use mir.Val.{SFits}
-use Rattle.call_text.specs.Answers.{shown}
+use Rattle.call_text.specs.Answers.{shown, shownAs}
 use Rattle.call_text.proofs.answer.answer_line.Statement.{statement}
 use Rattle.call_text.proofs.answer.answer_line.Tie as tie
 
 loaded : tie.Need-returns
-unfolding shown
+unfolding shown shownAs
 loaded c = rw (c .before .enum-told .given .1) (c .loaded-line .ensures)
 
 turned : tie.Need-returns-2
-unfolding shown
+unfolding shown shownAs
 turned c = rw (c .before .before .before .answer .given .1, c .before .if1 .taken) (c .one-number .ensures)
 
 not-turned : tie.Need-returns-3
-unfolding shown
+unfolding shown shownAs
 not-turned c = rw (c .before .before .before .answer .given .1, c .before .if1 .left) (c .one-number2 .ensures)
 
 swept : tie.Need-returns-4
-unfolding shown
+unfolding shown shownAs
 swept c = rw (c .before .before .answer2 .given .1) (c .one-number3 .ensures)
 
 pair : tie.Need-returns-5
-unfolding shown
+unfolding shown shownAs
 pair c = rw (c .before .before .answer3 .given .1) (c .two-numbers .ensures)
 
 no-pair : tie.Need-returns-6
-unfolding shown
+unfolding shown shownAs
 no-pair c = rw (c .before .enum-told2 .given .1) (c .none-line .ensures)
 
 axis : tie.Need-returns-7
-unfolding shown
+unfolding shown shownAs
 axis c =
-    let a = c .before .before .before in
+    let a = c .before .before in
     let f : SFits w64 (a .answer4 .given .0 .0) = search needs in
-    rw (a .answer4 .given .1) (rw (toZ-ofZ f, c .before .channels .ensures) at (c .axis-line .ensures))
+    rw (a .answer4 .given .1) (rw (toZ-ofZ f) at (c .axis-line .ensures))
 
 refused : tie.Need-returns-8
-unfolding shown
-refused c = rw (c .before .before .before .answer5 .given .1) (rw (c .before .refused-calls .ensures) at (c .two-numbers2 .ensures))
+unfolding shown shownAs
+refused c = rw (c .before .before .before .answer5 .given .1) (c .two-numbers2 .ensures)
 
 pub answer-line-spec : {M : Type 1} → statement M
 answer-line-spec =
@@ -59,10 +59,8 @@ answer-line-spec =
     (λ c κs. search needs)
     (λ c. search needs)
     (λ c κs. search needs)
-    (λ c κs. search needs)
     (λ c. search needs)
     (λ c. search needs)
-    (λ c κs. search needs)
     (λ c. search needs)
     (λ c κs. search needs)
     loaded

@@ -1,7 +1,6 @@
--- `field::natural` meets its contract: test by test, and then `digits` reads the value.
+-- `field::natural` meets its contract: no numeral, a long one, or one that is read.
 use borrow.Author.Needs.{needs}
-use native.Mathlib.Omega.{arith}
-use Rattle.call_text.proofs.Digits.{number-empty, number-long, number-zero, number-digits}
+use Rattle.call_text.proofs.Digits.{natural-long, natural-none, natural-short, of-digits}
 use Rattle.call_text.proofs.field.natural.Statement.{statement}
 use Rattle.call_text.proofs.field.natural.Tie as tie
 
@@ -9,9 +8,8 @@ pub natural-spec : {M : Type 1} → statement M
 natural-spec =
     tie.close
     (tie.spec
-    (λ c. search (needs, number-empty))
-    (λ c. number-long _ (omega arith) (omega arith))
     (λ c κs. search needs)
-    (λ c. search (needs, number-zero))
-    (λ c κs. search needs)
-    (λ c. search (needs, number-digits)))
+    (λ c. search (needs, natural-none))
+    (λ c. search (needs, natural-long))
+    (λ c κs. (search needs, search (needs, of-digits)))
+    (λ c. search (needs, natural-short)))

@@ -1,0 +1,34 @@
+-- `request::read_line` meets its contract: no fields, or a tag and numbers.
+use borrow.Author.Needs.{needs}
+use Rattle.call_text.proofs.Lists.{asks-none, asks-some, in-array}
+use Rattle.call_text.proofs.request.read_line.Statement.{statement}
+use Rattle.call_text.proofs.request.read_line.Tie as tie
+
+returns : tie.Need-returns
+returns c =
+    let f = c .before .before .before .before in
+    asks-none _ _ _ _ (f .read-fields .ensures) (c .before .enum-told .given .1) _ (c .bare .ensures)
+
+by-tag-requires : tie.Need-by-tag-requires
+by-tag-requires c κs =
+    let x = c .before .before in
+    in-array _ _ _ _ (x .before .before .before .read-fields .ensures) _ _ (x .tag .given .1)
+
+returns-2 : tie.Need-returns-2
+returns-2 c =
+    let x = c .before .before .before in
+    asks-some _ _ _ _ (x .before .before .before .read-fields .ensures) _ _ (x .tag .given .1) _ (c .by-tag .ensures)
+
+pub read-line-spec : {M : Type 1} → statement M
+read-line-spec =
+    tie.close
+    (tie.spec
+    (λ c κs. search needs)
+    (λ c. search needs)
+    (λ c. search needs)
+    (λ c κs. search needs)
+    (λ c. search needs)
+    returns
+    by-tag-requires
+    (λ c. search needs)
+    returns-2)

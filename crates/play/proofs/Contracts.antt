@@ -1,0 +1,76 @@
+-- The contracts of functions whose first parameter is a lent record, as their callers cite them.
+use Prim.Native.Nat.{ℕ}
+use mathlib.Core.List.{[], _∷_, List}
+use denote.Builtin.{bool, i64, u8, usize, SliceRefOf}
+use denote.Exit.{yes}
+use denote.Ref.{now}
+use denote.Signature.{Slot, plain, typesAt}
+use denote.RattleType.{Denots}
+use denote.Triple.End.{Kepts}
+use contract.Lifetimes.{Lfts}
+use Rattle.ledger.specs.Call.{load, loosePair, sweep, turn}
+use Rattle.record.specs.Done.{AxisDone, Done, LooseDone}
+use Rattle.record.specs.Kept.{Kept}
+use Rattle.record.specs.declared.AxisAnswer.{AxisAnswer}
+use Rattle.record.specs.declared.Record.{Record}
+use Rattle.record.specs.declared.query.Answer.{Answer}
+use Rattle.call_text.proofs.request.Request as Req
+use Rattle.play.specs.Steps.{Reached, Steps}
+use Rattle.play.specs.declared.step.Stepped.{Stepped}
+use Rattle.play.specs.inner.Calls.{Answers, requestCall}
+use Rattle.play.proofs.cursor.Cursor as Cur
+
+abbrev pub word : {n : ℕ} → Slot n
+word = plain (λ κs. usize)
+
+-- numbers at the second lifetime
+abbrev pub integers : Slot 2
+integers = SliceRefOf (1 ∷ []) tt (plain (λ κs. i64)) (λ κs. tt)
+
+-- each requires that the record is kept
+abbrev pub keeping : {n : ℕ} (ss : List (Slot n)) (κs : Lfts n) → Denots (typesAt ss κs) → Record → Type 0
+keeping ss κs a r = Kept r
+
+abbrev pub load-slots : List (Slot 2)
+load-slots = word ∷ integers ∷ []
+
+abbrev pub load-done : (κs : Lfts 2) → Denots (typesAt load-slots κs) → Record → Answer → Record → Type 0
+load-done κs a r z next = Done r (load (a .0) (now (a .1 .0))) z next
+
+abbrev pub turn-slots : List (Slot 1)
+turn-slots = word ∷ word ∷ []
+
+abbrev pub turn-done : (κs : Lfts 1) → Denots (typesAt turn-slots κs) → Record → Answer → Record → Type 0
+turn-done κs a r z next = Done r (turn (a .0) (a .1 .0)) z next
+
+abbrev pub sweep-slots : List (Slot 1)
+sweep-slots = []
+
+abbrev pub sweep-done : (κs : Lfts 1) → Denots (typesAt sweep-slots κs) → Record → Answer → Record → Type 0
+sweep-done κs a r z next = Done r sweep z next
+
+abbrev pub one-slots : List (Slot 1)
+one-slots = word ∷ []
+
+abbrev pub pair-done : (κs : Lfts 1) → Denots (typesAt one-slots κs) → Record → Answer → Record → Type 0
+pair-done κs a r z next = LooseDone r (a .0) z next
+
+abbrev pub axis-done : (κs : Lfts 1) → Denots (typesAt one-slots κs) → Record → AxisAnswer → Record → Type 0
+axis-done κs a r z next = AxisDone r (a .0) z next
+
+-- `play::call`
+abbrev pub call-slots : List (Slot 2)
+call-slots = plain (λ κs. Req.the-row) ∷ integers ∷ []
+
+abbrev pub call-done : (κs : Lfts 2) → Denots (typesAt call-slots κs) → Record → AxisAnswer → Record → Type 0
+call-done κs a r z next = Answers r (requestCall (a .0) (now (a .1 .0))) z next
+
+-- `play::step::step`: the text, at the second lifetime; whether input is left; the cursor
+abbrev pub step-slots : List (Slot 2)
+step-slots = SliceRefOf (1 ∷ []) tt (plain (λ κs. u8)) (λ κs. tt) ∷ plain (λ κs. bool) ∷ plain (λ κs. Cur.the-row) ∷ []
+
+abbrev pub step-asks : (κs : Lfts 2) → Denots (typesAt step-slots κs) → Record → Type 0
+step-asks κs a r = Reached (now (a .0)) r (a .1 .1 .0)
+
+abbrev pub step-done : (κs : Lfts 2) → Denots (typesAt step-slots κs) → Record → Stepped → Record → Type 0
+step-done κs a r z next = Steps (now (a .0)) (a .1 .0) (a .1 .1 .0) r z next
