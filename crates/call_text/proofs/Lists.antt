@@ -132,7 +132,8 @@ module _ (rest : List ℤ) where
   unfolding callBy
   stands tag ys =
       either ys (eqb tag 76) _ _ (load-stands ys) (either ys (eqb tag 84) _ _ (turn-stands ys) (either ys (eqb tag 87) _ _ (sweep-stands ys)
-      (either ys (eqb tag 81) _ _ (one-stands loosePair pair-stands ys) (either ys (eqb tag 65) _ _ (one-stands axis axis-stands ys) (none-stands ys)))))
+      (either ys (eqb tag 81) _ _ (one-stands loosePair pair-stands ys)
+      (either ys (eqb tag 65) _ _ (one-stands axis axis-stands ys) (none-stands ys)))))
 
 -- the reader's answer, by what was read of the fields
 module _ (line : List ℕ) (entry exit : List ℤ) (z : Fields) (r : FieldsRead line entry exit z) where
@@ -149,7 +150,8 @@ module _ (line : List ℕ) (entry exit : List ℤ) (z : Fields) (r : FieldsRead 
       }
 
 -- a line with a tag and numbers
-module _ (line : List ℕ) (entry exit : List ℤ) (tag count : ℕ) (k : Tagged (length entry) (split 9 line) tag count) (l : exit ≡ leftIn entry line) where
+module _ (line : List ℕ) (entry exit : List ℤ) (tag count : ℕ) (k : Tagged (length entry) (split 9 line) tag count)
+    (l : exit ≡ leftIn entry line) where
   parted : exit ≡ k .numbers ++ drop count entry
   unfolding leftIn
   parted = l ∙ rw (k .lead, k .size)

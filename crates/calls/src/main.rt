@@ -8,6 +8,7 @@ use play::step::step;
 use record::Record;
 ghost use Prim.Native.Nat.{_≤_};
 ghost use mathlib.Core.Path.{_≡_};
+ghost use Rattle.play.specs.Steps.{Ends};
 
 // Prints what a line printed, and answers whether the next one is to be played.
 fn show(done: Stepped) -> bool
@@ -21,14 +22,16 @@ fn show(done: Stepped) -> bool
     done.more
 }
 
-// Line after line from the first, each on the record that those before it left.
-fn play_all(text: &[u8], left: bool) {
+// Line after line from the first, each on the record that those before it left, to where there is no more: that cursor is the answer.
+fn play_all(text: &[u8], left: bool) -> Cursor
+    ensures { λ z. ⌜ Ends (now (text .entry)) left z ⌝ }
+{
     let mut r = Record::new();
     let mut here = Cursor::start();
     loop {
         let done = step(&mut r, text, left, here);
         if !show(done) {
-            return;
+            return here;
         }
         let next = done.next;
         here = next;

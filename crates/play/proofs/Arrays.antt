@@ -13,7 +13,8 @@ use base.Logic.{guardI, via}
 use base.Fml.{Fml, GName, fat, fdead, flent, flft, fsep}
 use prog.Wp.{Env, Heap}
 use ghost.Atoms.{Atoms}
-use types.Kit.{drop, Given, Goal, Go, Item, Seq, Soaks, Sq, ‵, raw, _⊛_, some, later, _$_, !, move, use1, use3, split, pick, rewrite, fsplit, fjoin, fpick, fpack, feqL, await}
+use types.Kit.{drop, Given, Goal, Go, Item, Seq, Soaks, Sq, ‵, raw, _⊛_, some, later, _$_, !, move, use1, use3, split, pick, rewrite, fsplit, fjoin}
+use types.Kit.{fpick, fpack, feqL, await}
 use types.Run.{Opd}
 use types.SemTy.{Arr}
 use types.Share.{PartsLaws, arr-laws, arr-parts}
@@ -71,18 +72,22 @@ module _ {M : Type 1} (𝓤 : URA M) (H : Heap 𝓤) (A : Atoms 𝓤) (W : Given
         owned ! (Array i64 n) (Is (Array i64 n)) (array-makes 𝓤 H A W i64 (sint-makes 𝓤 H A W w64) n) (replicate n (pos 0)) _ (zeros-are n) $
         move ! (1 ∷ 0 ∷ []) $ fjoin ! $
         fpack ! (List Val) (λ us. fsep (cellAt fullShare (Array i64 n .mir) us l 0) (Array i64 n .own (replicate n (pos 0)) us)) (zeros n ∷ []) $
-        use1 W (‵ (arr-parts (shares i64) n .part fullShare (replicate n (pos 0)) l 0)) (array-apart 𝓤 H A W i64 fullShare tt n (replicate n (pos 0)) l 0) $
+        use1 W (‵ (arr-parts (shares i64) n .part fullShare (replicate n (pos 0)) l 0))
+        (array-apart 𝓤 H A W i64 fullShare tt n (replicate n (pos 0)) l 0) $
         use1 W (‵ (Arr (mem i64) n .lies (replicate n (pos 0)) l 0)) (laws .whole-in (replicate n (pos 0)) l 0) $ fsplit ! $ feqL ! (λ e.
         lft-new ! z (λ ν. move ! (1 ∷ []) $
-        use1 W (later (some (λ (δ : GName). ‵ (MutSlice ℓ (ν ∷ []) i64 .own (part-at l δ (replicate n (pos 0))) (sliceVal (l, 0) (length (replicate n (pos 0))) ∷ [])) ⊛
+        use1 W (later (some (λ (δ : GName). ‵
+        (MutSlice ℓ (ν ∷ []) i64 .own (part-at l δ (replicate n (pos 0))) (sliceVal (l, 0) (length (replicate n (pos 0))) ∷ [])) ⊛
         ‵ (flent (ν ∷ []) (Held i64 (length (replicate n (pos 0))) l 0 δ)))))
         (lends-slice 𝓤 H A W i64 ℓ (ν ∷ []) (replicate n (pos 0)) l 0 (subst (Room i64) (sym e) room)) $ await ! z $ pick ! (λ δ. split ! $
         rewrite ! 0 (λ (m : ℕ). ‵ (MutSlice ℓ (ν ∷ []) i64 .own (part-at l δ (replicate n (pos 0))) (sliceVal (l, 0) m ∷ []))) e refl $
         rewrite ! 1 (λ (m : ℕ). ‵ (flent (ν ∷ []) (Held i64 m l 0 δ))) e refl $ move ! (2 ∷ 0 ∷ 1 ∷ []) $ k ν δ)))
 
     -- it comes back with ys in it, and is lent as a `&[i64]`
-    pub shares-array : (ℓ : Lifetime) (ν : ℕ) (δ : GName) (ys : List ℤ) → length ys ≡ n → ((μ : ℕ) (ε : GName) → Seq (Go {0}) W (‵ (flft (μ ∷ []) fullShare) ∷
-        ‵ (ShrSlice ℓ (μ ∷ []) i64 .own (part-at l ε ys) (sliceVal (l, 0) n ∷ [])) ∷ ‵ (flent (μ ∷ []) (arr-parts (shares i64) n .part fullShare ys l 0)) ∷ Γ) G)
+    pub shares-array : (ℓ : Lifetime) (ν : ℕ) (δ : GName) (ys : List ℤ) → length ys ≡ n →
+        ((μ : ℕ) (ε : GName) → Seq (Go {0}) W (‵ (flft (μ ∷ []) fullShare) ∷
+        ‵ (ShrSlice ℓ (μ ∷ []) i64 .own (part-at l ε ys) (sliceVal (l, 0) n ∷ [])) ∷ ‵
+        (flent (μ ∷ []) (arr-parts (shares i64) n .part fullShare ys l 0)) ∷ Γ) G)
         → Seq (Go {0}) W (‵ (flft (ν ∷ []) fullShare) ∷ ‵ (flent (ν ∷ []) (Held i64 n l 0 δ)) ∷ ‵ (finally i64 δ ys) ∷ Γ) G
     shares-array ℓ ν δ ys e k =
         lft-end ! z $ use3 W (later (‵ (Arr (mem i64) n .lies ys l 0))) (slice-back 𝓤 H A W i64 (ν ∷ []) δ ys n l 0) $ await ! z $

@@ -13,7 +13,8 @@ use base.Logic.{SProp, ent, id⊢, via}
 use base.Fml.{ftrue, fat, froom, fdies}
 use prog.Wp.{Heap, Env}
 use ghost.Atoms.{Atoms}
-use types.Kit.{Given, Item, ‵, _⊛_, ⋆, mean, Goal, prop, Go, Seq, Step, step, Sq, allocs, frees as frees-goal, _$_, !, move, drop, split3, group, use0, use1, done}
+use types.Kit.{Given, Item, ‵, _⊛_, ⋆, mean, Goal, prop, Go, Seq, Step, step, Sq, allocs, frees as frees-goal, _$_, !, move, drop, split3, group}
+use types.Kit.{use0, use1, done}
 use types.Run.{Reads, Writes, init, store, look, forget, alloc1, alloc0, free1, free0}
 
 -- what a local holds: nothing yet, a value, or its cell is lent out
@@ -102,13 +103,15 @@ module _ {M : Type 1} {𝓤 : URA M} {H : Heap 𝓤} {A : Atoms 𝓤} {W : Given
       first-in t (with-held ss i out) $ move ! (1 ∷ []) $ k)
 
   -- and put back
-  pub puts : {Γ : List (Item 𝓤)} {G : Goal 𝓤 H} (ss : List Slot) (i : ℕ) (τ : Ty) (l : ℕ) (h : Held) → At ss i (record { type = τ; block = l; held = out }) →
+  pub puts : {Γ : List (Item 𝓤)} {G : Goal 𝓤 H} (ss : List Slot) (i : ℕ) (τ : Ty) (l : ℕ) (h : Held) →
+      At ss i (record { type = τ; block = l; held = out }) →
       Step (Go {0}) W (frame 𝓤 (with-held ss i h) ∷ Γ) G (cell 𝓤 τ l h ∷ frame 𝓤 ss ∷ Γ) G
   puts [] i τ l h e = absurd e
   puts {Γ} {G} (t ∷ ss) zero τ l h e = step (λ k. move ! (1 ∷ []) $ first-out t ss $ drop ! $ move ! (2 ∷ []) $
       subst (λ (u : Slot). Sq W (cell 𝓤 (u .type) (u .block) h ∷ ‵ (fdies (t .type) (t .block)) ∷ frame 𝓤 ss ∷ Γ) G) e
       (first-in (record { type = t .type; block = t .block; held = h }) ss $ k))
-  puts {Γ} {G} (t ∷ ss) (suc i) τ l h e = step (λ k. move ! (1 ∷ []) $ first-out t ss $ move ! (3 ∷ 2 ∷ []) $ puts ss i τ l h e $ move ! (1 ∷ 2 ∷ 0 ∷ []) $
+  puts {Γ} {G} (t ∷ ss) (suc i) τ l h e =
+      step (λ k. move ! (1 ∷ []) $ first-out t ss $ move ! (3 ∷ 2 ∷ []) $ puts ss i τ l h e $ move ! (1 ∷ 2 ∷ 0 ∷ []) $
       first-in t (with-held ss i h) $ k)
 
 -- a local that is lent out and put back
@@ -136,7 +139,8 @@ module _ {M : Type 1} {𝓤 : URA M} {H : Heap 𝓤} {A : Atoms 𝓤} {W : Given
 
   module _ {τ : Ty} {l : ℕ} where
     -- what is read within the cell of the local i, whatever stands beside it
-    pub within : Go {0} → (ss : List Slot) (i : ℕ) {v : Val} → At ss i (record { type = τ; block = l; held = holds v }) → {σ : Ty} {b o : ℕ} {w : Val} →
+    pub within : Go {0} → (ss : List Slot) (i : ℕ) {v : Val} → At ss i (record { type = τ; block = l; held = holds v }) →
+        {σ : Ty} {b o : ℕ} {w : Val} →
         ((Δ : List (Item 𝓤)) → Reads (Go {0}) W (‵ (fat fullShare τ l 0 v) ∷ Δ) σ b o w) → Reads (Go {0}) W (frame 𝓤 ss ∷ Γ) σ b o w
     within t ss i {v} e r =
         let s : Slot = record { type = τ; block = l; held = holds v } in
@@ -144,7 +148,8 @@ module _ {M : Type 1} {𝓤 : URA M} {H : Heap 𝓤} {A : Atoms 𝓤} {W : Given
         (puts-back ss i s (holds v) e $
         subst (λ (ts : List Slot). Sq W (frame 𝓤 ts ∷ Γ) (prop (⋆ 𝓤 H A (frame 𝓤 ss ∷ Γ)))) (sym (unchanged ss i s e)) (done !)) (r _)
 
-    pub here : Go {0} → (ss : List Slot) (i : ℕ) {v : Val} → At ss i (record { type = τ; block = l; held = holds v }) → Reads (Go {0}) W (frame 𝓤 ss ∷ Γ) τ l 0 v
+    pub here : Go {0} → (ss : List Slot) (i : ℕ) {v : Val} → At ss i (record { type = τ; block = l; held = holds v }) →
+        Reads (Go {0}) W (frame 𝓤 ss ∷ Γ) τ l 0 v
     here t ss i e = within t ss i e (λ Δ. look ! 0 refl)
 
     -- a local is written
@@ -163,7 +168,8 @@ module _ {M : Type 1} {𝓤 : URA M} {H : Heap 𝓤} {A : Atoms 𝓤} {W : Given
         Writes (Go {0}) W (frame 𝓤 ss ∷ Γ) τ l 0 v (frame 𝓤 (with-held ss i (holds v)) ∷ Γ)
     fills t ss i e wt = into ss (record { type = τ; block = l; held = room }) room i e (init ! 0 refl wt) refl
 
-    pub refills : Go {0} → (ss : List Slot) (i : ℕ) (u : Val) → At ss i (record { type = τ; block = l; held = holds u }) → {v : Val} → Holds (hasTy τ v) × WT v →
+    pub refills : Go {0} → (ss : List Slot) (i : ℕ) (u : Val) → At ss i (record { type = τ; block = l; held = holds u }) → {v : Val} →
+        Holds (hasTy τ v) × WT v →
         Writes (Go {0}) W (frame 𝓤 ss ∷ Γ) τ l 0 v (frame 𝓤 (with-held ss i (holds v)) ∷ Γ)
     refills t ss i u e wt = into ss (record { type = τ; block = l; held = holds u }) (holds u) i e (store ! 0 refl wt) refl
 
@@ -176,11 +182,14 @@ module _ {M : Type 1} {𝓤 : URA M} {H : Heap 𝓤} {A : Atoms 𝓤} {W : Given
 
 -- the same where another entry stands before the frame
 module _ {M : Type 1} {𝓤 : URA M} {H : Heap 𝓤} {A : Atoms 𝓤} {W : Given 𝓤 H A} {Γ : List (Item 𝓤)} {j : Item 𝓤} {τ : Ty} {l : ℕ} where
-  pub within-next : Go {0} → (ss : List Slot) (i : ℕ) {v : Val} → At ss i (record { type = τ; block = l; held = holds v }) → {σ : Ty} {b o : ℕ} {w : Val} →
+  pub within-next : Go {0} → (ss : List Slot) (i : ℕ) {v : Val} → At ss i (record { type = τ; block = l; held = holds v }) →
+      {σ : Ty} {b o : ℕ} {w : Val} →
       ((Δ : List (Item 𝓤)) → Reads (Go {0}) W (‵ (fat fullShare τ l 0 v) ∷ Δ) σ b o w) → Reads (Go {0}) W (j ∷ frame 𝓤 ss ∷ Γ) σ b o w
-  within-next t ss i e r = reads-as (j ∷ frame 𝓤 ss ∷ Γ) (frame 𝓤 ss ∷ j ∷ Γ) (move ! (1 ∷ []) $ done !) (move ! (1 ∷ []) $ done !) (within t ss i e r)
+  within-next t ss i e r = reads-as (j ∷ frame 𝓤 ss ∷ Γ) (frame 𝓤 ss ∷ j ∷ Γ) (move ! (1 ∷ []) $ done !) (move ! (1 ∷ []) $ done !)
+      (within t ss i e r)
 
-  pub next : Go {0} → (ss : List Slot) (i : ℕ) {v : Val} → At ss i (record { type = τ; block = l; held = holds v }) → Reads (Go {0}) W (j ∷ frame 𝓤 ss ∷ Γ) τ l 0 v
+  pub next : Go {0} → (ss : List Slot) (i : ℕ) {v : Val} → At ss i (record { type = τ; block = l; held = holds v }) →
+      Reads (Go {0}) W (j ∷ frame 𝓤 ss ∷ Γ) τ l 0 v
   next t ss i e = within-next t ss i e (λ Δ. look ! 0 refl)
 
 module _ {M : Type 1} {𝓤 : URA M} {H : Heap 𝓤} {A : Atoms 𝓤} {W : Given 𝓤 H A} where
@@ -194,7 +203,8 @@ module _ {M : Type 1} {𝓤 : URA M} {H : Heap 𝓤} {A : Atoms 𝓤} {W : Given
   pub releases : {Γ : List (Item 𝓤)} (ss : List Slot) → Holds (all-in ss) → {g : Goal 𝓤 H} → Sq W Γ g → Sq W (frame 𝓤 ss ∷ Γ) (frees-goal (env ss) g)
   unfolding frame
   releases [] all k = drop ! $ free0 ! $ k
-  releases {Γ} (s ∷ ss) all {g} k = first-out s ss $ apart (s .held) (and-yes (is-in (s .held)) (all-in ss) all .0) (releases ss (and-yes (is-in (s .held)) (all-in ss) all .1) k)
+  releases {Γ} (s ∷ ss) all {g} k =
+      first-out s ss $ apart (s .held) (and-yes (is-in (s .held)) (all-in ss) all .0) (releases ss (and-yes (is-in (s .held)) (all-in ss) all .1) k)
     where
       apart : (h : Held) → Holds (is-in h) → Sq W (frame 𝓤 ss ∷ Γ) (frees-goal (env ss) g) →
           Sq W (cell 𝓤 (s .type) (s .block) h ∷ ‵ (fdies (s .type) (s .block)) ∷ frame 𝓤 ss ∷ Γ) (frees-goal ((s .type, s .block) ∷ env ss) g)

@@ -16,7 +16,8 @@ use contract.Lifetimes.{Lfts, Shares, toks}
 use contract.Monad.{fact}
 use types.Run.{Opds}
 use sound.WpLaws.{FmC}
-use types.Kit.{Step, step, Given, Item, Goal, Post, lands, runs, settles, Soaks, Seq, Go, ‵, raw, _⊛_, some, given, later, mean, _$_, _∵_, !, qed, by, move, drop, use1, use2, use3, split, join, pick, learn}
+use types.Kit.{Step, step, Given, Item, Goal, Post, lands, runs, settles, Soaks, Seq, Go, ‵, raw, _⊛_, some, given, later, mean, _$_, _∵_, !, qed, by}
+use types.Kit.{move, drop, use1, use2, use3, split, join, pick, learn}
 use types.Kit.{fsplit, fjoin, fpick, fpack, check, frame, show, await, updating, now as at-once, done}
 use types.SemTy.{Body as Body₀}
 use types.Tokens.{lft-new, lft-end}
@@ -53,7 +54,8 @@ module _ {M : Type 1} (𝓤 : URA M) (H : Heap 𝓤) (A : Atoms 𝓤) (W : Given
       Step (Go {0}) W Γ (lands C Λ E d u b p) Γ (lands C Λ E d v b p)
   lands-as {Γ} {C} {Λ} {E} {d} {b} {p} e = step (λ k. subst (λ (w : Val). Seq (Go {0}) W Γ (lands C Λ E d w b p)) (sym e) k)
 
--- The contract of such a function: ss are its other parameters, Ψ is what it requires and Φ what it ensures, of the record at entry, the result and the
+-- The contract of such a function: ss are its other parameters, Ψ is what it requires and Φ what it ensures, of the record at entry, the result
+-- and the
 -- record at exit.
 module _ (Q : RattleType) {n : ℕ} (ss : List (Slot (suc n))) (ks : Kepts ss) (Ψ : (κs : Lfts (suc n)) → Denots (typesAt ss κs) → Record → Type 0)
     (Φ : (κs : Lfts (suc n)) → Denots (typesAt ss κs) → Record → Q .Denot → Record → Type 0) where
@@ -95,11 +97,13 @@ module _ (Q : RattleType) {n : ℕ} (ss : List (Slot (suc n))) (ks : Kepts ss) (
     Brought α = sep 𝓤 tokens (sem 𝓤 H A (owns (typesAt ss (α ∷ [], κs)) (a α) (vss α)))
 
     goes : (α : ℕ) (δ : GName) → Ψ (α ∷ [], κs) (a α) h
-        → ent 𝓤 (sep 𝓤 (A .lft (α ∷ []) fullShare) (sep 𝓤 (sem 𝓤 H A (MutRef (named 0) (α ∷ []) Rec.the-row .own (lent δ h) (vptr b o ∷ []))) (Brought α)))
+        → ent 𝓤 (sep 𝓤 (A .lft (α ∷ []) fullShare)
+        (sep 𝓤 (sem 𝓤 H A (MutRef (named 0) (α ∷ []) Rec.the-row .own (lent δ h) (vptr b o ∷ []))) (Brought α)))
         (Lent 𝓤 H A .pre (to α δ))
     goes α δ ψ =
         qed W (‵ (flft (α ∷ []) fullShare) ∷ ‵ (MutRef (named 0) (α ∷ []) Rec.the-row .own (lent δ h) (vptr b o ∷ [])) ∷
-        (raw tokens ⊛ ‵ (owns (typesAt ss (α ∷ [], κs)) (a α) (vss α))) ∷ []) ∵ says ! ψ $ move ! (2 ∷ []) $ split ! $ move ! (2 ∷ 0 ∷ []) $ join ! $ frame ! $
+        (raw tokens ⊛ ‵ (owns (typesAt ss (α ∷ [], κs)) (a α) (vss α))) ∷ []) ∵ says ! ψ $ move ! (2 ∷ []) $ split ! $ move !
+        (2 ∷ 0 ∷ []) $ join ! $ frame ! $
         move ! (1 ∷ 0 ∷ []) $ fjoin ! $ done !
 
     abbrev promised : ℕ → Q .Denot → Record → Type 0
@@ -113,7 +117,8 @@ module _ (Q : RattleType) {n : ℕ} (ss : List (Slot (suc n))) (ks : Kepts ss) (
     gives : (α : ℕ) (δ : GName) (v : Val) → ent 𝓤 (Lent 𝓤 H A .post (to α δ) v) (H .⇛ (mean 𝓤 H A (Got α δ v)))
     gives α δ v =
         qed W (later (some (λ (z : Q .Denot). ((‵ (flft (α ∷ []) fullShare) ⊛ raw tokens) ⊛ ‵ (Q .own z (v ∷ []))) ⊛ raw
-        (ensured 𝓤 H A ended (clauses 𝓤) (α ∷ [], κs) (lent δ h, a α) tt z))) ∷ []) ∵ updating ! $ await ! tt $ pick ! (λ z. split ! $ move ! (1 ∷ []) $
+        (ensured 𝓤 H A ended (clauses 𝓤) (α ∷ [], κs) (lent δ h, a α) tt z))) ∷ []) ∵ updating ! $ await ! tt $ pick !
+        (λ z. split ! $ move ! (1 ∷ []) $
         use1 W (some (λ (ws : Lasts ended (α ∷ [], κs) (lent δ h, a α)). ‵ (lasts ended (α ∷ [], κs) (lent δ h, a α) ws) ⊛ raw
         (fact 𝓤 (promised α z (ws .0))))) (id⊢ 𝓤 _) $ pick ! (λ ws. split ! $ move ! (1 ∷ []) $ heard ! (promised α z (ws .0)) (λ φ.
         fsplit ! $ move ! (1 ∷ []) $ drop ! $ move ! (1 ∷ []) $ split ! $ split ! $ at-once ! $
@@ -136,10 +141,12 @@ module _ (Q : RattleType) {n : ℕ} (ss : List (Slot (suc n))) (ks : Kepts ss) (
           use2 W (later (some (λ (δ : GName). ‵ (ref-own (α ∷ []) δ h) ⊛ ‵ (LentAgain Rec.the-row κ (α ∷ []) q γ b o δ h))))
           (lends-again 𝓤 H A W Rec.the-row (named 0) κ (α ∷ []) q γ b o (named 0) h) $ await ! z $ pick ! (λ δ. split ! $
           -- the new reference; what is kept meanwhile; the new lifetime's token; B
-          move ! (3 ∷ []) $ use1 W (raw (Brought α)) (brings α) $ move ! (3 ∷ 1 ∷ 0 ∷ []) $ use3 W (raw (Lent 𝓤 H A .pre (to α δ))) (goes α δ (ψ α)) $ k α δ))
+          move ! (3 ∷ []) $ use1 W (raw (Brought α)) (brings α) $ move ! (3 ∷ 1 ∷ 0 ∷ []) $ use3 W (raw (Lent 𝓤 H A .pre (to α δ)))
+          (goes α δ (ψ α)) $ k α δ))
 
       pub comes-home : (κ : Lft) (q : Share) (γ : GName) (α : ℕ) (δ : GName) (v : Val)
-          → ((y : Q .Denot) (g : Record) → promised α y g → Seq (Go {0}) W (‵ (ref-own κ γ g) ∷ ‵ (flft κ q) ∷ raw tokens ∷ ‵ (Q .own y (v ∷ [])) ∷ Γ) G)
+          → ((y : Q .Denot) (g : Record) → promised α y g →
+          Seq (Go {0}) W (‵ (ref-own κ γ g) ∷ ‵ (flft κ q) ∷ raw tokens ∷ ‵ (Q .own y (v ∷ [])) ∷ Γ) G)
           → Seq (Go {0}) W (raw (Lent 𝓤 H A .post (to α δ) v) ∷ ‵ (LentAgain Rec.the-row κ (α ∷ []) q γ b o δ h) ∷ Γ) G
       comes-home κ q γ α δ v k =
           use1 W (later (Got α δ v)) (gives α δ v) $ await ! z $ pick ! (λ y. pick ! (λ g. learn ! (λ φ. split ! $ lft-end ! z $ move ! (1 ∷ []) $
@@ -160,7 +167,8 @@ module _ (Q : RattleType) {n : ℕ} (ss : List (Slot (suc n))) (ks : Kepts ss) (
           lft-new ! z (λ α. move ! (1 ∷ []) $
           use1 W (later (some (λ (δ : GName). ‵ (ref-own (α ∷ []) δ h) ⊛ ‵ (flent (α ∷ []) (Body₀ (mem Rec.the-row) b o δ)))))
           (lends-ref 𝓤 H A W Rec.the-row (named 0) (α ∷ []) h b o) $ await ! z $ pick ! (λ δ. split ! $
-          move ! (3 ∷ []) $ use1 W (raw (Brought α)) (brings α) $ move ! (3 ∷ 1 ∷ 0 ∷ []) $ use3 W (raw (Lent 𝓤 H A .pre (to α δ))) (goes α δ (ψ α)) $ k α δ))
+          move ! (3 ∷ []) $ use1 W (raw (Brought α)) (brings α) $ move ! (3 ∷ 1 ∷ 0 ∷ []) $ use3 W (raw (Lent 𝓤 H A .pre (to α δ)))
+          (goes α δ (ψ α)) $ k α δ))
 
       pub owns-again : (α : ℕ) (δ : GName) (v : Val)
           → ((y : Q .Denot) (g : Record) → promised α y g → Is Rec.the-row g (record-value g ∷ []) →
@@ -192,24 +200,27 @@ module _ (Q : RattleType) {n : ℕ} (ss : List (Slot (suc n))) (ks : Kepts ss) (
       home z j Γ α δ v k = move ! (0 ∷ 2 ∷ []) $ comes-home z κ q γ α δ v (λ y g φ. move ! (4 ∷ 3 ∷ 0 ∷ 1 ∷ 2 ∷ []) $ k y g φ)
 
     -- B is what the caller brings beside the record
-    module _ (ψ : (α : ℕ) → Ψ (α ∷ [], κs) (a α) h) (B : SProp 𝓤) (brings : (α : ℕ) → ent 𝓤 B (Brought α)) {Γ : List (Item 𝓤)} {E : Env 𝓤 H} {C : Calls 𝓤 H}
+    module _ (ψ : (α : ℕ) → Ψ (α ∷ [], κs) (a α) h) (B : SProp 𝓤)
+        (brings : (α : ℕ) → ent 𝓤 B (Brought α)) {Γ : List (Item 𝓤)} {E : Env 𝓤 H} {C : Calls 𝓤 H}
         {Λ : Loops 𝓤 H} {p : Post 𝓤 H} {f : Name} {xs : List Operand} {d : Place} (fm : FmC 𝓤 H (W .laws) C) (known : Triple 𝓤 (C f) (Lent 𝓤 H A))
         {j : Item 𝓤} where
       module _ (κ : Lft) (q : Share) (γ : GName)
-          (os : (α : ℕ) (δ : GName) → Opds (Go {0}) W (raw (Lent 𝓤 H A .pre (to α δ)) ∷ j ∷ Kept-by κ q γ α δ ∷ Γ) E xs (Lent 𝓤 H A .args (to α δ))) where
-        pub lent-call : {rest : Body} → ((α : ℕ) (v : Val) → Back κ q γ j Γ α v (lands C Λ E d v rest p))
-            → Seq (Go {0}) W (j ∷ ‵ (ref-own κ γ h) ∷ ‵ (flft κ q) ∷ raw B ∷ Γ) (runs C Λ E (seq (call f xs d) rest) p)
-        lent-call k = move ! (1 ∷ 2 ∷ 3 ∷ []) $ lends-on tt κ q γ ψ B brings (λ α δ. move ! (0 ∷ 2 ∷ []) $
-            calls-at ! fm (Lent 𝓤 H A) known (to α δ) (os α δ) (λ v. home κ q γ tt j Γ α δ v (k α v)))
+          (os : (α : ℕ) (δ : GName) → Opds (Go {0}) W (raw (Lent 𝓤 H A .pre (to α δ)) ∷ j ∷ Kept-by κ q γ α δ ∷ Γ) E xs (Lent 𝓤 H A .args (to α δ)))
+        where
+          pub lent-call : {rest : Body} → ((α : ℕ) (v : Val) → Back κ q γ j Γ α v (lands C Λ E d v rest p))
+              → Seq (Go {0}) W (j ∷ ‵ (ref-own κ γ h) ∷ ‵ (flft κ q) ∷ raw B ∷ Γ) (runs C Λ E (seq (call f xs d) rest) p)
+          lent-call k = move ! (1 ∷ 2 ∷ 3 ∷ []) $ lends-on tt κ q γ ψ B brings (λ α δ. move ! (0 ∷ 2 ∷ []) $
+              calls-at ! fm (Lent 𝓤 H A) known (to α δ) (os α δ) (λ v. home κ q γ tt j Γ α δ v (k α v)))
 
-        pub lent-call-last : ((α : ℕ) (v : Val) → Back κ q γ j Γ α v (settles E d v p))
-            → Seq (Go {0}) W (j ∷ ‵ (ref-own κ γ h) ∷ ‵ (flft κ q) ∷ raw B ∷ Γ) (runs C Λ E (call f xs d) p)
-        lent-call-last k = move ! (1 ∷ 2 ∷ 3 ∷ []) $ lends-on tt κ q γ ψ B brings (λ α δ. move ! (0 ∷ 2 ∷ []) $
-            calls-at-last ! fm (Lent 𝓤 H A) known (to α δ) (os α δ) (λ v. home κ q γ tt j Γ α δ v (k α v)))
+          pub lent-call-last : ((α : ℕ) (v : Val) → Back κ q γ j Γ α v (settles E d v p))
+              → Seq (Go {0}) W (j ∷ ‵ (ref-own κ γ h) ∷ ‵ (flft κ q) ∷ raw B ∷ Γ) (runs C Λ E (call f xs d) p)
+          lent-call-last k = move ! (1 ∷ 2 ∷ 3 ∷ []) $ lends-on tt κ q γ ψ B brings (λ α δ. move ! (0 ∷ 2 ∷ []) $
+              calls-at-last ! fm (Lent 𝓤 H A) known (to α δ) (os α δ) (λ v. home κ q γ tt j Γ α δ v (k α v)))
 
       -- the record is the caller's own
       pub own-call : {rest : Body} → Is Rec.the-row h (record-value h ∷ []) → ((α : ℕ) (δ : GName) →
-          Opds (Go {0}) W (raw (Lent 𝓤 H A .pre (to α δ)) ∷ j ∷ ‵ (flent (α ∷ []) (Body₀ (mem Rec.the-row) b o δ)) ∷ Γ) E xs (Lent 𝓤 H A .args (to α δ)))
+          Opds (Go {0}) W (raw (Lent 𝓤 H A .pre (to α δ)) ∷ j ∷ ‵ (flent (α ∷ []) (Body₀ (mem Rec.the-row) b o δ)) ∷ Γ) E xs
+          (Lent 𝓤 H A .args (to α δ)))
           → ((α : ℕ) (v : Val) (y : Q .Denot) (g : Record) → promised α y g → Is Rec.the-row g (record-value g ∷ [])
           → Seq (Go {0}) W (j ∷ ‵ (fat fullShare Rec′.mir b o (record-value g)) ∷ ‵ (Q .own y (v ∷ [])) ∷ raw tokens ∷ Γ) (lands C Λ E d v rest p))
           → Seq (Go {0}) W (j ∷ ‵ (fat fullShare Rec′.mir b o (record-value h)) ∷ raw B ∷ Γ) (runs C Λ E (seq (call f xs d) rest) p)

@@ -15,7 +15,8 @@ use Rattle.call_text.specs.Answers.{rowFor}
 use Rattle.play.specs.Steps.{afterCall}
 use Rattle.play.specs.inner.Calls.{Answers, answerFor, plainOf}
 
-pub answers-plain : (r : Record) (call : Call) (y : Answer) (next : Record) (z : AxisAnswer) → rowFor r call ≡ replicate 8 (pos 0) → Done r call y next →
+pub answers-plain : (r : Record) (call : Call) (y : Answer) (next : Record) (z : AxisAnswer) → rowFor r call ≡ replicate 8 (pos 0) →
+    Done r call y next →
     z ≡ plainOf y → Answers r (some call) z next
 unfolding answerFor afterCall plainOf
 answers-plain r call y next z w d q = record { is = q ∙ rw (w, d .answers); leaves = d .leaves; keeps = d .keeps }

@@ -84,7 +84,10 @@ module _ (text : List ℕ) (here : Cursor) (r : Record) (z : Stepped) (after : R
       unfolding printedBy
       written-more more = record {
         reached = s .reaches more;
-        lines = record { before = b .lines .before ++ printedBy z; is = b .lines .is ∙ rw (prints-more text false here r z after s more, append-assoc) };
+        lines = record {
+          before = b .lines .before ++ printedBy z;
+          is = b .lines .is ∙ rw (prints-more text false here r z after s more, append-assoc);
+        };
         puts = put-then (b .puts) p;
       }
 

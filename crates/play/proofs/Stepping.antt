@@ -66,7 +66,8 @@ module _ (left : Bool) (r : Record) (here : Cursor) (list : List ℤ) (y : AxisA
 
   -- no line, by whether the text's last part is empty: t
   ended : (t : Bool) → Answers r (requestCall (cond t (endAt here (not left)) (endAt here false) .request) list) y next →
-      (saidBy (cond t (endAt here (not left)) (endAt here false)) y next ≡ cond (t && not left) (stoppedAt here []) (stoppedAt here (unknownLine (here .line))))
+      (saidBy (cond t (endAt here (not left)) (endAt here false)) y next ≡ cond (t && not left) (stoppedAt here [])
+      (stoppedAt here (unknownLine (here .line))))
       × (next ≡ afterCall r none)
   unfolding endAt saidBy isCall requestCall
   ended true a = (by-left left, a .leaves)
@@ -86,7 +87,8 @@ module _ (left : Bool) (r : Record) (here : Cursor) (list : List ℤ) (y : AxisA
 
 -- where a step goes on, it goes to the next line, and leaves what that line is to be played on
 module _ (text : List ℕ) (left : Bool) (here : Cursor) (r : Record) (z : Stepped) (next : Record) (reached : Reached text r here) where
-  onto : (parts : List (List ℕ)) → linesFrom text here ≡ parts → z ≡ stepped left r here parts → next ≡ afterCall r (firstCall parts) → z .more ≡ true →
+  onto : (parts : List (List ℕ)) → linesFrom text here ≡ parts → z ≡ stepped left r here parts → next ≡ afterCall r (firstCall parts) →
+      z .more ≡ true →
       ((here .at < z .next .at) × (z .next .at ≤ length text)) × Reached text next (z .next)
   unfolding stepped stoppedAt steppedBy pastLine firstCall afterCall
   onto [] q e l m = absurd (true≢false (sym m ∙ ap (λ (s : Stepped). s .more) e))

@@ -64,3 +64,9 @@ pub record Steps (text : List ℕ) (left : Bool) (here : Cursor) (r : Record) (z
   pub short : z .line .len ≤ 256
   pub moves : z .more ≡ true → (here .at < z .next .at) × (z .next .at ≤ length text)
   pub reaches : z .more ≡ true → Reached text next (z .next)
+
+-- where a text ends: a cursor that is reached, at which a step says that there is no more
+pub record Ends (text : List ℕ) (left : Bool) (here : Cursor) : Type 0 where
+  pub on : Record
+  pub reached : Reached text on here
+  pub last : stepped left on here (linesFrom text here) .more ≡ false

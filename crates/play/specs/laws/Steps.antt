@@ -92,7 +92,8 @@ module _ (text : List ℕ) (left : Bool) (r : Record) (here : Cursor) where
 
   -- the last part, by whether it is no line: t
   last : (t : Bool) → cond t [] (unknownLine (here .line)) ≡
-      (let z = cond t (stoppedAt here []) (stoppedAt here (unknownLine (here .line))) in printedBy z ++ cond (z .more) (rest text left r (z .next)) [])
+      (let z = cond t (stoppedAt here []) (stoppedAt here (unknownLine (here .line))) in
+      printedBy z ++ cond (z .more) (rest text left r (z .next)) [])
   unfolding stoppedAt
   last true = alone []
   last false = alone (unknownLine (here .line))

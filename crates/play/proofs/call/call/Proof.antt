@@ -22,7 +22,8 @@ use contract.Lifetimes.{Lfts}
 use contract.Monad.{Fun, fact}
 use contract.Running.{givenOf, tables, tablesOf}
 use types.Kit as Kit
-use types.Kit.{Given, Goal, Item, Sq, Step, runs, anyQ, atRet, ‵, raw, _⊛_, some, later, _$_, _∵_, !, qed, by, move, keep, drop, use0, use1, split, join, pick}
+use types.Kit.{Given, Goal, Item, Sq, Step, runs, anyQ, atRet, ‵, raw, _⊛_, some, later, _$_, _∵_, !, qed, by, move, keep, drop, use0, use1, split}
+use types.Kit.{join, pick}
 use types.Kit.{Go, given, learn, fsplit, fsplit3, fjoin, check, show, suffices, frame as framed, await, updating, now as at-once, done}
 use types.Run.{Opds, Writes, stop, hop, fld, from, lit, load, of-opd, addr, and-then, no-more, assigns, land, land-last, first, exec, returns, enter}
 use types.Run.{params1, pass1, pass0}
@@ -47,7 +48,8 @@ use denote.Triple.Entry.{onEntry}
 use denote.Triple.Spec.{Meets, tripleOf}
 use denote.Triple.Statement.{Contract, Triple}
 use denote.Triple.Table.{entered, cited}
-use denote.Triple.Walked.{says, needs, Stays, stay-ref, stay-none, stay-dropped, walkOf, goes-ref, goes-none, goes-dropped, Walks, ends-at, walked, walk-meets}
+use denote.Triple.Walked.{says, needs, Stays, stay-ref, stay-none, stay-dropped, walkOf, goes-ref, goes-none, goes-dropped, Walks, ends-at, walked}
+use denote.Triple.Walked.{walk-meets}
 use Rattle.ledger.specs.Call.{loosePair, sweep, turn}
 use Rattle.ledger.specs.Call.{load as load-call}
 use Rattle.record.specs.Kept.{Kept}
@@ -82,7 +84,8 @@ use Rattle.call_text.proofs.request.Request as Req
 use Rattle.call_text.proofs.request.Request.Laws as Req′
 use Rattle.call_text.specs.Answers.{rowFor}
 use Rattle.play.specs.inner.Calls.{Answers, plainOf, requestCall}
-use Rattle.play.proofs.Frame.{At, Blocks, Slot as Local, env, frame, fresh, holds, room, with-held, allocates, releases, here, within, fills, clears, next}
+use Rattle.play.proofs.Frame.{At, Blocks, Slot as Local, env, frame, fresh, holds, room, with-held, allocates, releases, here, within, fills}
+use Rattle.play.proofs.Frame.{clears, next}
 use Rattle.play.proofs.Contracts.{axis-done, call-done, call-slots, integers, keeping, load-done, load-slots, one-slots, pair-done, sweep-done}
 use Rattle.play.proofs.Contracts.{sweep-slots, turn-done, turn-slots}
 use Rattle.play.proofs.Lending.{Lent, clauses, ended, lent-call, lent-call-last}
@@ -163,13 +166,23 @@ axis-arm = reads-field 8 4 1 (seq (assign (place 18 []) (addrOf lent-place))
 abbrev no-arm : Body
 no-arm = seq (assign (place 19 []) (aggregate (int w8 0 ∷ []))) (call-of #play·call·plain (copy (place 19 []) ∷ []) (place 9 []))
 
-module _ {M : Type 1} (𝓤 : URA M) (H : Heap 𝓤) (A : Atoms 𝓤) (W : Given 𝓤 H A) (κ κ₁ : Lft) (q q₁ : Share) (b o : ℕ) (γ : GName) (h : Record) (kept : Kept h)
+module _ {M : Type 1} (𝓤 : URA M) (H : Heap 𝓤) (A : Atoms 𝓤) (W : Given 𝓤 H A) (κ κ₁ : Lft) (q q₁ : Share) (b o : ℕ) (γ : GName) (h : Record)
+    (kept : Kept h)
     (numbers : RefT (List ℤ)) (mem : Memory → SProp 𝓤) (run : Routine → Fun 𝓤) where
   abbrev x : Record → RefT Record
   x g = record { ptr = (b, o); name = γ; now = g }
 
   abbrev bound : Request → walkOf 𝓤 H A T stayed (C₀ 𝓤) .Ghost
-  bound request = (((κ, (κ₁, tt)), (q, (q₁, tt)), tt, (x h, (request, (numbers, tt))), (vptr b o ∷ [], (req request ∷ [], (slice-vals numbers, tt)))), tt)
+  bound request = (
+    (
+      (κ, (κ₁, tt)),
+      (q, (q₁, tt)),
+      tt,
+      (x h, (request, (numbers, tt))),
+      (vptr b o ∷ [], (req request ∷ [], (slice-vals numbers, tt))),
+    ),
+    tt,
+  )
 
   abbrev Post : Request → Val → SProp 𝓤
   Post request = walkOf 𝓤 H A T stayed (C₀ 𝓤) .post (bound request)
@@ -207,7 +220,8 @@ module _ {M : Type 1} (𝓤 : URA M) (H : Heap 𝓤) (A : Atoms 𝓤) (W : Given
   brings-load : (i : ℕ) → i < 2 ^ 64 → ent 𝓤 (sep 𝓤 (A .lft κ₁ q₁) (sem 𝓤 H A own-numbers))
       (sep 𝓤 (sep 𝓤 (A .lft κ₁ q₁) (emp 𝓤)) (sem 𝓤 H A (owns (usize ∷ ShrSlice (named 1) κ₁ i64 ∷ []) (i, (numbers, tt))
       (vint w64 i ∷ [], (slice-vals numbers, tt)))))
-  brings-load i fits = qed W (‵ (flft κ₁ q₁) ∷ ‵ own-numbers ∷ []) ∵ nothing ! $ move ! (1 ∷ 0 ∷ []) $ join ! $ framed ! $ nothing ! $ move ! (1 ∷ 0 ∷ []) $ fjoin ! $
+  brings-load i fits = qed W (‵ (flft κ₁ q₁) ∷ ‵ own-numbers ∷ []) ∵ nothing ! $ move ! (1 ∷ 0 ∷ []) $ join ! $ framed ! $ nothing ! $ move !
+      (1 ∷ 0 ∷ []) $ fjoin ! $
       use0 W (‵ (usize .own i (vint w64 i ∷ []))) (word-owned i fits) $ fjoin ! $ done !
 
   -- ---- `plain`
@@ -224,7 +238,8 @@ module _ {M : Type 1} (𝓤 : URA M) (H : Heap 𝓤) (A : Atoms 𝓤) (W : Given
       (H .⇛ (ex 𝓤 (λ (z : AxisAnswer). guard 𝓤 (z ≡ plainOf y) (sem 𝓤 H A (Axis.the-row .own z (w ∷ []))))))
   gives-plain y v w =
       qed W (later (some (λ (z : AxisAnswer). (‵ ftrue ⊛ ‵ (Axis.the-row .own z (w ∷ []))) ⊛ raw
-      (ensured 𝓤 H A plain-fn.ended (plain-fn.clauses 𝓤 H A mem run) tt (y, tt) tt z))) ∷ []) ∵ updating ! $ await ! tt $ pick ! (λ z. split ! $ move ! (1 ∷ []) $
+      (ensured 𝓤 H A plain-fn.ended (plain-fn.clauses 𝓤 H A mem run) tt (y, tt) tt z))) ∷ []) ∵ updating ! $ await ! tt $ pick !
+      (λ z. split ! $ move ! (1 ∷ []) $
       use1 W (raw (fact 𝓤 (z ≡ plainOf y))) (exE 𝓤 _ (λ ws. snd∗ 𝓤 (sem 𝓤 H A (lasts plain-fn.ended tt (y, tt) ws)) (fact 𝓤 (z ≡ plainOf y)))) $
       heard ! (z ≡ plainOf y) (λ e. split ! $ drop ! $ at-once ! $
       show ! (λ (u : AxisAnswer). guard 𝓤 (u ≡ plainOf y) (sem 𝓤 H A (Axis.the-row .own u (w ∷ [])))) z $ check ! e $ done !))
@@ -250,7 +265,8 @@ module _ {M : Type 1} (𝓤 : URA M) (H : Heap 𝓤) (A : Atoms 𝓤) (W : Given
     Then request = anyQ (afterSeq 𝓤 H (Wp 𝓤 H C Λ E pieces.t-2 (atReturn 𝓤 H E (Post request))) (atReturn 𝓤 H E (Post request)))
 
     -- the answer is returned
-    leaves : (request : Request) (z : AxisAnswer) (v : Val) (g : Record) → Is Axis.the-row z (v ∷ []) → Answers h (requestCall request (now numbers)) z g →
+    leaves : (request : Request) (z : AxisAnswer) (v : Val) (g : Record) → Is Axis.the-row z (v ∷ []) →
+        Answers h (requestCall request (now numbers)) z g →
         Sq W (After request z v g) (runs C Λ E pieces.t-2 (atRet E (Post request)))
     leaves request z v g is so =
         assigns ! (of-opd ! (load ! (from ! (stop !)) (here ! _ 9 refl))) (from ! (stop !))
@@ -269,18 +285,22 @@ module _ {M : Type 1} (𝓤 : URA M) (H : Heap 𝓤) (A : Atoms 𝓤) (W : Given
 
     module _ (known-plain : Triple 𝓤 (C #play·call·plain) Plain) where
       -- `A` i
-      axis-matched : Triple 𝓤 (C #record·lent·axis) (AxisCall 𝓤 H A) → (i : ℕ) → i < 2 ^ 64 → Sq W (Before (Axis i)) (runs C Λ E pieces.s-1 (Then (Axis i)))
+      axis-matched : Triple 𝓤 (C #record·lent·axis) (AxisCall 𝓤 H A) → (i : ℕ) → i < 2 ^ 64 →
+          Sq W (Before (Axis i)) (runs C Λ E pieces.s-1 (Then (Axis i)))
       unfolding requestCall
       axis-matched known i fits =
           switches-to ! (load ! (from ! (vrt ! refl (fld ! refl (stop !)))) (within ! _ 2 refl (λ Δ. look-tag ! 0 (whole !)))) axis-arm refl $
           assigns ! (of-opd ! (load ! (from ! (vrt ! refl (fld ! refl (stop !))))
-          (within ! _ 2 refl (λ Δ. look-in ! 0 (in-variant ! 4 0 refl refl (whole !)))))) (from ! (stop !)) (fills ! _ 8 refl (tt, record { fits = fits })) $
+          (within ! _ 2 refl (λ Δ. look-in ! 0 (in-variant ! 4 0 refl refl (whole !)))))) (from ! (stop !))
+          (fills ! _ 8 refl (tt, record { fits = fits })) $
           assigns ! (addr ! (from ! (hop ! (here ! _ 1 refl) (stop !)))) (from ! (stop !)) (fills ! _ 18 refl (tt, tt)) $
           use0 W (raw (emp 𝓤)) (id⊢ 𝓤 (emp 𝓤)) $ move ! (1 ∷ 2 ∷ 3 ∷ 0 ∷ []) $
-          lent-call-last Axis.the-row one-slots (yes, tt) (keeping one-slots) axis-done 𝓤 H A W tt tt b o h (λ α. (i, tt)) (λ α. (vint w64 i ∷ [], tt))
+          lent-call-last Axis.the-row one-slots (yes, tt) (keeping one-slots) axis-done 𝓤 H A W tt tt b o h (λ α. (i, tt))
+          (λ α. (vint w64 i ∷ [], tt))
           (λ α. kept) (emp 𝓤) (λ α. brings-one i fits) fm known κ q γ
           (λ α δ. and-then ! (load ! (from ! (stop !)) (next ! _ 18 refl)) (and-then ! (load ! (from ! (stop !)) (next ! _ 8 refl)) (no-more !)))
-          (λ α v z g so. move ! (1 ∷ []) $ peeks ! Axis.the-row (Is Axis.the-row) (shows 𝓤 H A Axis.the-row) z (v ∷ []) (λ is. keep ! (1 ∷ 2 ∷ 3 ∷ 5 ∷ 0 ∷ []) $
+          (λ α v z g so. move ! (1 ∷ []) $ peeks ! Axis.the-row (Is Axis.the-row) (shows 𝓤 H A Axis.the-row) z (v ∷ [])
+          (λ is. keep ! (1 ∷ 2 ∷ 3 ∷ 5 ∷ 0 ∷ []) $
           land-last ! (from ! (stop !)) (fills ! _ 9 refl (axis-typed z v is)) $ clears _ 8 _ _ _ refl $ clears _ 18 _ _ _ refl $
           exec ! C Λ E pieces.t-2 (atRet E (Post (Axis i))) $ leaves (Axis i) z v g is (answers-axis h i z g so)))
 
@@ -293,8 +313,10 @@ module _ {M : Type 1} (𝓤 : URA M) (H : Heap 𝓤) (A : Atoms 𝓤) (W : Given
         Both w = with-held Answered 9 (holds w)
 
         plainly : ((j : Item 𝓤) (Γ : List (Item 𝓤)) → Opds (Go {0}) W (j ∷ frame 𝓤 Answered ∷ Γ) E (copy (place a []) ∷ []) (v ∷ []))
-            → ((w : Val) (Γ : List (Item 𝓤)) → Holds (hasTy Axis′.mir w) × WT w → Writes (Go {0}) W (frame 𝓤 Answered ∷ Γ) Axis′.mir (nine D) 0 w (frame 𝓤 (Both w) ∷ Γ))
-            → ((w : Val) (Γ : List (Item 𝓤)) (G : Goal 𝓤 H) → Step (Go {0}) W (frame 𝓤 (with-held (Locals request) 9 (holds w)) ∷ Γ) G (frame 𝓤 (Both w) ∷ Γ) G)
+            → ((w : Val) (Γ : List (Item 𝓤)) → Holds (hasTy Axis′.mir w) × WT w →
+            Writes (Go {0}) W (frame 𝓤 Answered ∷ Γ) Axis′.mir (nine D) 0 w (frame 𝓤 (Both w) ∷ Γ))
+            → ((w : Val) (Γ : List (Item 𝓤)) (G : Goal 𝓤 H) →
+            Step (Go {0}) W (frame 𝓤 (with-held (Locals request) 9 (holds w)) ∷ Γ) G (frame 𝓤 (Both w) ∷ Γ) G)
             → (y : Answer) (g : Record) → ((z : AxisAnswer) → z ≡ plainOf y → Answers h (requestCall request (now numbers)) z g)
             → Sq W (frame 𝓤 Answered ∷ ‵ (own-ref g) ∷ ‵ (flft κ q) ∷ ‵ (flft κ₁ q₁) ∷ ‵ (Answer.the-row .own y (v ∷ [])) ∷ [])
             (runs C Λ E (call-of #play·call·plain (copy (place a []) ∷ []) (place 9 [])) (Then request))
@@ -302,7 +324,8 @@ module _ {M : Type 1} (𝓤 : URA M) (H : Heap 𝓤) (A : Atoms 𝓤) (W : Given
             move ! (4 ∷ []) $ use1 W (raw (Plain .pre (to-plain y v))) (goes-plain y v) $
             calls-at-last ! fm Plain known-plain (to-plain y v) (os _ _) (λ w.
             use1 W (later (some (λ (z : AxisAnswer). given (z ≡ plainOf y) (‵ (Axis.the-row .own z (w ∷ [])))))) (gives-plain y v w) $ await ! tt $
-            pick ! (λ z. learn ! (λ e. peeks ! Axis.the-row (Is Axis.the-row) (shows 𝓤 H A Axis.the-row) z (w ∷ []) (λ is. move ! (1 ∷ 2 ∷ 3 ∷ 4 ∷ 0 ∷ []) $
+            pick ! (λ z. learn ! (λ e. peeks ! Axis.the-row (Is Axis.the-row) (shows 𝓤 H A Axis.the-row) z (w ∷ [])
+            (λ is. move ! (1 ∷ 2 ∷ 3 ∷ 4 ∷ 0 ∷ []) $
             land-last ! (from ! (stop !)) (ws w _ (axis-typed z w is)) $ cs w _ _ $
             exec ! C Λ E pieces.t-2 (atRet E (Post request)) $ leaves request z w g is (so z e)))))
 
@@ -327,14 +350,16 @@ module _ {M : Type 1} (𝓤 : URA M) (H : Heap 𝓤) (A : Atoms 𝓤) (W : Given
       pair-matched known t fits =
           switches-to ! (load ! (from ! (vrt ! refl (fld ! refl (stop !)))) (within ! _ 2 refl (λ Δ. look-tag ! 0 (whole !)))) pair-arm refl $
           assigns ! (of-opd ! (load ! (from ! (vrt ! refl (fld ! refl (stop !))))
-          (within ! _ 2 refl (λ Δ. look-in ! 0 (in-variant ! 3 0 refl refl (whole !)))))) (from ! (stop !)) (fills ! _ 7 refl (tt, record { fits = fits })) $
+          (within ! _ 2 refl (λ Δ. look-in ! 0 (in-variant ! 3 0 refl refl (whole !)))))) (from ! (stop !))
+          (fills ! _ 7 refl (tt, record { fits = fits })) $
           assigns ! (addr ! (from ! (hop ! (here ! _ 1 refl) (stop !)))) (from ! (stop !)) (fills ! _ 17 refl (tt, tt)) $
           use0 W (raw (emp 𝓤)) (id⊢ 𝓤 (emp 𝓤)) $ move ! (1 ∷ 2 ∷ 3 ∷ 0 ∷ []) $
           lent-call Answer.the-row one-slots (yes, tt) (keeping one-slots) pair-done 𝓤 H A W tt tt b o h (λ α. (t, tt)) (λ α. (vint w64 t ∷ [], tt))
           (λ α. kept) (emp 𝓤) (λ α. brings-one t fits) fm known κ q γ
           (λ α δ. and-then ! (load ! (from ! (stop !)) (next ! _ 17 refl)) (and-then ! (load ! (from ! (stop !)) (next ! _ 7 refl)) (no-more !)))
           (λ α v y g so. move ! (1 ∷ []) $ peeks ! Answer.the-row (Is Answer.the-row) (shows 𝓤 H A Answer.the-row) y (v ∷ []) (λ is.
-          keep ! (1 ∷ 2 ∷ 3 ∷ 5 ∷ 0 ∷ []) $ land ! (from ! (stop !)) (fills ! _ 16 refl (answer-typed y v is)) $ clears _ 7 _ _ _ refl $ clears _ 17 _ _ _ refl $
+          keep ! (1 ∷ 2 ∷ 3 ∷ 5 ∷ 0 ∷ []) $ land ! (from ! (stop !))
+          (fills ! _ 16 refl (answer-typed y v is)) $ clears _ 7 _ _ _ refl $ clears _ 17 _ _ _ refl $
           plainly (LoosePair t) 16 v (λ j Γ. and-then ! (load ! (from ! (stop !)) (next ! _ 16 refl)) (no-more !)) (λ w Γ wt. fills ! _ 9 refl wt)
           (λ w Γ G. clears _ 16 _ _ _ refl) y g (λ z e. answers-plain h (loosePair t) y g z refl (so .done) e)))
 
@@ -345,9 +370,11 @@ module _ {M : Type 1} (𝓤 : URA M) (H : Heap 𝓤) (A : Atoms 𝓤) (W : Given
       turn-matched known i j fi fj =
           switches-to ! (load ! (from ! (vrt ! refl (fld ! refl (stop !)))) (within ! _ 2 refl (λ Δ. look-tag ! 0 (whole !)))) turn-arm refl $
           assigns ! (of-opd ! (load ! (from ! (vrt ! refl (fld ! refl (stop !))))
-          (within ! _ 2 refl (λ Δ. look-in ! 0 (in-variant ! 1 0 refl refl (whole !)))))) (from ! (stop !)) (fills ! _ 5 refl (tt, record { fits = fi })) $
+          (within ! _ 2 refl (λ Δ. look-in ! 0 (in-variant ! 1 0 refl refl (whole !)))))) (from ! (stop !))
+          (fills ! _ 5 refl (tt, record { fits = fi })) $
           assigns ! (of-opd ! (load ! (from ! (vrt ! refl (fld ! refl (stop !))))
-          (within ! _ 2 refl (λ Δ. look-in ! 0 (in-variant ! 1 1 refl refl (whole !)))))) (from ! (stop !)) (fills ! _ 6 refl (tt, record { fits = fj })) $
+          (within ! _ 2 refl (λ Δ. look-in ! 0 (in-variant ! 1 1 refl refl (whole !)))))) (from ! (stop !))
+          (fills ! _ 6 refl (tt, record { fits = fj })) $
           assigns ! (addr ! (from ! (hop ! (here ! _ 1 refl) (stop !)))) (from ! (stop !)) (fills ! _ 13 refl (tt, tt)) $
           use0 W (raw (emp 𝓤)) (id⊢ 𝓤 (emp 𝓤)) $ move ! (1 ∷ 2 ∷ 3 ∷ 0 ∷ []) $
           lent-call Answer.the-row turn-slots (yes, (yes, tt)) (keeping turn-slots) turn-done 𝓤 H A W tt tt b o h (λ α. (i, (j, tt)))
@@ -361,16 +388,20 @@ module _ {M : Type 1} (𝓤 : URA M) (H : Heap 𝓤) (A : Atoms 𝓤) (W : Given
           (λ w Γ G. clears _ 12 _ _ _ refl) y g (λ z e. answers-plain h (turn i j) y g z refl so e)))
 
       -- `L` n and the numbers
-      load-matched : Triple 𝓤 (C #record·lent·load) (LoadCall 𝓤 H A) → (n : ℕ) → n < 2 ^ 64 → Sq W (Before (Load n)) (runs C Λ E pieces.s-1 (Then (Load n)))
+      load-matched : Triple 𝓤 (C #record·lent·load) (LoadCall 𝓤 H A) → (n : ℕ) → n < 2 ^ 64 →
+          Sq W (Before (Load n)) (runs C Λ E pieces.s-1 (Then (Load n)))
       unfolding requestCall rowFor
       load-matched known n fits =
           switches-to ! (load ! (from ! (vrt ! refl (fld ! refl (stop !)))) (within ! _ 2 refl (λ Δ. look-tag ! 0 (whole !)))) load-arm refl $
           assigns ! (of-opd ! (load ! (from ! (vrt ! refl (fld ! refl (stop !))))
-          (within ! _ 2 refl (λ Δ. look-in ! 0 (in-variant ! 0 0 refl refl (whole !)))))) (from ! (stop !)) (fills ! _ 4 refl (tt, record { fits = fits })) $
+          (within ! _ 2 refl (λ Δ. look-in ! 0 (in-variant ! 0 0 refl refl (whole !)))))) (from ! (stop !))
+          (fills ! _ 4 refl (tt, record { fits = fits })) $
           assigns ! (addr ! (from ! (hop ! (here ! _ 1 refl) (stop !)))) (from ! (stop !)) (fills ! _ 11 refl (tt, tt)) $
           move ! (3 ∷ 4 ∷ []) $ join ! $ use1 W (raw (sep 𝓤 (A .lft κ₁ q₁) (sem 𝓤 H A own-numbers))) (id⊢ 𝓤 _) $ move ! (1 ∷ 2 ∷ 3 ∷ 0 ∷ []) $
-          lent-call Answer.the-row load-slots (yes, (yes, tt)) (keeping load-slots) load-done 𝓤 H A W (κ₁, tt) (q₁, tt) b o h (λ α. (n, (numbers, tt)))
-          (λ α. (vint w64 n ∷ [], (slice-vals numbers, tt))) (λ α. kept) (sep 𝓤 (A .lft κ₁ q₁) (sem 𝓤 H A own-numbers)) (λ α. brings-load n fits) fm known κ q γ
+          lent-call Answer.the-row load-slots (yes, (yes, tt)) (keeping load-slots) load-done 𝓤 H A W (κ₁, tt) (q₁, tt) b o h
+          (λ α. (n, (numbers, tt)))
+          (λ α. (vint w64 n ∷ [], (slice-vals numbers, tt))) (λ α. kept) (sep 𝓤 (A .lft κ₁ q₁) (sem 𝓤 H A own-numbers))
+          (λ α. brings-load n fits) fm known κ q γ
           (λ α δ. and-then ! (load ! (from ! (stop !)) (next ! _ 11 refl)) (and-then ! (load ! (from ! (stop !)) (next ! _ 4 refl))
           (and-then ! (load ! (from ! (stop !)) (next ! _ 3 refl)) (no-more !))))
           (λ α v y g so. move ! (1 ∷ []) $ peeks ! Answer.the-row (Is Answer.the-row) (shows 𝓤 H A Answer.the-row) y (v ∷ []) (λ is.
@@ -383,10 +414,12 @@ module _ {M : Type 1} (𝓤 : URA M) (H : Heap 𝓤) (A : Atoms 𝓤) (W : Given
       none-matched : Sq W (Before NoCall) (runs C Λ E pieces.s-1 (Then NoCall))
       unfolding requestCall
       none-matched =
-          let is : Is Answer.the-row Loaded (EL.val Answer.the-type Answer′.the-laws Loaded ∷ []) = EL.owes Answer.the-type Answer′.the-laws Loaded tt in
+          let is : Is Answer.the-row Loaded (EL.val Answer.the-type Answer′.the-laws Loaded ∷ []) =
+          EL.owes Answer.the-type Answer′.the-laws Loaded tt in
           switches-to ! (load ! (from ! (vrt ! refl (fld ! refl (stop !)))) (within ! _ 2 refl (λ Δ. look-tag ! 0 (whole !)))) no-arm refl $
           assigns ! (agg ! (and-then ! (lit ! tt) (no-more !))) (from ! (stop !)) (fills ! _ 19 refl (answer-typed Loaded _ is)) $
-          owned ! Answer.the-row (Is Answer.the-row) (EL.makes Answer.the-type Answer′.the-plain 𝓤 H A) Loaded _ is $ keep ! (1 ∷ 2 ∷ 3 ∷ 4 ∷ 0 ∷ []) $
+          owned ! Answer.the-row (Is Answer.the-row) (EL.makes Answer.the-type Answer′.the-plain 𝓤 H A) Loaded _ is $ keep !
+          (1 ∷ 2 ∷ 3 ∷ 4 ∷ 0 ∷ []) $
           plainly NoCall 19 _ (λ j Γ. and-then ! (load ! (from ! (stop !)) (next ! _ 19 refl)) (no-more !)) (λ w Γ wt. fills ! _ 9 refl wt)
           (λ w Γ G. clears _ 19 _ _ _ refl) Loaded h (λ z e. answers-none h z kept e)
 

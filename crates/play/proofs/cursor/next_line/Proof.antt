@@ -24,7 +24,8 @@ returns-3 c =
     let f = l .before .before .before .before in
     let s = f .before .before .before in
     let n : s .args .here .at + (f .find .result - s .args .here .at) + 1 ≡ f .find .result + 1 = omega (arith, f .find .ensures .low) in
-    a-line _ _ _ (f .before .if1 .left) _ (f .find .ensures .is) (l .before .before .before .if2 .left) _ _ (s .pre .1) _ (l .read-line .ensures) _ (rw n)
+    a-line _ _ _ (f .before .if1 .left) _ (f .find .ensures .is) (l .before .before .before .if2 .left) _ _ (s .pre .1) _ (l .read-line .ensures) _
+    (rw n)
 
 pub next-line-spec : {M : Type 1} → statement M
 next-line-spec =

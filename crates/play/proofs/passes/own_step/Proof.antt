@@ -74,8 +74,10 @@ StepCall = Lent Done.the-row step-slots (yes, (yes, (yes, tt))) step-asks step-d
 abbrev cursor : Cursor → Val
 cursor = LL.val Cur.the-type Cur′.the-laws
 
-module _ {M : Type 1} (𝓤 : URA M) (H : Heap 𝓤) (A : Atoms 𝓤) (W : Given 𝓤 H A) (mem : Memory → SProp 𝓤) (run : Routine → Fun 𝓤) (κ : Lft) (q : Share) (r : Record)
-    (r-is : Is Rec.the-row r (record-value r ∷ [])) (text : RefT (List ℕ)) (text-is : Is (ShrSlice (named 0) κ u8) text (slice-vals text)) (at : Cursor)
+module _ {M : Type 1} (𝓤 : URA M) (H : Heap 𝓤) (A : Atoms 𝓤) (W : Given 𝓤 H A) (mem : Memory → SProp 𝓤) (run : Routine → Fun 𝓤) (κ : Lft)
+    (q : Share) (r : Record)
+    (r-is : Is Rec.the-row r (record-value r ∷ [])) (text : RefT (List ℕ)) (text-is : Is (ShrSlice (named 0) κ u8) text (slice-vals text))
+    (at : Cursor)
     (at-is : Is Cur.the-row at (cursor at ∷ [])) (reached : Reached (now text) r at) where
   abbrev own-text : Fml
   own-text = ShrSlice (named 0) κ u8 .own text (slice-vals text)
@@ -88,19 +90,23 @@ module _ {M : Type 1} (𝓤 : URA M) (H : Heap 𝓤) (A : Atoms 𝓤) (W : Given
 
   exits : (z : OwnStep) (v : Val) → Is Own.the-row z (v ∷ []) → Steps (now text) false at r (z .done) (z .record_after) → ent 𝓤 (A .lft κ q) (End v)
   exits z v is so =
-      qed W (‵ (flft κ q) ∷ []) ∵ suffices ! _ (ends-at 𝓤 H A own-step.ended stayed (own-step.clauses 𝓤 H A mem run) W bound v z (tt, (tt, (tt, tt))) (tt, (tt, (tt, tt)))) $
-      says ! so $ nothing ! $ move ! (1 ∷ 0 ∷ []) $ join ! $ framed ! $ nothing ! $ nothing ! $ fjoin ! $ nothing ! $ fjoin ! $ nothing ! $ fjoin ! $ framed ! $
+      qed W (‵ (flft κ q) ∷ []) ∵ suffices ! _
+      (ends-at 𝓤 H A own-step.ended stayed (own-step.clauses 𝓤 H A mem run) W bound v z (tt, (tt, (tt, tt))) (tt, (tt, (tt, tt)))) $
+      says ! so $ nothing ! $ move ! (1 ∷ 0 ∷ []) $ join ! $ framed ! $ nothing ! $ nothing ! $ fjoin ! $ nothing ! $ fjoin ! $ nothing ! $ fjoin !
+      $ framed ! $
       owned ! Own.the-row (Is Own.the-row) (LL.makes Own.the-type Own′.the-plain 𝓤 H A) z _ is $ done !
 
   -- what goes to `step` beside the record
   brings : ent 𝓤 (sep 𝓤 (A .lft κ q) (sem 𝓤 H A own-text)) (sep 𝓤 (sep 𝓤 (A .lft κ q) (emp 𝓤))
-      (sem 𝓤 H A (owns (ShrSlice (named 1) κ u8 ∷ bool ∷ Cur.the-row ∷ []) (text, (false, (at, tt))) (slice-vals text, (vbool false ∷ [], (cursor at ∷ [], tt))))))
+      (sem 𝓤 H A (owns (ShrSlice (named 1) κ u8 ∷ bool ∷ Cur.the-row ∷ []) (text, (false, (at, tt)))
+      (slice-vals text, (vbool false ∷ [], (cursor at ∷ [], tt))))))
   brings = qed W (‵ (flft κ q) ∷ ‵ own-text ∷ []) ∵ nothing ! $ move ! (1 ∷ 0 ∷ []) $ join ! $ framed ! $ nothing ! $
       owned ! Cur.the-row (Is Cur.the-row) (LL.makes Cur.the-type Cur′.the-plain 𝓤 H A) at _ at-is $ fjoin ! $
       owned ! bool (Is bool) (bool-makes 𝓤 H A W) false _ refl $ fjoin ! $ move ! (1 ∷ 0 ∷ []) $ fjoin ! $ done !
 
   module _ (C : Calls 𝓤 H) (Λ : Loops 𝓤 H) (fm : FmC 𝓤 H (W .laws) C) (known : Triple 𝓤 (C #play·step·step) (StepCall 𝓤 H A)) where
-    walk : ent 𝓤 (onEntry 𝓤 H A own-step.signature (κ, tt) (q, tt) (r, (text, (at, tt))) (record-value r ∷ [], (slice-vals text, (cursor at ∷ [], tt))))
+    walk : ent 𝓤 (onEntry 𝓤 H A own-step.signature (κ, tt) (q, tt) (r, (text, (at, tt)))
+        (record-value r ∷ [], (slice-vals text, (cursor at ∷ [], tt))))
         (WpFn 𝓤 H C Λ code.function (record-value r ∷ sliceVal (ptr text) (length (now text)) ∷ cursor at ∷ []) End)
     walk =
         qed W ((‵ (flft κ q) ⊛ ‵ ftrue) ∷ ‵ (owns (Rec.the-row ∷ ShrSlice (named 0) κ u8 ∷ Cur.the-row ∷ []) (r, (text, (at, tt)))
@@ -113,19 +119,25 @@ module _ {M : Type 1} (𝓤 : URA M) (H : Heap 𝓤) (A : Atoms 𝓤) (W : Given
         assigns ! (of-opd ! (load ! (from ! (stop !)) (here ! _ 1 refl))) (from ! (stop !)) (fills ! _ 4 refl (record-typed 𝓤 H A W r r-is)) $
         assigns ! (addr ! (from ! (stop !))) (from ! (stop !)) (fills ! _ 6 refl (tt, tt)) $
         takes _ 4 _ refl $ move ! (2 ∷ 3 ∷ []) $ join ! $ use1 W (raw (sep 𝓤 (A .lft κ q) (sem 𝓤 H A own-text))) (id⊢ 𝓤 _) $ move ! (2 ∷ 1 ∷ 0 ∷ []) $
-        own-call Done.the-row step-slots (yes, (yes, (yes, tt))) step-asks step-done 𝓤 H A W (κ, tt) (q, tt) (D .1 .1 .1 .1 .0) 0 r (λ α. (text, (false, (at, tt))))
-        (λ α. (slice-vals text, (vbool false ∷ [], (cursor at ∷ [], tt)))) (λ α. reached) (sep 𝓤 (A .lft κ q) (sem 𝓤 H A own-text)) (λ α. brings) fm known r-is
-        (λ α δ. and-then ! (load ! (from ! (stop !)) (next ! _ 6 refl)) (and-then ! (load ! (from ! (stop !)) (next ! _ 2 refl)) (and-then ! (false-lit !)
+        own-call Done.the-row step-slots (yes, (yes, (yes, tt))) step-asks step-done 𝓤 H A W (κ, tt) (q, tt) (D .1 .1 .1 .1 .0) 0 r
+        (λ α. (text, (false, (at, tt))))
+        (λ α. (slice-vals text, (vbool false ∷ [], (cursor at ∷ [], tt)))) (λ α. reached) (sep 𝓤 (A .lft κ q) (sem 𝓤 H A own-text))
+        (λ α. brings) fm known r-is
+        (λ α δ. and-then ! (load ! (from ! (stop !)) (next ! _ 6 refl))
+        (and-then ! (load ! (from ! (stop !)) (next ! _ 2 refl)) (and-then ! (false-lit !)
         (and-then ! (load ! (from ! (stop !)) (next ! _ 3 refl)) (no-more !)))))
         (λ α v y g so g-is. move ! (2 ∷ []) $ peeks ! Done.the-row (Is Done.the-row) (shows 𝓤 H A Done.the-row) y (v ∷ []) (λ was. drop ! $
         lands-as 𝓤 H A W (ap only (LL.tells Done.the-type Done′.the-laws y (v ∷ []) was)) $
-        let y-is : Is Done.the-row y (LL.val Done.the-type Done′.the-laws y ∷ []) = subst (Is Done.the-row y) (LL.tells Done.the-type Done′.the-laws y (v ∷ []) was) was in
+        let y-is : Is Done.the-row y (LL.val Done.the-type Done′.the-laws y ∷ []) =
+        subst (Is Done.the-row y) (LL.tells Done.the-type Done′.the-laws y (v ∷ []) was) was in
         move ! (1 ∷ 0 ∷ []) $ puts _ 4 Rec′.mir (D .1 .1 .1 .1 .0) (holds (record-value g)) refl $
         land ! (from ! (stop !)) (fills ! _ 5 refl (LL.lawful Done.the-type Done′.the-laws 𝓤 H A W .typed y _ y-is .0)) $
         assigns ! (of-opd ! (load ! (from ! (stop !)) (here ! _ 4 refl))) (from ! (stop !)) (fills ! _ 7 refl (record-typed 𝓤 H A W g g-is)) $
-        let own-is : Is Own.the-row (record { done = y; record_after = g }) (LL.val Own.the-type Own′.the-laws (record { done = y; record_after = g }) ∷ []) =
+        let own-is : Is Own.the-row (record { done = y; record_after = g })
+        (LL.val Own.the-type Own′.the-laws (record { done = y; record_after = g }) ∷ []) =
         LL.owes Own.the-type Own′.the-laws (record { done = y; record_after = g }) (y-is, (g-is, tt)) in
-        assigns ! (agg ! (and-then ! (load ! (from ! (stop !)) (here ! _ 5 refl)) (and-then ! (load ! (from ! (stop !)) (here ! _ 7 refl)) (no-more !)))) (from ! (stop !))
+        assigns ! (agg ! (and-then ! (load ! (from ! (stop !)) (here ! _ 5 refl))
+        (and-then ! (load ! (from ! (stop !)) (here ! _ 7 refl)) (no-more !)))) (from ! (stop !))
         (fills ! _ 0 refl (LL.lawful Own.the-type Own′.the-laws 𝓤 H A W .typed (record { done = y; record_after = g }) _ own-is .0)) $
         returns ! (here ! _ 0 refl) $ releases _ tt (use1 W (‵ (flft κ q) ⊛ ‵ ftrue) (id⊢ 𝓤 _) $ split ! $ keep ! (0 ∷ []) $
         by ! (exits (record { done = y; record_after = g }) _ own-is so)))))
@@ -137,7 +149,8 @@ module _ {M : Type 1} (𝓤 : URA M) (H : Heap 𝓤) (A : Atoms 𝓤) (W : Given
       (λ κs. (LL.vals Rec.the-type Rec′.the-laws, (slice-vals, (LL.vals Cur.the-type Cur′.the-laws, tt))))
       (λ κs. (LL.tells Rec.the-type Rec′.the-laws, (shr-slice-tells (named 0) (κs .0) u8, (LL.tells Cur.the-type Cur′.the-laws, tt))))
       (λ κs qs bounds a g are. needs 𝓤 (Reached (now (a .1 .0)) (a .0) (a .1 .1 .0)) _ (λ reached.
-      walk 𝓤 H A W mem run (κs .0) (qs .0) (a .0) (are .0) (a .1 .0) (are .1 .0) (a .1 .1 .0) (are .1 .1 .0) reached (𝓣 .C) (𝓣 .Λ) (fmOf 𝓤 H (W .laws) 𝓣) known))
+      walk 𝓤 H A W mem run (κs .0) (qs .0) (a .0) (are .0) (a .1 .0) (are .1 .0) (a .1 .1 .0) (are .1 .1 .0) reached (𝓣 .C) (𝓣 .Λ)
+      (fmOf 𝓤 H (W .laws) 𝓣) known))
 
   own-step-meets : Meets 𝓤 H A own-step.signature (WpFn 𝓤 H (𝓣 .C) (𝓣 .Λ) code.function) (own-step.spec 𝓤 H A mem run)
   own-step-meets = walk-meets 𝓤 H A own-step.ended stayed W (
