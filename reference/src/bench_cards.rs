@@ -393,10 +393,9 @@ fn every_generated_text_is_read_to_an_answer() {
 
 #[test]
 fn a_text_of_calls_is_played_to_its_first_line_that_is_no_call() {
-    let play = |text: &str| play(tabs(text).as_bytes()).replace('\t', " ");
-    assert_eq!(play(""), "");
+    assert_eq!(played(""), "");
     assert_eq!(
-        play("W\nL 2 50 25 25 50\nQ 0\nT 1 2\nA 1\nA 2\nQ 7168\nT 2 2\nA 0\nL 2\nL 1 -5\nL -2\nW\n"),
+        played("W\nL 2 50 25 25 50\nQ 0\nT 1 2\nA 1\nA 2\nQ 7168\nT 2 2\nA 0\nL 2\nL 1 -5\nL 2 -\nW\n"),
         "X 10 1\nL\nQ 1 2\nT 1\nA 26624 7172 644245094 -858993459\nA 75776 7172 858993459 644245094\nQ none\nX 9 2\nX 9 3\n\
          X 6 4\nX 5 5\n? 12\n"
     );
@@ -404,17 +403,69 @@ fn a_text_of_calls_is_played_to_its_first_line_that_is_no_call() {
         "\n",
         "W",
         "W \n",
+        "W 1\n",
         "w\n",
         "L\n",
         "L 2 -0\n",
         "L 2 01\n",
+        "L 2 -01\n",
         "T 1\n",
-        "T 1 -2\n",
-        "Q 12345678901\n",
+        "T 1 2 3\n",
+        "A 1 2\n",
         "A +1\n",
+        "A 00000000000\n",
+        "A 1234567890x\n",
     ] {
-        assert_eq!(play(no_call), "? 1\n", "{no_call:?}");
+        assert_eq!(played(no_call), "? 1\n", "{no_call:?}");
     }
-    assert_eq!(play(&format!("L 2{}\n", " 0".repeat(100))), "X 6 1\n");
-    assert_eq!(play(&format!("L 2{}\n", " 0".repeat(101))), "? 1\n");
+}
+
+/// "a number that is too long, or negative where the call's argument has a range, is a value out of that range"
+#[test]
+fn a_wrong_call_gets_its_number() {
+    let digits = "1".repeat(300);
+    for (wrong, number) in [
+        ("Q -1", 2),
+        ("Q 10000000000", 2),
+        ("A -1", 9),
+        ("T -1 2", 9),
+        ("T 1 18446744073709551618", 9),
+        ("L -1 0", 5),
+        ("L 9 0", 5),
+        ("L 2 0", 6),
+        ("L 2 10000000000 0 0 0", 8),
+        ("L 2 -10000000000 0 0 0", 8),
+        (&format!("L 2 -{digits} 0 0 0"), 8),
+        (&format!("Q {digits}"), 2),
+    ] {
+        let text = format!("L 2 0 0 0 0\n{wrong}\n");
+        assert_eq!(played(&text), format!("L\nX {number} 1\n"), "{wrong}");
+    }
+}
+
+#[test]
+fn a_line_has_at_most_4096_numbers() {
+    assert_eq!(played(&format!("L 2{}\n", " 0".repeat(4_095))), "X 6 1\n");
+    assert_eq!(played(&format!("L 2{}\n", " 0".repeat(4_096))), "? 1\n");
+}
+
+/// "If input is left after 65,536 bytes, the last line says so"
+#[test]
+fn the_first_line_that_is_not_read_whole_is_said() {
+    let lines = "W\n".repeat(32_767);
+    let answers = |text: &str| {
+        played(&(lines.clone() + text))
+            .lines()
+            .skip(32_767)
+            .collect::<Vec<_>>()
+            .join("/")
+    };
+    assert_eq!(answers("W\n"), "X 10 32768");
+    assert_eq!(answers("W\nW"), "X 10 32768/? 32769");
+    assert_eq!(answers("W\n\n"), "X 10 32768/? 32769");
+    assert_eq!(answers("WW\n"), "? 32768");
+}
+
+fn played(text: &str) -> String {
+    play(tabs(text).as_bytes()).replace('\t', " ")
 }

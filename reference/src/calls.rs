@@ -1,13 +1,15 @@
 //! A text of calls, played on one record: one call a line, one line of answer for each.
 
 use crate::record::{Number, Record};
-use crate::text::{line, number, signed_number, tagged, take_line};
+use crate::text::{line, number, tagged, take_line};
 
 /// At most this many bytes are read, and those are played.
 pub const TEXT_LIMIT: usize = 65_536;
+/// A line has at most this many numbers.
+pub const MOST_NUMBERS: usize = 4_096;
+/// A number of more digits stands for the greatest one of this many, with its sign.
 const DIGITS: usize = 10;
-/// The most numbers that a line may give for a matrix.
-pub const MOST_NUMBERS: usize = 100;
+const BEYOND: i128 = 9_999_999_999;
 
 /// Document 01, "The record and its calls".
 #[derive(Clone, Debug, PartialEq, Eq)]
@@ -19,13 +21,14 @@ pub enum Call {
     Axis(i128),
 }
 
-/// The answers, up to the first line that is no call.
+/// The answers, up to the first line that is no call. Where input is left after what is read, the line that was not read whole is none.
 pub fn play(input: &[u8]) -> String {
     let mut rest = &input[..input.len().min(TEXT_LIMIT)];
+    let left = input.len() > TEXT_LIMIT;
     let mut record = Record::fresh();
     let mut answers = String::new();
     for line in 1.. {
-        if rest.is_empty() {
+        if rest.is_empty() && !left {
             break;
         }
         let Some((call, after)) =
@@ -41,23 +44,40 @@ pub fn play(input: &[u8]) -> String {
     answers
 }
 
-/// The call that a line's fields give.
+/// The call that a line's fields give. A negative n, p, q, t or i is a value out of its range, which the record refuses.
 fn call(fields: &[&[u8]]) -> Option<Call> {
-    let unsigned = |field: &[u8]| number(field, DIGITS);
-    match fields {
-        [b"L", n, numbers @ ..] if numbers.len() <= MOST_NUMBERS => Some(Call::Load(
-            unsigned(n)?,
-            numbers
-                .iter()
-                .map(|field| signed_number(field, DIGITS))
-                .collect::<Option<_>>()?,
-        )),
-        [b"T", p, q] => Some(Call::Turn(unsigned(p)?, unsigned(q)?)),
-        [b"W"] => Some(Call::Sweep),
-        [b"Q", t] => Some(Call::LoosePair(unsigned(t)?)),
-        [b"A", i] => Some(Call::Axis(unsigned(i)?)),
+    let (tag, fields) = fields.split_first()?;
+    if fields.len() > MOST_NUMBERS {
+        return None;
+    }
+    let numbers = fields
+        .iter()
+        .map(|field| signed(field))
+        .collect::<Option<Vec<_>>>()?;
+    match (*tag, &numbers[..]) {
+        (b"L", [n, numbers @ ..]) => Some(Call::Load(*n, numbers.to_vec())),
+        (b"T", [p, q]) => Some(Call::Turn(*p, *q)),
+        (b"W", []) => Some(Call::Sweep),
+        (b"Q", [t]) => Some(Call::LoosePair(*t)),
+        (b"A", [i]) => Some(Call::Axis(*i)),
         _ => None,
     }
+}
+
+/// An optional minus and decimal digits, without a leading zero unless it is 0; `-0` is none.
+fn signed(field: &[u8]) -> Option<i128> {
+    match field.strip_prefix(b"-") {
+        None => unsigned(field),
+        Some(size) => unsigned(size).filter(|&size| size != 0).map(|size| -size),
+    }
+}
+
+fn unsigned(field: &[u8]) -> Option<i128> {
+    if field.len() > DIGITS {
+        let digits = field.iter().all(u8::is_ascii_digit) && field[0] != b'0';
+        return digits.then_some(BEYOND);
+    }
+    number(field, DIGITS)
 }
 
 /// The line of a call's answer, or the number of its refusal.

@@ -190,7 +190,7 @@ fn any_calls(random: &mut Random) -> Lines {
             2..=5 => fields("W", &[]),
             6..=8 => {
                 let t = if wild {
-                    random.pick(&[1_048_576, 1_048_577, 9_999_999_999])
+                    random.pick(&[1_048_576, 1_048_577, 9_999_999_999, 10_000_000_000, -1])
                 } else {
                     random.sized(TOLERANCE_LIMIT)
                 };
@@ -198,7 +198,7 @@ fn any_calls(random: &mut Random) -> Lines {
             }
             9..=13 => {
                 let i = if wild {
-                    random.pick(&[0, n + 1, 9, 9_999_999_999])
+                    random.pick(&[0, n + 1, 9, 9_999_999_999, -1, 1 << 64])
                 } else {
                     random.between(1, n)
                 };
@@ -215,6 +215,8 @@ fn any_calls(random: &mut Random) -> Lines {
                         (p, n + 1),
                         (0, 0),
                         (9_999_999_999, q),
+                        (-1, q),
+                        (p, 10_000_000_000),
                     ])
                 } else {
                     (p, q)
@@ -292,11 +294,18 @@ fn refused_load(random: &mut Random) -> Vec<String> {
         .numbers()
         .to_vec();
     let place = random.index(numbers.len());
-    let beyond = random.pick(&[1_048_577, -1_048_577, 9_999_999_999, -9_999_999_999]);
+    let beyond = random.pick(&[
+        1_048_577,
+        -1_048_577,
+        9_999_999_999,
+        -9_999_999_999,
+        10_000_000_000,
+        -(1 << 64),
+    ]);
     match random.between(0, 5) {
         0 => {
-            let n = random.pick(&[0, 1, 9, 10, 9_999_999_999]);
-            let count = (n * n).min(MOST_NUMBERS as i128) as usize;
+            let n = random.pick(&[0, 1, 9, 10, 9_999_999_999, 10_000_000_000, -1, -2]);
+            let count = (n * n).min(100) as usize;
             return load_fields(n, &vec![beyond; count]);
         }
         1 => {
@@ -305,6 +314,8 @@ fn refused_load(random: &mut Random) -> Vec<String> {
                 1,
                 (n * n - 1) as usize,
                 (n * n + 1) as usize,
+                100,
+                MOST_NUMBERS - 1,
                 MOST_NUMBERS,
             ]);
             numbers.resize(count, beyond);

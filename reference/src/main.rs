@@ -31,7 +31,7 @@ fn main() -> ExitCode {
 fn output(words: &[&str]) -> Option<(Vec<u8>, bool)> {
     let bytes = match words {
         ["axes"] => report::axes_program(&input(job::TEXT_LIMIT)?).into_bytes(),
-        ["calls"] => calls::play(&input(calls::TEXT_LIMIT)?).into_bytes(),
+        ["calls"] => calls::play(&input(calls::TEXT_LIMIT + 1)?).into_bytes(),
         ["table"] => report::table_program(&input(job::TEXT_LIMIT)?).into_bytes(),
         ["units", kind, seed, count] => {
             units::lines(kind, seed.parse().ok()?, count.parse().ok()?)?.into_bytes()

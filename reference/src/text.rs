@@ -22,16 +22,6 @@ pub fn number(field: &[u8], most_digits: usize) -> Option<i128> {
     })
 }
 
-/// The same with a leading minus allowed before a number that is not 0.
-pub fn signed_number(field: &[u8], most_digits: usize) -> Option<i128> {
-    match field.strip_prefix(b"-") {
-        None => number(field, most_digits),
-        Some(size) => number(size, most_digits)
-            .filter(|&size| size != 0)
-            .map(|size| -size),
-    }
-}
-
 /// A line of fields, parted by tabs and ended by a line feed.
 pub fn line<F: ToString>(fields: impl IntoIterator<Item = F>) -> String {
     let fields: Vec<String> = fields.into_iter().map(|field| field.to_string()).collect();
