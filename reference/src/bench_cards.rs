@@ -1,11 +1,11 @@
-//! Document 01's bench cards 1 to 12 and its printed example, and the orders of its refusals.
+//! Document 01's bench cards 1 to 12 and its printed example, the orders of its refusals, and document 02's loose pair.
 
 use crate::calls::play;
 use crate::choice::{choose, Choice};
 use crate::examples::{KEEPS_TURNING, PRINTED};
 use crate::job;
 use crate::matrix::Matrix;
-use crate::record::{Record, AXIS_ONE, REFUSED_LIMIT, TURN_LIMIT};
+use crate::record::{Record, AXIS_ONE, REFUSED_LIMIT, TURN_LIMIT, UNITS};
 use crate::report::{axes_program, report_into, table_program, Denied, Outcome};
 use crate::rounding::rnd;
 use crate::scatter::{shift, table, Sample};
@@ -309,6 +309,32 @@ fn calls_are_refused_in_their_order() {
     assert_eq!((record.kept(), record.refused()), (before.as_ref(), 16));
     assert_eq!(record.loose_pair(1023), Ok(Some((1, 2))));
     assert_eq!(record.loose_pair(1024), Ok(None));
+}
+
+/// Document 02, W2: "the first in row order, (1,2), (1,3) and on to (n−1,n), whose entry exceeds the tolerance in size, whatever
+/// its sign". By columns (2,3) comes before (1,4), and from the end (3,4) before both.
+#[test]
+fn the_loose_pair_is_the_first_in_row_order() {
+    let (a_14, a_23, a_34) = (-5, 7, -9);
+    let mut record = Record::fresh();
+    let rows = [
+        [0, 0, 0, a_14],
+        [0, 0, a_23, 0],
+        [0, a_23, 0, a_34],
+        [a_14, 0, a_34, 0],
+    ];
+    record.load(4, &rows.concat()).unwrap();
+    for (t, pair) in [
+        (0, Some((1, 4))),
+        (5 * UNITS - 1, Some((1, 4))),
+        (5 * UNITS, Some((2, 3))),
+        (7 * UNITS - 1, Some((2, 3))),
+        (7 * UNITS, Some((3, 4))),
+        (9 * UNITS - 1, Some((3, 4))),
+        (9 * UNITS, None),
+    ] {
+        assert_eq!(record.loose_pair(t), Ok(pair), "t = {t}");
+    }
 }
 
 #[test]

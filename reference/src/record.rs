@@ -100,7 +100,7 @@ impl Record {
         Ok(made)
     }
 
-    /// **Loose pair** t: the first in row order. Refusals in the order 10, 2.
+    /// **Loose pair** t: the first in row order whose entry exceeds t in size (document 02, W2). Refusals in the order 10, 2.
     pub fn loose_pair(&mut self, t: i128) -> Result<Option<(usize, usize)>, Number> {
         let found = self.loaded().and_then(|kept| {
             if !(0..=TOLERANCE_LIMIT).contains(&t) {

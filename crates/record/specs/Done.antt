@@ -6,7 +6,7 @@ use Rattle.ledger.specs.Refusal.{refusalOf}
 use Rattle.record.specs.declared.query.Answer.{Answer}
 use Rattle.record.specs.Flat.{keptEntry}
 use Rattle.record.specs.Kept.{Kept}
-use Rattle.record.specs.Loose.{LooseHolds}
+use Rattle.record.specs.Loose.{FirstLoose}
 use Rattle.record.specs.Record.{afterOf, answerOf, axisOf, fresh}
 use Rattle.record.specs.declared.AxisAnswer.{AxisAnswer}
 use Rattle.record.specs.declared.Record.{Record}
@@ -23,7 +23,7 @@ pub record Done (r : Record) (call : Call) (answer : Answer) (next : Record) : T
 -- the answer of a loose-pair call is named with what holds of it, where the call is not refused
 pub record LooseDone (r : Record) (t : ℕ) (answer : Answer) (next : Record) : Type 0 where
   pub done : Done r (loosePair t) answer next
-  pub holds : refusalOf (r .n) (r .m) (loosePair t) ≡ 0 → LooseHolds (r .n) (keptEntry (r .a)) t answer
+  pub holds : refusalOf (r .n) (r .m) (loosePair t) ≡ 0 → FirstLoose (r .n) (keptEntry (r .a)) t answer
 
 -- an axis call answers row i of v too
 pub record AxisDone (r : Record) (i : ℕ) (answer : AxisAnswer) (next : Record) : Type 0 where

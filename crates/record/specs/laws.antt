@@ -1,5 +1,7 @@
 pub mod Among
+pub mod RowOrder
 pub mod Loose
+pub mod LooseExamples
 pub mod Fill
 pub mod Loading
 pub mod Accepted

@@ -65,18 +65,20 @@ pub(crate) fn loose_pair_of(a: &[[i64; 8]; 8], n: usize, t: u64) -> Answer
     requires { ⌜ n ≤ 8 ⌝ }
     ensures { λ r. ⌜ r ≡ looseOf (at (now (a .entry))) t (cyclic n) ⌝ }
 {
+    let mut answer = Answer::NoPair;
     let mut p = 0;
-    while p < n {
+    'search: while p < n {
         let mut q = p + 1;
         while q < n {
             if t < entry_size(a, p, q) {
-                return Answer::Pair { p: p + 1, q: q + 1 };
+                answer = Answer::Pair { p: p + 1, q: q + 1 };
+                break 'search;
             }
             q += 1;
         }
         p += 1;
     }
-    Answer::NoPair
+    answer
 }
 
 // What column j adds to the error of the axis in row i.

@@ -3,7 +3,6 @@ use Prim.Native.Nat.{ℕ, zero, suc, _+_, _-_, _*_, _^_, _<_, _≤_}
 use mathlib.Core.Path.{_≡_, refl, sym, ap, _∙_}
 use mathlib.Core.Bool.{false}
 use mathlib.Core.List.{List}
-use mathlib.Core.Logic.{inl, inr}
 use native.Mathlib.Nat.{mul-assoc, mul-mul-mul-comm, suc-mul, zero-mul}
 use native.Mathlib.Omega.{arith}
 use borrow.Author.Tests.{eq-eqb}
@@ -34,8 +33,8 @@ use Rattle.record.specs.Run.{noPair, stop}
 use Rattle.run.specs.Run.{runOf}
 use Rattle.record.specs.laws.Running.{run-settled}
 use Rattle.record.specs.declared.run.Outcome.the-variants.{Settled}
-use Rattle.record.specs.Loose.{PairOrNone, looseOf}
-use Rattle.record.specs.laws.Loose.{loose-holds}
+use Rattle.record.specs.Loose.{looseOf}
+use Rattle.record.specs.laws.Loose.{first-loose}
 use Rattle.record.specs.declared.query.Answer.the-variants.{NoPair}
 use Rattle.integer.specs.Matrix.{matrixOf}
 use Rattle.cards.specs.Cards.{SettledAtOnce, zeroTable}
@@ -120,14 +119,9 @@ module _ (n t : ℕ) (low : 2 ≤ n) (high : n ≤ 8) (few : t ≤ toleranceLimi
       kept-flatOf _ i j (omega arith) (omega arith) ∙ inUse-inside n _ i j h k ∙ rw (getD-repeated (n * n) (i * n + j) (pos 0)) (*ℤ-zero (pos units))
 
   none : looseOf (keptEntry (loadedRecord fresh n (zeros n) .a)) t (cyclic n) ≡ NoPair
-  none = by (loose-holds n (keptEntry (loadedRecord fresh n (zeros n) .a)) t .pair-or-none)
-    where
-      by : PairOrNone (looseOf (keptEntry (loadedRecord fresh n (zeros n) .a)) t (cyclic n)) →
-          looseOf (keptEntry (loadedRecord fresh n (zeros n) .a)) t (cyclic n) ≡ NoPair
-      by (inr e) = e
-      by (inl (p, q, e)) =
-          let l = loose-holds n (keptEntry (loadedRecord fresh n (zeros n) .a)) t .pair-is-loose p q e in
-          absurd (omega (arith, rw (entry-zero (p - 1) (q - 1) (omega arith) (omega arith)) at (l .3)))
+  none =
+      first-loose n (keptEntry (loadedRecord fresh n (zeros n) .a)) t .none-if-none
+      (λ p q h. rw (entry-zero (p - 1) (q - 1) (omega (arith, h .0, h .1, h .2)) (omega (arith, h .0, h .1, h .2))) (omega arith))
 
   asked : answerOf (loadedRecord fresh n (zeros n)) (loosePair t) ≡ NoPair
   unfolding answerOf valueOf loadedRecord
