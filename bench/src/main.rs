@@ -4,10 +4,12 @@
 mod jobs;
 mod measure;
 mod plain;
+mod rounding;
 mod solver;
 mod tables;
 
 fn main() {
+    rounding::measure();
     let solver = solver::measure();
     let tables = tables::measure();
     let jobs = jobs::measure();

@@ -2,6 +2,8 @@
 
 pub mod job;
 
+use crate::rounding;
+
 type Rows = [[i64; 8]; 8];
 
 const THRESHOLDS: [i64; 14] = [
@@ -12,11 +14,9 @@ const THRESHOLDS: [i64; 14] = [
 /// Rounding by the sign of u, as one writes it; or without a branch, as the proved code has it.
 fn rnd<const NO_BRANCH: bool>(u: i64, w: i64) -> i64 {
     if NO_BRANCH {
-        (u + (2 * (u >> 63) + 1) * (w / 2)) / w
-    } else if u < 0 {
-        -((-u + w / 2) / w)
+        rounding::by_size(u, w as u64)
     } else {
-        (u + w / 2) / w
+        rounding::by_sign(u, w)
     }
 }
 

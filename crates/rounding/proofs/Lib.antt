@@ -1,1 +1,1 @@
-mod Away
+mod Sign

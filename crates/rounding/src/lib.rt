@@ -12,18 +12,20 @@ fn sign_of(u: i64) -> i64
     2 * (u >> 63) + 1
 }
 
-// Half of w, cut to a whole number.
-fn half_of(w: u64) -> u64
-    requires { ⌜ 0 < w ⌝ }
-    ensures { λ r. ⌜ r ≡ w / 2 ⌝ }
+// The whole number nearest to size/w, a half upward.
+fn nearest_size(size: u64, w: u64) -> u64
+    requires { ⌜ (0 < w) × (size + w / 2 < 2 ^ 64) ⌝ }
+    ensures { λ r. ⌜ r ≡ (size + w / 2) / w ⌝ }
 {
-    w / 2
+    (size + w / 2) / w
 }
 
-// rnd(u/w). Half of w is added on u's side of zero, and the quotient is cut toward zero; u is never doubled.
+// rnd(u/w): |u| is rounded and gets u's sign, so that what is divided is never negative; u is never doubled.
 pub fn nearest(u: i64, w: u64) -> i64
     requires { ⌜ (0 < w) × (w < 2 ^ 63) × (natAbs u + w / 2 < 2 ^ 63) ⌝ }
     ensures { λ r. ⌜ r ≡ rnd u w ⌝ }
 {
-    (u + sign_of(u) * (half_of(w) as i64)) / (w as i64)
+    let sign = sign_of(u);
+    let size = (sign * u) as u64;
+    sign * nearest_size(size, w) as i64
 }

@@ -1,6 +1,6 @@
 -- `rounding::sign_of` meets its contract: the shifted number is the sign bit, 0 or −1.
 use mir.Facts.{toZ-ofZ}
-use Rattle.rounding.proofs.Away.{shifted, twice-fits, sum-fits, sum-sign}
+use Rattle.rounding.proofs.Sign.{shifted, twice-fits, sum-fits, sum-sign}
 use Rattle.rounding.proofs.sign_of.Statement.{statement}
 use Rattle.rounding.proofs.sign_of.Tie as tie
 
