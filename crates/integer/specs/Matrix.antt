@@ -45,3 +45,7 @@ squares n X = sumℕ n (λ i. sumℕ n (λ j. sq (X i j)))
 -- equal in the n by n entries
 abbrev pub Same : ℕ → Matrix → Matrix → Type 0
 Same n X Y = (i j : ℕ) → i < n → j < n → X i j ≡ Y i j
+
+-- symmetric in the n by n entries
+abbrev pub Symmetric : ℕ → Matrix → Type 0
+Symmetric n X = (i j : ℕ) → i < n → j < n → X i j ≡ X j i

@@ -3,6 +3,7 @@ pub mod Refusal
 pub mod Pairs
 pub mod Ledger
 pub mod Near
+pub mod Gain
 pub mod Axis
 pub mod Sound
 pub mod laws

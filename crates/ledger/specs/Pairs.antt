@@ -1,5 +1,5 @@
 -- Document 01, 'Sweep': the pairs (1,2), (1,3) .. (1,n), (2,3) .. (n−1,n) in that order. Indices count from 0.
-use Prim.Native.Nat.{ℕ, zero, suc, _-_}
+use Prim.Native.Nat.{ℕ, zero, suc, _-_, _<_}
 use mathlib.Core.List.{List, [], _∷_, _++_}
 
 pub record Pair : Type 0 where
@@ -18,3 +18,8 @@ rowsFrom p (suc count) = row p (suc p) (suc count) ++ rowsFrom (suc p) count
 
 unfoldable pub cyclic : ℕ → List Pair
 cyclic n = rowsFrom 0 (n - 1)
+
+-- p < q < n
+pub record Ordered (n : ℕ) (pair : Pair) : Type 0 where
+  pub ordered : pair .p < pair .q
+  pub within : pair .q < n

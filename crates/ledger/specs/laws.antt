@@ -8,3 +8,4 @@ pub mod Loaded
 pub mod Turned
 pub mod Rows
 pub mod Invariant
+pub mod Gain

@@ -4,5 +4,6 @@ pub mod InUse
 pub mod Shape
 pub mod Size
 pub mod Exact
+pub mod Gain
 pub mod inner
 pub mod laws

@@ -10,3 +10,6 @@ pub mod Rounded
 pub mod Error
 pub mod Norm
 pub mod Congruence
+pub mod Half
+pub mod OffDiagonal
+pub mod Gain

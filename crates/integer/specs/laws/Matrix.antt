@@ -17,11 +17,7 @@ use Rattle.integer.specs.laws.Sum.{sumℕ-but-one, sumℕ-const, sumℕ-
 use Rattle.integer.specs.Dot.{dot}
 use Rattle.integer.specs.laws.Dot.{dot-cong, dot-comm, dot-+-left, dot-*-left, dot-+-right, dot-*-right}
 use Rattle.integer.specs.laws.Minkowski.{minkowski₂}
-use Rattle.integer.specs.Matrix.{Matrix, product, transpose, conjugate, diagonal, squares, Same}
-
--- symmetric in the n by n entries
-abbrev pub Symmetric : ℕ → Matrix → Type 0
-Symmetric n X = (i j : ℕ) → i < n → j < n → X i j ≡ X j i
+use Rattle.integer.specs.Matrix.{Matrix, product, transpose, conjugate, diagonal, squares, Same, Symmetric}
 
 -- products
 pub product-cong : (n : ℕ) {X X′ Y Y′ : Matrix} → Same n X X′ → Same n Y Y′ → Same n (product n X Y) (product n X′ Y′)

@@ -13,7 +13,7 @@ use Rattle.integer.specs.Range.{all}
 use Rattle.integer.specs.laws.Range.{below, from-each}
 use Rattle.limits.specs.Limits.{entryLimit, turnLimit}
 use Rattle.integer.specs.Matrix.{Matrix, matrixOf}
-use Rattle.integer.specs.laws.Matrix.{Symmetric}
+use Rattle.integer.specs.Matrix.{Symmetric}
 use Rattle.ledger.specs.Call.{load, turn, sweep, axis}
 use Rattle.ledger.specs.Refusal.{equal, symmetric, entriesWithin, unless, refusalOf}
 

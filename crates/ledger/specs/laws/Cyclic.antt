@@ -5,12 +5,7 @@ use Prim.Native.Nat.{ℕ, zero, suc, _+_, _-_, _*_, _/_, _<_, _≤_}
 use native.Mathlib.Nat.{div-eq-of-eq-mul-right}
 use native.Mathlib.Omega.{arith}
 use lib.ListN.{length, length-append}
-use Rattle.ledger.specs.Pairs.{Pair, row, rowsFrom, cyclic}
-
--- p < q < n
-pub record Ordered (n : ℕ) (pair : Pair) : Type 0 where
-  pub ordered : pair .p < pair .q
-  pub within : pair .q < n
+use Rattle.ledger.specs.Pairs.{Pair, row, rowsFrom, cyclic, Ordered}
 
 -- of every pair of a list
 unfoldable pub Each : ℕ → List Pair → Type 0

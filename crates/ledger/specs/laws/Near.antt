@@ -9,7 +9,8 @@ use Rattle.integer.specs.laws.Laws.{*ℤ-+ℤ}
 use Rattle.integer.specs.laws.Ring.{ring, reading}
 use Rattle.integer.specs.laws.Square.{sq-pos}
 use Rattle.integer.specs.Matrix.{Matrix, product, conjugate, squares}
-use Rattle.integer.specs.laws.Matrix.{Symmetric, product-difference, conjugate-product, conjugate-difference, squares-cong, squares-*, squares-+}
+use Rattle.integer.specs.laws.Matrix.{product-difference, conjugate-product, conjugate-difference, squares-cong, squares-*, squares-+}
+use Rattle.integer.specs.Matrix.{Symmetric}
 use Rattle.turn.specs.laws.Error.{matrixError, axesError, matrix-error, axes-error}
 use Rattle.turn.specs.Exact.{exact}
 use Rattle.turn.specs.laws.Exact.{Whole, exact-squares, conjugate-squares}

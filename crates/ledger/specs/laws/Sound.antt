@@ -6,7 +6,7 @@ use Rattle.integer.specs.Square.{sq}
 use Rattle.integer.specs.Sum.{sumℕ}
 use Rattle.integer.specs.Dot.{dot}
 use Rattle.integer.specs.Matrix.{Same, product, transpose, diagonal, squares}
-use Rattle.integer.specs.laws.Matrix.{Symmetric}
+use Rattle.integer.specs.Matrix.{Symmetric}
 use Rattle.ledger.specs.Ledger.{State}
 use Rattle.limits.specs.Limits.{entryLimit, turnLimit}
 use Rattle.ledger.specs.Near.{MatrixNear, AxesNear}

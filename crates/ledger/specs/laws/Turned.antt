@@ -16,7 +16,7 @@ use Rattle.limits.specs.Limits.{turnLimit}
 use Rattle.choice.specs.Choice.{choose}
 use Rattle.choice.specs.declared.Choice.{Choice}
 use Rattle.choice.specs.declared.Choice.the-variants.{NoTurn, Turn}
-use Rattle.ledger.specs.laws.Cyclic.{Ordered}
+use Rattle.ledger.specs.Pairs.{Ordered}
 use Rattle.ledger.specs.Ledger.{State, take, turnPair}
 use Rattle.ledger.specs.laws.Near.{matrix-near-turn, axes-near-turn}
 use Rattle.ledger.specs.Pairs.{Pair}

@@ -10,7 +10,8 @@ use borrow.Author.Tests.{eqb-true}
 use Rattle.integer.specs.Matrix.{Same}
 use Rattle.ledger.specs.laws.Accepted.{load-accepted, turn-accepted}
 use Rattle.ledger.specs.Call.{Call, load, turn, sweep, loosePair, axis}
-use Rattle.ledger.specs.laws.Cyclic.{Each, Ordered, cyclic-pairs}
+use Rattle.ledger.specs.laws.Cyclic.{Each, cyclic-pairs}
+use Rattle.ledger.specs.Pairs.{Ordered}
 use Rattle.ledger.specs.Ledger as L
 use Rattle.ledger.specs.Ledger.{Ledger, State, empty, loaded, accepted, ledgerStep, sizeOf, turnsOf, take, turnPair, turnPairs}
 use Rattle.ledger.specs.Pairs.{Pair, cyclic}

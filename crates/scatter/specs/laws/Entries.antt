@@ -8,7 +8,7 @@ use lib.ListN.{length, getD, take, replicate, length-map, List·getD-map}
 use lib.Pow.{pow-pos}
 use Rattle.integer.specs.Matrix.{Same, matrixOf}
 use Rattle.integer.specs.Padded.{padded}
-use Rattle.integer.specs.laws.Matrix.{Symmetric}
+use Rattle.integer.specs.Matrix.{Symmetric}
 use Rattle.integer.specs.laws.Padded.{padded-take}
 use Rattle.integer.specs.laws.RowMajor.{length-rowMajor, rowMajor-at}
 use Rattle.limits.specs.Limits.{entryLimit}

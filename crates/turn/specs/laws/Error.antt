@@ -14,7 +14,8 @@ use Rattle.integer.specs.Sum.{sumℕ}
 use Rattle.integer.specs.laws.Sum.{sumℕ-*, sumℕ-+, sumℕ-cong, sumℕ-const, sumℕ-exchange}
 use Rattle.integer.specs.laws.Pair.{Rotated}
 use Rattle.integer.specs.Matrix.{Matrix, product, conjugate, squares}
-use Rattle.integer.specs.laws.Matrix.{conjugate-symmetric, Symmetric}
+use Rattle.integer.specs.laws.Matrix.{conjugate-symmetric}
+use Rattle.integer.specs.Matrix.{Symmetric}
 use Rattle.rounding.specs.Rounding.{rnd}
 use Rattle.turn.specs.Rotation.{first, second}
 use Rattle.turn.specs.Turn.{turned, turnedAxes, hpp, hpq, hqp, hqq, newpp, newpq, newqq, newp, newq}
@@ -125,6 +126,14 @@ module _ (r : Rotation) (n p q : ℕ) (l : p < q) (k : q < n) (whole : Whole r) 
       cases (neither {i} d e) (neither {i = j} f g) o m =
           unmoved _ _ _ (ap (λ z. pos (N * N) *ℤ z) (ij d e f g) ∙ *ℤ-assoc (pos N) (pos N) (a i j)
           ∙ sym (columns i .other j m f g ∙ ap (λ z. pos N *ℤ z) (rows j .other i o d e)))
+
+  -- the new a_pq
+  pub pair-error : (a : Matrix) → Symmetric n a → 4 * sq (matrixError n r p q a p q) ≤ 6 * (r .n * r .n * (r .n * r .n))
+  unfolding weight inPair
+  pair-error a h = rw pair-weight at (entry-error a h p q (omega arith) k)
+    where
+      pair-weight : weight p q p q ≡ 6
+      pair-weight = simp places
 
   -- The matrix is moved by at most 7/2 in norm
   pub matrix-error : n ≤ 8 → (a : Matrix) → Symmetric n a → 4 * squares n (matrixError n r p q a) ≤ 49 * (r .n * r .n * (r .n * r .n))

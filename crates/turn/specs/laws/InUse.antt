@@ -8,7 +8,7 @@ use lib.Dec.{ltb}
 use lib.IntN.{ℤ, pos}
 use borrow.Author.Tests.{lt-ltb, le-ltb}
 use Rattle.integer.specs.Matrix.{Matrix}
-use Rattle.integer.specs.laws.Matrix.{Symmetric as SymmetricBelow}
+use Rattle.integer.specs.Matrix.{Symmetric as SymmetricBelow}
 use Rattle.integer.specs.laws.Tests.{cond-same}
 use Rattle.turn.specs.laws.Eight.{at-eight, at-outside}
 use Rattle.turn.specs.Turn.{array, at, eight}

@@ -12,7 +12,8 @@ use Rattle.integer.specs.Sum.{sumℕ}
 use Rattle.integer.specs.laws.Sum.{sumℕ-*, sumℕ-cong}
 use Rattle.integer.specs.laws.Minkowski.{minkowski}
 use Rattle.integer.specs.Matrix.{Matrix, product, conjugate, squares}
-use Rattle.integer.specs.laws.Matrix.{Symmetric, squares-cong, squares-*, squares-+}
+use Rattle.integer.specs.laws.Matrix.{squares-cong, squares-*, squares-+}
+use Rattle.integer.specs.Matrix.{Symmetric}
 use Rattle.turn.specs.Turn.{turned, turnedAxes}
 use Rattle.turn.specs.Exact.{exact}
 use Rattle.turn.specs.laws.Exact.{Whole, exact-column-squares, conjugate-squares}
