@@ -1,4 +1,4 @@
-// The functions of the static library, for Rust and C. bindings/ declares them; nothing checks those declarations against these.
+// The functions of the static library, for Rust and C. bindings/ declares them; tests/ compares those declarations with these.
 mod solve;
 mod table;
 

@@ -10,3 +10,4 @@ pub mod Agree
 pub mod Demand3proof
 pub mod Turning
 pub mod Running
+pub mod Counting

@@ -1,0 +1,43 @@
+-- What a turn and a sweep answer is what they add to m: 'm counts turns made', 'The answer is how many turns it made'.
+use mathlib.Core.Path.{_≡_}
+use mathlib.Core.Bool.{Bool, true, false}
+use Prim.Native.Nat.{ℕ, suc, _+_, _-_}
+use native.Mathlib.Omega.{arith}
+use borrow.Author.Tests.{eq-eqb}
+use Rattle.choice.specs.declared.Choice.{Choice}
+use Rattle.choice.specs.declared.Choice.the-variants.{NoTurn, Turn}
+use Rattle.ledger.specs.Call.{sweep, turn}
+use Rattle.ledger.specs.Pairs.{Pair, cyclic}
+use Rattle.ledger.specs.Refusal.{refusalOf}
+use Rattle.record.specs.Record.{acceptedOf, afterOf, answerOf, sweptOf, turnedOf, valueOf, workOf, workedOf}
+use Rattle.record.specs.Work.{Work, isTurn, workBy, workPair}
+use Rattle.record.specs.laws.Accepted.{after-accepted}
+use Rattle.record.specs.laws.Turning.{works-least}
+use Rattle.record.specs.declared.Record.{Record}
+use Rattle.record.specs.declared.query.Answer.the-variants.{Swept, Turned}
+
+-- a sweep that is not refused
+pub sweep-counts : (r : Record) → refusalOf (r .n) (r .m) sweep ≡ 0 → (k : ℕ) → answerOf r sweep ≡ Swept k → afterOf r sweep .m ≡ r .m + k
+unfolding answerOf valueOf acceptedOf sweptOf workedOf workOf
+sweep-counts r e k a =
+    let told = rw (eq-eqb (refusalOf (r .n) (r .m) sweep) 0 e) at a in
+    let counted : sweptOf r .m - r .m ≡ k = cc in
+    rw (after-accepted r sweep e) (omega (arith, counted, works-least (r .n) (workOf r) (cyclic (r .n))))
+
+-- 1 for a turn that was made
+unfoldable pub made : Bool → ℕ
+made true = 1
+made false = 0
+
+by-choice : (n : ℕ) (w : Work) (pair : Pair) (choice : Choice) (b : Bool) → Turned (isTurn choice) ≡ Turned b → workBy n w pair choice .m ≡ w .m + made b
+unfolding workBy isTurn made
+by-choice n w pair NoTurn b h = let e : false ≡ b = cc in rw (← e) (omega arith)
+by-choice n w pair (Turn l minus) b h = let e : true ≡ b = cc in rw (← e) (omega arith)
+
+-- a turn call that is not refused
+pub turn-counts : (r : Record) (p q : ℕ) → refusalOf (r .n) (r .m) (turn p q) ≡ 0 → (b : Bool) → answerOf r (turn p q) ≡ Turned b →
+    afterOf r (turn p q) .m ≡ r .m + made b
+unfolding answerOf valueOf acceptedOf turnedOf workedOf workPair workOf
+turn-counts r p q e b a =
+    let told = rw (eq-eqb (refusalOf (r .n) (r .m) (turn p q)) 0 e) at a in
+    rw (after-accepted r (turn p q) e) (by-choice (r .n) (workOf r) (record { p = p - 1; q = q - 1 }) _ b told)
