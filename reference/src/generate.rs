@@ -4,7 +4,7 @@ use crate::calls::MOST_NUMBERS;
 use crate::matrix::Matrix;
 use crate::random::Random;
 use crate::record::{Record, ENTRY_LIMIT, TOLERANCE_LIMIT};
-use crate::units::samples;
+use crate::samples::samples;
 
 /// A text as its lines' fields.
 type Lines = Vec<Vec<String>>;

@@ -12,13 +12,13 @@ mod random;
 pub mod record;
 pub mod report;
 pub mod rounding;
+mod samples;
 pub mod scatter;
 pub mod scatter_vectors;
 mod text;
 pub mod thresholds;
 pub mod turn;
 pub mod turn_vectors;
-pub mod units;
 
 #[cfg(test)]
 mod bench_cards;

@@ -1,6 +1,6 @@
 //! The reference implementation of Field Axes: its commands.
 
-use reference::{calls, check, generate, job, jobs, report, scatter_vectors, turn_vectors, units};
+use reference::{calls, check, generate, job, jobs, report, scatter_vectors, turn_vectors};
 use std::env;
 use std::io::{self, Read, Write};
 use std::path::Path;
@@ -8,7 +8,7 @@ use std::process::ExitCode;
 
 const USAGE: &str = "\
 reference axes | calls | table
-reference units KIND SEED COUNT | generate job SEED | generate calls SEED
+reference generate job SEED | generate calls SEED
 reference jobs | jobs names | vectors turns | vectors scatter | vectors jobs
 reference check DIR | store DIR";
 
@@ -33,9 +33,6 @@ fn output(words: &[&str]) -> Option<(Vec<u8>, bool)> {
         ["axes"] => report::axes_program(&input(job::TEXT_LIMIT)?).into_bytes(),
         ["calls"] => calls::play(&input(calls::TEXT_LIMIT + 1)?).into_bytes(),
         ["table"] => report::table_program(&input(job::TEXT_LIMIT)?).into_bytes(),
-        ["units", kind, seed, count] => {
-            units::lines(kind, seed.parse().ok()?, count.parse().ok()?)?.into_bytes()
-        }
         ["generate", "job", seed] => generate::job_text(seed.parse().ok()?),
         ["generate", "calls", seed] => generate::calls_text(seed.parse().ok()?),
         ["jobs"] => jobs::container(),

@@ -1,5 +1,5 @@
 // The number of a field: an optional minus and decimal digits, of any length.
-use turn::pair::with_sign;
+use integer::with_sign;
 ghost use mathlib.Core.Bool.{true};
 ghost use mathlib.Core.Path.{_≡_};
 ghost use Prim.Native.Nat.{_≤_};

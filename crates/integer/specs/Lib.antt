@@ -5,5 +5,6 @@ pub mod Matrix
 pub mod Range
 pub mod Tabulate
 pub mod RoundedUp
+pub mod Signed
 pub mod Padded
 pub mod laws

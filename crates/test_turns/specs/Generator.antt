@@ -5,7 +5,7 @@ use Prim.Native.Nat.{ℕ, _+_, _-_, _*_, _/_, _%_, _^_}
 use lib.Dec.{eqb}
 use lib.ListN.{getD}
 use lib.IntN.{ℤ}
-use Rattle.turn.specs.Rotation.{signed}
+use Rattle.integer.specs.Signed.{signed}
 use Rattle.turn.specs.Turn.{eight}
 use Rattle.choice.specs.Widest.{widest}
 

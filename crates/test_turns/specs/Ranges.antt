@@ -9,7 +9,7 @@ use lib.Dec.{eqb, ltb, ltb→lt}
 use lib.IntN.{ℤ, pos, natAbs}
 use Rattle.integer.specs.laws.Tests.{cond-≤}
 use Rattle.integer.specs.laws.Laws.{natAbs-negℤ}
-use Rattle.turn.specs.Rotation.{signed}
+use Rattle.integer.specs.Signed.{signed}
 use Rattle.turn.specs.Turn.{at, square}
 use Rattle.turn.specs.laws.Eight.{at-eight, at-outside}
 use Rattle.turn.specs.Size.{Small}

@@ -2,11 +2,10 @@
 ghost use mathlib.Core.Path.{_≡_};
 ghost use Prim.Native.Nat.{_+_, _*_, _<_, _≤_, _^_};
 ghost use lib.IntN.{natAbs};
-ghost use Rattle.turn.specs.Rotation.{signed};
+ghost use Rattle.integer.specs.Signed.{signed};
 ghost use Rattle.turn.specs.Size.{Small};
 ghost use Rattle.turn.specs.inner.Size.{SymmetricRows};
 ghost use Rattle.test_turns.specs.Generator.{axesOf, drawOf, matrixOf, minusOf, rowOf, sizeFrom, sizeOf, valueOf};
-use turn::pair;
 
 // x² mod P.
 fn square(x: u64) -> u64
@@ -70,7 +69,7 @@ pub fn with_sign(k: u64, size: u64) -> i64
     requires { ⌜ (k < 2 ^ 40) × (size < 2 ^ 63) ⌝ }
     ensures { λ r. ⌜ (r ≡ signed (minusOf k) size) × (natAbs r ≡ size) ⌝ }
 {
-    pair::with_sign(minus(k), size)
+    integer::with_sign(minus(k), size)
 }
 
 pub fn value(k: u64, most: u64) -> i64

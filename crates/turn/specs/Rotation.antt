@@ -1,14 +1,10 @@
 -- Document 01, 'Making a turn': c, s and N, and the two new entries of a pair, each rounded once.
 use Prim.Native.Nat.{ℕ, _+_, _^_}
-use mathlib.Core.Bool.{Bool, true, false}
+use mathlib.Core.Bool.{Bool}
 use lib.IntN.{ℤ, pos, negℤ, _+ℤ_, _-ℤ_, _*ℤ_}
+use Rattle.integer.specs.Signed.{signed}
 use Rattle.rounding.specs.Rounding.{rnd}
 use Rattle.turn.specs.declared.pair.Rotation.{Rotation}
-
--- f × x, where f is −1 or +1
-unfoldable pub signed : Bool → ℕ → ℤ
-signed true x = negℤ (pos x)
-signed false x = pos x
 
 -- N = 4^l + 1, c = 4^l − 1, s = f × 2^(l+1)
 unfoldable pub rotationOf : ℕ → Bool → Rotation

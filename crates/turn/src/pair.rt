@@ -2,7 +2,7 @@
 ghost use mathlib.Core.Path.{_≡_};
 ghost use Prim.Native.Nat.{_+_, _*_, _<_, _≤_, _^_};
 ghost use lib.IntN.{natAbs};
-ghost use Rattle.turn.specs.Rotation.{first, rotationOf, signed};
+ghost use Rattle.turn.specs.Rotation.{first, rotationOf};
 ghost use Rattle.turn.specs.inner.Rotation.{inverse};
 
 // c, s and N of a turn.
@@ -10,14 +10,6 @@ pub struct Rotation {
     pub c: i64,
     pub s: i64,
     pub n: u64,
-}
-
-// f × x, where f is −1 or +1.
-pub fn with_sign(minus: bool, x: u64) -> i64
-    requires { ⌜ x < 2 ^ 63 ⌝ }
-    ensures { λ r. ⌜ r ≡ signed minus x ⌝ }
-{
-    if minus { 0 - x as i64 } else { x as i64 }
 }
 
 impl Rotation {
@@ -29,7 +21,7 @@ impl Rotation {
         let power = 1u64 << (2 * l);
         Self {
             c: power as i64 - 1,
-            s: with_sign(minus, 1u64 << (l + 1)),
+            s: integer::with_sign(minus, 1u64 << (l + 1)),
             n: power + 1,
         }
     }

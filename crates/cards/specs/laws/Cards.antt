@@ -10,7 +10,8 @@ use Rattle.rounding.specs.Rounding.{rnd}
 use Rattle.scatter.specs.Table.{S, scatter, largest, smallestShift, shift, entries, tableFrom, tableOf}
 use Rattle.sums.specs.Samples.{total, z}
 use Rattle.turn.specs.InUse.{inUse}
-use Rattle.turn.specs.Rotation.{rotationOf, signed, first, second}
+use Rattle.turn.specs.Rotation.{rotationOf, first, second}
+use Rattle.integer.specs.Signed.{signed}
 use Rattle.turn.specs.Turn.{turnMatrix, array, eight, at, turned, newp, newq, newpp, newpq, newqq, hpp, hpq, hqp, hqq, atPair}
 use Rattle.cards.specs.Cards.{BenchCards}
 use Rattle.cards.specs.laws.Equal.{equal-settled}

@@ -28,7 +28,8 @@ use Rattle.record.specs.declared.run.Run.{Run}
 use Rattle.record.specs.laws.Running.{run-still, run-sweeps}
 use Rattle.run.specs.Run.{runOf}
 use Rattle.turn.specs.InUse.{inUse}
-use Rattle.turn.specs.Rotation.{first, rotationOf, second, signed}
+use Rattle.turn.specs.Rotation.{first, rotationOf, second}
+use Rattle.integer.specs.Signed.{signed}
 use Rattle.turn.specs.Turn.{array, at, atPair, eight, hpp, hpq, hqp, hqq, newp, newpp, newpq, newq, newqq, turnAxes, turnMatrix, turned, turnedAxes}
 use Rattle.cards.specs.Cards.{neg, twoByTwo}
 

@@ -21,7 +21,8 @@ use Rattle.integer.specs.laws.Matrix.{conjugate-cong, conjugate-rows, conjugate
 use Rattle.integer.specs.laws.Matrix.{diagonal-transpose, diagonal-*, dot-diagonal, dot-pair}
 use Rattle.choice.specs.Choice.{signOf}
 use Rattle.choice.specs.declared.Choice.the-variants.{Turn}
-use Rattle.turn.specs.Rotation.{rotationOf, signed}
+use Rattle.turn.specs.Rotation.{rotationOf}
+use Rattle.integer.specs.Signed.{signed}
 use Rattle.turn.specs.Turn.{atPair}
 use Rattle.turn.specs.laws.Place.{Place, at-p, at-q, neither, place, atPair-p, atPair-q, atPair-neither, places}
 use Rattle.turn.specs.declared.pair.Rotation.{Rotation}

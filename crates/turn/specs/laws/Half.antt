@@ -22,7 +22,8 @@ use Rattle.choice.specs.declared.Choice.the-variants.{Turn}
 use Rattle.turn.specs.laws.Exact.{rotationOf-whole, exact-rows, exact-columns}
 use Rattle.turn.specs.Exact.{exact}
 use Rattle.turn.specs.Gain.{exactlyTurned}
-use Rattle.turn.specs.Rotation.{rotationOf, signed}
+use Rattle.turn.specs.Rotation.{rotationOf}
+use Rattle.integer.specs.Signed.{signed}
 use Rattle.turn.specs.declared.pair.Rotation.{Rotation}
 
 -- the exactly rotated a_pq, times N²: (c² − s²) × a_pq + c × s × (a_qq − a_pp)

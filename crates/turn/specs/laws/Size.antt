@@ -12,7 +12,8 @@ use mir.Facts.{and-yes}
 use Rattle.integer.specs.laws.Word.{read-back}
 use Rattle.choice.specs.Widest.{widest}
 use Rattle.choice.specs.laws.Threshold.{from-1-to-14}
-use Rattle.turn.specs.Rotation.{rotationOf, signed}
+use Rattle.turn.specs.Rotation.{rotationOf}
+use Rattle.integer.specs.Signed.{signed}
 use Rattle.turn.specs.Turn.{at}
 use Rattle.turn.specs.declared.pair.Rotation.{Rotation}
 use Rattle.turn.specs.Size.{Small}

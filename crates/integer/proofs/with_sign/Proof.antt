@@ -1,12 +1,12 @@
--- `rotation::pair::with_sign` meets its contract.
+-- `integer::with_sign` meets its contract.
 use mir.Syntax.{w64}
 use mir.Facts.{toZ-pos}
 use lib.IntN.{pos}
 use borrow.Author.Needs.{needs}
 use Rattle.integer.specs.laws.Word.{negated, negated-held}
-use Rattle.turn.specs.Rotation.{signed}
-use Rattle.turn.proofs.pair.with_sign.Statement.{statement}
-use Rattle.turn.proofs.pair.with_sign.Tie as tie
+use Rattle.integer.specs.Signed.{signed}
+use Rattle.integer.proofs.with_sign.Statement.{statement}
+use Rattle.integer.proofs.with_sign.Tie as tie
 
 sub-result : tie.Need-sub-result
 sub-result c = rw (toZ-pos w64 (c .before .pre)) (negated-held (pos (c .before .args .x)) (c .before .pre))
