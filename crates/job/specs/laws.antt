@@ -1,3 +1,4 @@
 pub mod Scan
 pub mod Examples
 pub mod Replying
+pub mod Proper

@@ -5,3 +5,6 @@ pub mod Examples
 pub mod Lines
 pub mod Numbers
 pub mod LineExamples
+pub mod Split
+pub mod Within
+pub mod ReadBack

@@ -1,0 +1,38 @@
+-- The ranges of a proper job, part by part.
+use Prim.Native.Nat.{_≤_}
+use mathlib.Core.Path.{_≡_}
+use mathlib.Core.Bool.{true}
+use lib.ListN.{length}
+use Rattle.text.specs.Range.{within, allWithin}
+use Rattle.text.specs.laws.Range.{both, is-within}
+use Rattle.job.specs.Range.{parametersInRange}
+use Rattle.job.specs.Job.{Job}
+use Rattle.job.specs.Values.{Proper, inRange}
+
+module _ (j : Job) (p : Proper j) where
+  pub ranges : (parametersInRange (j .n) (j .limit) (j .tolerance) ≡ true) × (allWithin 1 100 (j .dilutions) ≡ true)
+      × (allWithin 0 65535 (j .counts) ≡ true)
+  unfolding inRange
+  ranges =
+      let b = both _ _ (p .ranges) in
+      let d = both _ _ (b .0) in
+      (d .0, d .1, b .1)
+
+  parameters : (within 2 8 (j .n) ≡ true) × (within 1 16 (j .limit) ≡ true) × (within 0 1048576 (j .tolerance) ≡ true)
+  unfolding parametersInRange
+  parameters =
+      let b = both _ _ (ranges .0) in
+      let d = both _ _ (b .0) in
+      (d .0, d .1, b .1)
+
+  pub channels : (2 ≤ j .n) × (j .n ≤ 8)
+  channels = is-within 2 8 (j .n) (parameters .0)
+
+  pub limit-most : j .limit ≤ 16
+  limit-most = is-within 1 16 (j .limit) (parameters .1) .1
+
+  pub tolerance-most : j .tolerance ≤ 1048576
+  tolerance-most = is-within 0 1048576 (j .tolerance) (parameters .2) .1
+
+  pub number : (2 ≤ length (j .dilutions)) × (length (j .dilutions) ≤ 256)
+  number = is-within 2 256 (length (j .dilutions)) (p .samples)

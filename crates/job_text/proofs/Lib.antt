@@ -1,0 +1,5 @@
+mod Fields
+mod Sample
+pub mod Reading
+pub mod Writing
+pub mod Length

@@ -1,0 +1,2 @@
+pub mod JobText
+pub mod laws

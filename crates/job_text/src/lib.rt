@@ -1,0 +1,1 @@
+// Theory only: everything is in specs/ and proofs/.
