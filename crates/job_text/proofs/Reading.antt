@@ -79,7 +79,8 @@ module _ (j : Job) (p : Proper j) where
   samples-read zero h rest part parts e = rw append-nil (first-read rest part parts e)
   samples-read (suc i) h rest part parts e =
       let xs = sampleNumbers j i in
-      let text : jobLineP j ++ (lines (jobLineS j) i ++ jobLineS j i) ++ rest ≡ jobLineP j ++ lines (jobLineS j) i ++ (jobLineS j i ++ rest) = simp append-assoc in
+      let text : jobLineP j ++ (lines (jobLineS j) i ++ jobLineS j i) ++ rest ≡ jobLineP j ++ lines (jobLineS j) i ++ (jobLineS j i ++ rest) =
+      simp append-assoc in
       let lines : split 10 (jobLineS j i ++ rest) ≡ bare 83 xs ∷ part ∷ parts = line-parts 83 (omega arith) xs rest ∙ ap (λ l. bare 83 xs ∷ l) e in
       let read : lineOf 83 (suc (j .n)) (bare 83 xs) ≡ some xs =
       rw (← numbers-count j p i h) (line-read 83 (omega arith) xs (numbers-short j p i)) in

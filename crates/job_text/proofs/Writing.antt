@@ -65,7 +65,8 @@ module _ (j : Job) (counted : Counted j) (xs : List ℕ) (size : length xs ≡ s
       → lines (jobLineS (withSample j xs)) k ≡ lines (jobLineS j) (length (j .dilutions)) ++ numberLine 83 (map pos xs)
   unfolding jobLineS
   samples-more k e =
-      let same = lines-same (length (j .dilutions)) (jobLineS (withSample j xs)) (jobLineS j) (λ i h. ap (λ l. numberLine 83 (map pos l)) (before i h)) in
+      let same = lines-same (length (j .dilutions)) (jobLineS (withSample j xs)) (jobLineS j)
+      (λ i h. ap (λ l. numberLine 83 (map pos l)) (before i h)) in
       ap (lines (jobLineS (withSample j xs))) e ∙ lines-more (jobLineS (withSample j xs)) (length (j .dilutions)) ∙ rw (same, last)
 
   begin-more : begin (withSample j xs) ≡ begin j ++ numberLine 83 (map pos xs)

@@ -29,7 +29,8 @@ unfoldable pub made : Bool → ℕ
 made true = 1
 made false = 0
 
-by-choice : (n : ℕ) (w : Work) (pair : Pair) (choice : Choice) (b : Bool) → Turned (isTurn choice) ≡ Turned b → workBy n w pair choice .m ≡ w .m + made b
+by-choice : (n : ℕ) (w : Work) (pair : Pair) (choice : Choice) (b : Bool) → Turned (isTurn choice) ≡ Turned b →
+    workBy n w pair choice .m ≡ w .m + made b
 unfolding workBy isTurn made
 by-choice n w pair NoTurn b h = let e : false ≡ b = cc in rw (← e) (omega arith)
 by-choice n w pair (Turn l minus) b h = let e : true ≡ b = cc in rw (← e) (omega arith)
