@@ -18,7 +18,7 @@ use Rattle.turn.specs.laws.Eight.{square-cong, square-of}
 use Rattle.turn.specs.Shape.{Shaped}
 use Rattle.turn.specs.Size.{Small}
 use Rattle.turn.specs.Turn.{at}
-use Rattle.limits.specs.Limits.{toleranceLimit, mostSweeps}
+use Rattle.limits.specs.Limits.{toleranceLimit, mostSweeps, turnLimit}
 use Rattle.record.specs.laws.Accepted.{loose-pair-taken, sweep-taken, turns-suffice}
 use Rattle.record.specs.laws.After.{after-kept}
 use Rattle.record.specs.laws.Fill.{kept-flatOf}
@@ -67,7 +67,7 @@ module _ (refused n m : ℕ) (a v : List (List ℤ)) (h : Holds refused n m a v)
 
   pub held-ready : Ready n a v m
   held-ready =
-      record { kept = rw work-held at (h .keeps .work); few = omega (arith, h .keeps .turns); matrix = h .matrix; axes = h .axes }
+      record { kept = rw work-held at (h .keeps .work); few = h .keeps .turns; matrix = h .matrix; axes = h .axes }
 
   held-loose : (t : ℕ) → refusalOf n m (loosePair t) ≡ 0 → noPair (looseOf (at a) t (cyclic n)) ≡ noPair (answerOf r (loosePair t))
   unfolding answerOf valueOf
@@ -112,6 +112,10 @@ module _ (refused n limit t : ℕ) (some : 1 ≤ n) (sixteen : limit ≤ mostSwe
     abbrev now : Record
     now = heldOf refused n m a v
 
+    -- a sweep's turns remain before the limit is reached
+    pub remains : sweeps ≢ limit → m + n * (n - 1) / 2 ≤ turnLimit
+    remains l = turns-suffice n m sweeps (g .holds .keeps .size) (omega (arith, g .within)) (g .few)
+
     -- the first test: settled tells whether no pair is loose
     module _ (settled : Bool) (s : settled ≡ noPair (looseOf (at a) t (cyclic n))) where
       told : settled ≡ noPair (answerOf now (loosePair t))
@@ -134,7 +138,7 @@ module _ (refused n limit t : ℕ) (some : 1 ≤ n) (sixteen : limit ≤ mostSwe
             workAt a′ v′ made ≡ workPairs n (workAt a v m) (cyclic n) → Going refused n limit t z a′ v′ made (sweeps + 1) (eqb made m)
         sweeps-on i l made a′ v′ w =
             let goes = run-sweeps (limit - sweeps) sweeps t idle now loose i (limit - (sweeps + 1)) (omega (arith, g .within)) in
-            let taken = sweep-taken n m some (turns-suffice n m sweeps (g .holds .keeps .size) (omega (arith, g .within)) (g .few)) in
+            let taken = sweep-taken n m some (remains l) in
             record {
               is = g .is ∙ goes ∙ rw (
                 swept-leaves refused n m a v (g .holds) taken made a′ v′ w,

@@ -2,8 +2,6 @@
 use mathlib.Core.Path.{_≡_, sym, ap, _∙_}
 use mathlib.Core.List.{List}
 use Prim.Native.Nat.{ℕ}
-use native.Mathlib.Nat.{le-trans}
-use lib.Dec.{lit≤}
 use lib.IntN.{ℤ}
 use borrow.Author.Tests.{eq-eqb, ne-eqb}
 use Rattle.ledger.specs.Call.{Call}
@@ -43,7 +41,7 @@ module _ (r : Record) (call : Call) (k : Kept r) (number : ℕ) (e : number ≡ 
 -- the rows of a kept matrix are small enough for the queries
 pub kept-small : (r : Record) → Kept r → Small (rowsOf (r .a))
 unfolding workOf
-kept-small r k = matrix-small (r .n) (workOf r) (k .work) (le-trans (k .turns) (lit≤ tt))
+kept-small r k = matrix-small (r .n) (workOf r) (k .work) (k .turns)
 
 -- rows that a record is unpacked to: they are its work, and may be turned
 module _ (r : Record) (a v : List (List ℤ)) (matrix : a ≡ rowsOf (r .a)) (axes : v ≡ rowsOf (r .v)) where
@@ -55,7 +53,7 @@ module _ (r : Record) (a v : List (List ℤ)) (matrix : a ≡ rowsOf (r .a)) (ax
   kept-ready k =
       record {
         kept = rw at-work (k .work);
-        few = le-trans (k .turns) (lit≤ tt);
+        few = k .turns;
         matrix = rw matrix (shaped-rows (r .a));
         axes = rw axes (shaped-rows (r .v));
       }

@@ -3,10 +3,8 @@ use mathlib.Core.Path.{_≡_, refl, _∙_}
 use mathlib.Core.List.{List, [], _∷_}
 use Prim.Native.Nat.{ℕ, _+_, _≤_, _<_}
 use native.Mathlib.Omega.{arith}
-use lib.Dec.{leb, leb→le}
 use lib.ListN.{length}
-use Rattle.integer.specs.laws.Range.{below}
-use Rattle.ledger.specs.Pairs.{Pair, cyclic, row, rowsFrom}
+use Rattle.ledger.specs.Pairs.{Pair}
 use Rattle.turn.specs.laws.Eight.{shaped-square}
 use Rattle.turn.specs.Shape.{Shaped}
 use Rattle.turn.specs.Turn.{array, turnAxes, turnMatrix}
@@ -60,8 +58,3 @@ module _ (n : ℕ) (w₀ w : Work) (pairs₀ : List Pair) (pair : Pair) (pairs :
 pub ended : (n : ℕ) (w₀ w : Work) (pairs₀ : List Pair) → Sweeping n w₀ pairs₀ w [] → w ≡ workPairs n w₀ pairs₀
 unfolding workPairs
 ended n w₀ w pairs₀ s = s .same
-
--- at most 28 pairs
-pub cyclic-few : (n : ℕ) → n ≤ 8 → length (cyclic n) ≤ 28
-unfolding cyclic rowsFrom row
-cyclic-few n h = leb→le _ _ (below (λ n. leb (length (cyclic n)) 28) 9 tt n (omega arith))

@@ -1,6 +1,6 @@
 // Turns and sweeps on lent rows, the matrix and the axes: their refusals, and the pairs chosen and turned.
 ghost use mathlib.Core.Path.{_≡_};
-ghost use Prim.Native.Nat.{_<_, _≤_, _+_};
+ghost use Prim.Native.Nat.{_<_, _≤_, _+_, _-_, _*_, _/_};
 ghost use Rattle.ledger.specs.Call.{turn, sweep};
 ghost use Rattle.limits.specs.Limits.{turnLimit};
 ghost use Rattle.ledger.specs.Pairs.{cyclic};
@@ -86,7 +86,7 @@ pub(crate) fn work_pairs(
     n: usize,
     m: u64,
 ) -> u64
-    requires { ⌜ (n ≤ 8) × (m ≤ turnLimit) × Ready n (now matrix) (now axes) m ⌝ }
+    requires { ⌜ (n ≤ 8) × (m + n * (n - 1) / 2 ≤ turnLimit) × Ready n (now matrix) (now axes) m ⌝ }
     ensures { λ z. ⌜ workAt (now (matrix .exit)) (now (axes .exit)) z ≡ workPairs n (workAt (now (matrix .entry)) (now (axes .entry)) m)
         (cyclic n) ⌝ }
 {

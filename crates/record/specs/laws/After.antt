@@ -96,10 +96,11 @@ turned-kept r p q k e =
       axes-length = length-flat _;
     }
 
-few : (m n : ℕ) → m + n * (n - 1) / 2 ≤ turnLimit → m + length (cyclic n) ≤ turnLimit
+-- n(n−1)/2 is how many pairs a sweep has
+pub sweep-fits : (m n : ℕ) → m + n * (n - 1) / 2 ≤ turnLimit → m + length (cyclic n) ≤ turnLimit
 unfolding cyclic rowsFrom
-few m zero h = omega (arith, h)
-few m (suc n) h = omega (arith, h, cyclic-length (suc n) (omega arith))
+sweep-fits m zero h = omega (arith, h)
+sweep-fits m (suc n) h = omega (arith, h, cyclic-length (suc n) (omega arith))
 
 swept-kept : (r : Record) → Kept r → refusalOf (r .n) (r .m) sweep ≡ 0 → Kept (sweptOf r)
 unfolding sweptOf workedOf workOf
@@ -107,7 +108,7 @@ swept-kept r k e =
     record {
       size = k .size;
       channels = k .channels;
-      turns = le-trans (works-grow (r .n) (workOf r) (cyclic (r .n))) (few (r .m) (r .n) (sweep-accepted (r .n) (r .m) e));
+      turns = le-trans (works-grow (r .n) (workOf r) (cyclic (r .n))) (sweep-fits (r .m) (r .n) (sweep-accepted (r .n) (r .m) e));
       work =
           worked-kept r (workPairs (r .n) (workOf r) (cyclic (r .n))) (k .size)
           (works-keep (r .n) (workOf r) (cyclic (r .n)) (k .size) (k .work) (cyclic-pairs (r .n)));

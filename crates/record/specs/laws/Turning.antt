@@ -29,6 +29,7 @@ use Rattle.turn.specs.declared.pair.Rotation.{Rotation}
 use Rattle.turn.specs.InUse.{inUse}
 use Rattle.turn.specs.laws.InUse.{Use, at-array, inUse-inside, inUse-outside, inUse-symmetric, inside, outside, use-of}
 use Rattle.choice.specs.Widest.{widest}
+use Rattle.limits.specs.Limits.{turnLimit}
 use Rattle.choice.specs.declared.Choice.{Choice}
 use Rattle.choice.specs.declared.Choice.the-variants.{NoTurn, Turn}
 use Rattle.record.specs.KeptWork.{KeptWork}
@@ -127,7 +128,7 @@ work-turned n w pair = told (chosen w pair)
     told (Turn l minus) = lt-ltb (w .m) (suc (w .m)) (omega arith)
 
 -- what is kept is small enough to choose and to turn
-module _ (n : ℕ) (w : Work) (k : KeptWork n w) (few : w .m ≤ 476) where
+module _ (n : ℕ) (w : Work) (k : KeptWork n w) (few : w .m ≤ turnLimit) where
   pub matrix-small : Small (w .a)
   unfolding squares
   matrix-small = record { small = λ i j. by-use i j (use-of n i j) }

@@ -1,9 +1,10 @@
 -- `record::Record::sweep` meets its contract.
-use mathlib.Core.Path.{_≡_, ap, _∙_}
+use mathlib.Core.Path.{_≡_, sym, ap, _∙_}
 use Prim.Native.Nat.{_-_}
 use borrow.Author.Needs.{needs}
 use Rattle.ledger.specs.Call.{sweep}
 use Rattle.ledger.specs.Pairs.{cyclic}
+use Rattle.ledger.specs.laws.Accepted.{sweep-accepted}
 use Rattle.record.specs.laws.Turning.{works-least}
 use Rattle.record.specs.Work.{Work, workPairs}
 use Rattle.record.specs.Worked.{Ready, workAt}
@@ -46,7 +47,8 @@ work-pairs-requires : tie.Need-work-pairs-requires
 work-pairs-requires c κs =
     let u = c .before .before in
     let s = start u in
-    (s .pre .size, s .pre .turns, ready u)
+    let taken = sym (checked u .before .sweep-refusal .ensures) ∙ checked u .if1 .left in
+    (s .pre .size, sweep-accepted (r u .n) (r u .m) taken, ready u)
 
 least : tie.Need-sub-t16
 unfolding workOf

@@ -5,7 +5,7 @@ use native.Mathlib.Omega.{arith}
 use borrow.Author.Needs.{needs}
 use Rattle.record.specs.inner.Running.{heldOf}
 use Rattle.record.specs.Run.{runFrom}
-use Rattle.record.proofs.Going.{Going, begun, held-ready, is-spent, is-still, settles, sweeps-on}
+use Rattle.record.proofs.Going.{Going, begun, held-ready, is-spent, is-still, remains, settles, sweeps-on}
 use Rattle.record.proofs.run.run_rows.Statement.{statement}
 use Rattle.record.proofs.run.run_rows.Tie as tie
 
@@ -54,8 +54,14 @@ returns-3 c =
 
 work-pairs-requires : tie.Need-work-pairs-requires Inv-loop μ-loop
 work-pairs-requires c κs =
-    let h = c .before .before .before .before .before .before .before .loop .inv 0 .holds in
-    (h .keeps .size, h .keeps .turns, held-ready _ _ _ _ _ h)
+    let spent = c .before .before in
+    let l = spent .before .before .before .before .before in
+    let given = l .before .pre in
+    let h = l .loop .inv 0 .holds in (
+      h .keeps .size,
+      remains 0 _ _ _ (given .loaded) (given .sweeps) (given .tolerated) _ _ _ _ _ _ (l .loop .inv 0) (spent .if3 .left),
+      held-ready _ _ _ _ _ h,
+    )
 
 loop-again : tie.Need-loop-again Inv-loop μ-loop
 loop-again c = λ k.

@@ -7,7 +7,8 @@ use borrow.Author.Needs.{needs}
 use Rattle.ledger.specs.Pairs.{cyclic}
 use Rattle.ledger.specs.laws.Order.{all-left, none-left, pair-next, pairsLeft, row-begins, row-ends, rowsLeft}
 use Rattle.record.specs.Worked.{workAt}
-use Rattle.record.proofs.Sweeping.{Sweeping, cyclic-few, ended, one-more, started, then}
+use Rattle.record.specs.laws.After.{sweep-fits}
+use Rattle.record.proofs.Sweeping.{Sweeping, ended, one-more, started, then}
 use Rattle.record.proofs.sweep.work_pairs.Statement.{statement}
 use Rattle.record.proofs.sweep.work_pairs.Tie as tie
 
@@ -46,7 +47,7 @@ work-pair-requires c κs =
       s .pre .0,
       record {
         kept = inner .inv .2 .kept;
-        few = omega (arith, inner .inv .2 .few, l .inv .1 .few, begun, cyclic-few (s .args .n) (s .pre .0), s .pre .1);
+        few = omega (arith, inner .inv .2 .few, l .inv .1 .few, begun, sweep-fits (s .args .m) (s .args .n) (s .pre .1));
         matrix = inner .inv .2 .matrix;
         axes = inner .inv .2 .axes;
       },
