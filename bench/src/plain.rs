@@ -162,7 +162,7 @@ pub fn table(n: usize, dilutions: &[u32], counts: &[u32], out: &mut [i64]) -> us
         }
     }
     let mut e = 0;
-    while 1_048_576 << e < largest {
+    while 2_097_152 << e < largest {
         e += 1;
     }
     head[0] = e;

@@ -11,7 +11,7 @@ fn matrices(n: usize) -> Vec<Vec<i64>> {
             let mut numbers = vec![0; n * n];
             for i in 0..n {
                 for j in i..n {
-                    let number = sequence.spread(1_048_576);
+                    let number = sequence.spread(2_097_152);
                     numbers[i * n + j] = number;
                     numbers[j * n + i] = number;
                 }

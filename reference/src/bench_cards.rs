@@ -109,18 +109,25 @@ fn card_9() {
 #[test]
 fn card_10() {
     for (sum, e, entry) in [
-        (1_048_576, 0, 1_048_576),
-        (1_048_577, 1, 524_289),
-        (-1_048_577, 1, -524_289),
+        (2_097_152, 0, 2_097_152),
+        (2_097_153, 1, 1_048_577),
+        (-2_097_153, 1, -1_048_577),
     ] {
         let sums = Matrix::of_rows(2, &[1, sum, sum, 0]);
         assert_eq!(shift(&sums), e);
         assert_eq!(rnd(sum, 1 << e), entry);
     }
-    let pair = table(2, &[sample(1, &[1024, 1]), sample(1, &[0, 0])]);
+    let three = table(
+        2,
+        &[
+            sample(1, &[1024, 1]),
+            sample(1, &[0, 0]),
+            sample(1, &[0, 0]),
+        ],
+    );
     assert_eq!(
-        (pair.sums.at(1, 1), pair.e, pair.entries.at(1, 1)),
-        (1_048_576, 0, 1_048_576)
+        (three.sums.at(1, 1), three.e, three.entries.at(1, 1)),
+        (2_097_152, 0, 2_097_152)
     );
 }
 
@@ -128,7 +135,10 @@ fn card_10() {
 fn card_11() {
     let table = table(2, &[sample(100, &[65_535, 65_535]), sample(100, &[0, 0])]);
     assert_eq!(table.sums.numbers(), [42_948_362_250_000; 4]);
-    assert_eq!((table.e, table.entries.numbers()), (26, &[639_980; 4][..]));
+    assert_eq!(
+        (table.e, table.entries.numbers()),
+        (25, &[1_279_961; 4][..])
+    );
 }
 
 #[test]
@@ -203,7 +213,7 @@ fn a_turn_of_three_channels() {
     assert_eq!(v.row(3), [0, 0, AXIS_ONE]);
 }
 
-/// "The shift e is the smallest e ≥ 0 with every |S_ij| ≤ 1,048,576 × 2^e."
+/// "The shift e is the smallest e ≥ 0 with every |S_ij| ≤ 2,097,152 × 2^e", under document 02's W9.
 #[test]
 fn a_shift_is_the_smallest_and_a_table_symmetric() {
     for seed in 0..300 {
@@ -212,7 +222,7 @@ fn a_shift_is_the_smallest_and_a_table_symmetric() {
         };
         let table = table(job.n, &job.samples);
         let within = |e: u32| {
-            let most = 1_048_576i128 << e;
+            let most = 2_097_152i128 << e;
             table.sums.numbers().iter().all(|sum| sum.abs() <= most)
         };
         assert!(within(table.e) && (table.e == 0 || !within(table.e - 1)));
@@ -222,7 +232,7 @@ fn a_shift_is_the_smallest_and_a_table_symmetric() {
             .entries
             .numbers()
             .iter()
-            .all(|entry| entry.abs() <= 1_048_576));
+            .all(|entry| entry.abs() <= 2_097_152));
     }
 }
 
@@ -290,10 +300,10 @@ fn calls_are_refused_in_their_order() {
     assert_eq!(record.load(1, &[]), Err(5));
     assert_eq!(record.load(9, &[]), Err(5));
     assert_eq!(record.load(2, &[0, 1, 2_000_000]), Err(6));
-    assert_eq!(record.load(2, &[0, 1, 2, 1_048_577]), Err(8));
-    assert_eq!(record.load(2, &[0, 1, 2, -1_048_576]), Err(7));
+    assert_eq!(record.load(2, &[0, 1, 2, 2_097_153]), Err(8));
+    assert_eq!(record.load(2, &[0, 1, 2, -2_097_152]), Err(7));
     assert_eq!(record.refused(), 9);
-    assert_eq!(record.load(2, &[0, 1, 1, -1_048_576]), Ok(()));
+    assert_eq!(record.load(2, &[0, 1, 1, -2_097_152]), Ok(()));
     assert_eq!(
         record.kept().unwrap().v.numbers(),
         [AXIS_ONE, 0, 0, AXIS_ONE]

@@ -55,9 +55,9 @@ pub const PRINTED: &str = "P 2 1 0\nS 1 0 0\nS 5 1 0\nS 1 5 5\nE 3\n";
 
 /// Calls at their refusals and beside them, blanks for tabs: 10 first, then 5, 6, 8 and 7, alone and in their order, then 2 and 9.
 const REFUSED: &str = "W\nT 1 2\nT 2 1\nQ 0\nQ 1048577\nA 1\nA 0\nL 1 5\nL 9\nL 0\nL 2 1 2 3\nL 2 1 2 3 4 5\nL 2\n\
-L 2 1048577 0 0 1\nL 2 -1048577 0 0 1\nL 2 1 2 3 1\nL 9 1048577\nL 2 1048577 2 3\nL 2 1048577 2 3 1\nL 9999999999 -9999999999\n\
+L 2 2097153 0 0 1\nL 2 -2097153 0 0 1\nL 2 1 2 3 1\nL 9 2097153\nL 2 2097153 2 3\nL 2 2097153 2 3 1\nL 9999999999 -9999999999\n\
 W\nL 2 50 25 25 50\nQ 25599\nQ 25600\nQ 1048576\nQ 1048577\nQ 9999999999\nT 1 1\nT 2 1\nT 0 1\nT 1 3\nT 0 0\n\
-T 9999999999 9999999999\nA 0\nA 3\nT 1 2\nL 2 1 2 3 1\nA 1\nA 2\nL 2 0 1 1 1048576\nT 1 2\nW\nQ 1023\nQ 1024\n";
+T 9999999999 9999999999\nA 0\nA 3\nT 1 2\nL 2 1 2 3 1\nA 1\nA 2\nL 2 0 1 1 1048576\nT 1 2\nW\nQ 1023\nQ 1024\nL 2 2097152 1 1 -2097152\nW\nA 1\nA 2\n";
 
 /// A matrix on which rounding keeps pairs turning.
 #[rustfmt::skip]

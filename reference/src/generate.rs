@@ -295,8 +295,8 @@ fn refused_load(random: &mut Random) -> Vec<String> {
         .to_vec();
     let place = random.index(numbers.len());
     let beyond = random.pick(&[
-        1_048_577,
-        -1_048_577,
+        ENTRY_LIMIT + 1,
+        -ENTRY_LIMIT - 1,
         9_999_999_999,
         -9_999_999_999,
         10_000_000_000,

@@ -164,7 +164,7 @@ mod tests {
         assert!(refusals.into_iter().eq([1, 2, 3, 4, 12]));
         let accepted = accepted();
         let shifts: BTreeSet<u32> = accepted.iter().map(|(_, e, _)| *e).collect();
-        assert!(shifts.into_iter().eq(0..=40));
+        assert!(shifts.into_iter().eq(0..=39));
         for outcome in [Outcome::Settled, Outcome::Still, Outcome::Spent] {
             for swept in [false, true] {
                 let found = accepted
@@ -217,7 +217,7 @@ mod tests {
                 }
             }
         }
-        assert_eq!(seen, 4 + 3 + 66);
+        assert_eq!(seen, 4 + 3 + 64);
     }
 
     #[test]

@@ -9,7 +9,7 @@ pub const UNITS: i128 = 1024;
 /// The diagonal of fresh axes.
 pub const AXIS_ONE: i128 = 1 << 30;
 /// Loaded entries lie within ± this; a tolerance lies from 0 to this.
-pub const ENTRY_LIMIT: i128 = 1_048_576;
+pub const ENTRY_LIMIT: i128 = 2_097_152;
 pub const TOLERANCE_LIMIT: i128 = 1_048_576;
 pub const TURN_LIMIT: i128 = 448;
 /// The count of refused calls stops here.

@@ -46,7 +46,7 @@ fn sums(n: usize, samples: &[Sample]) -> Matrix {
     Matrix::by_rule(n, |i, j| k * product_sum(i, j) - sum(i) * sum(j))
 }
 
-/// The smallest e ≥ 0 with every |S_ij| ≤ 1,048,576 × 2^e.
+/// The smallest e ≥ 0 with every |S_ij| ≤ 2,097,152 × 2^e.
 pub fn shift(sums: &Matrix) -> u32 {
     (0..)
         .find(|&e| {

@@ -3,7 +3,7 @@
 use crate::random::Random;
 use field_axes::{solve_into, Refused};
 
-const ENTRY_LIMIT: i64 = 1_048_576;
+const ENTRY_LIMIT: i64 = 2_097_152;
 const TOLERANCE_LIMIT: u64 = 1_048_576;
 /// What stands in the lent buffer before the call.
 const FILL: i64 = -7_777_777;

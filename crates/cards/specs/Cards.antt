@@ -59,11 +59,11 @@ zeroTable = record { e = 0; entries = replicate 64 (pos 0); scatter = replicate 
 abbrev pub SettledAtOnce : Run → Type 0
 SettledAtOnce ran = (ran .outcome ≡ Settled) × (ran .sweeps ≡ 0)
 
--- of samples whose greatest |S| is 1,048,577: e = 1, and where it stands, with either sign, the entry is 524,289 with that sign
+-- of samples whose greatest |S| is 2,097,153: e = 1, and where it stands, with either sign, the entry is 1,048,577 with that sign
 pub record Halved (n : ℕ) (ss : List Sample) : Type 0 where
   pub shift : tableOf n ss .e ≡ 1
-  pub entry : (i j : ℕ) → i < n → j < n → S ss i j ≡ pos 1_048_577 → matrixOf n (tableOf n ss .entries) i j ≡ pos 524_289
-  pub negated : (i j : ℕ) → i < n → j < n → S ss i j ≡ neg 1_048_577 → matrixOf n (tableOf n ss .entries) i j ≡ neg 524_289
+  pub entry : (i j : ℕ) → i < n → j < n → S ss i j ≡ pos 2_097_153 → matrixOf n (tableOf n ss .entries) i j ≡ pos 1_048_577
+  pub negated : (i j : ℕ) → i < n → j < n → S ss i j ≡ neg 2_097_153 → matrixOf n (tableOf n ss .entries) i j ≡ neg 1_048_577
 
 pub record BenchCards : Type 0 where
   -- 1. T_1 to T_3 as above.
@@ -88,11 +88,11 @@ pub record BenchCards : Type 0 where
   -- 9. Equal samples: zero table, `settled`, 0 sweeps.
   pub card9 : (n k limit t : ℕ) (s : Sample) → 2 ≤ n → n ≤ 8 → t ≤ toleranceLimit →
       (tableOf n (replicate k s) ≡ zeroTable) × SettledAtOnce (runOf n (take (n * n) (tableOf n (replicate k s) .entries)) limit t)
-  -- 10. Greatest |S| 1,048,576: e = 0. With 1,048,577: e = 1, entry 524,289.
+  -- 10, moved by document 02's W9. Greatest |S| 2,097,152: e = 0. With 2,097,153: e = 1, entry 1,048,577.
   pub card10 : (n : ℕ) (ss : List Sample) →
-      (largest (scatter n ss) ≡ 1_048_576 → tableOf n ss .e ≡ 0) × (largest (scatter n ss) ≡ 1_048_577 → Halved n ss)
-  -- 11. Two samples, dilution 100, counts 65,535 and 0 on both channels: every S is 42,948,362,250,000, e = 26, entry 639,980.
-  pub card11 : (scatter 2 twoSamples ≡ replicate 4 (pos 42_948_362_250_000)) × (tableOf 2 twoSamples .e ≡ 26) ×
-      (take 4 (tableOf 2 twoSamples .entries) ≡ replicate 4 (pos 639_980))
+      (largest (scatter n ss) ≡ 2_097_152 → tableOf n ss .e ≡ 0) × (largest (scatter n ss) ≡ 2_097_153 → Halved n ss)
+  -- 11, moved by W9. Two samples, dilution 100, counts 65,535 and 0 on both channels: every S is 42,948,362,250,000, e = 25, entry 1,279,961.
+  pub card11 : (scatter 2 twoSamples ≡ replicate 4 (pos 42_948_362_250_000)) × (tableOf 2 twoSamples .e ≡ 25) ×
+      (take 4 (tableOf 2 twoSamples .entries) ≡ replicate 4 (pos 1_279_961))
   -- 12. The report above.
   pub card12 : printedOf reportOf jobText ≡ reportText

@@ -7,14 +7,14 @@ use lib.IntN.{ℤ, pos, _*ℤ_}
 use Rattle.turn.specs.Exact.{exact}
 use Rattle.turn.specs.Rotation.{rotationOf}
 use Rattle.turn.specs.Turn.{turned, turnedAxes}
-use Rattle.limits.specs.Limits.{units, whole}
+use Rattle.limits.specs.Limits.{entryLimit, units, whole}
 use Rattle.choice.specs.Choice.{choose}
 use Rattle.choice.specs.declared.Choice.{Choice}
 use Rattle.choice.specs.declared.Choice.the-variants.{NoTurn, Turn}
 use Rattle.integer.specs.Matrix.{Matrix, diagonal, product, matrixOf}
 use Rattle.ledger.specs.Call.{Call, load, turn, sweep, loosePair, axis}
 use Rattle.ledger.specs.Pairs.{Pair, cyclic}
-use Rattle.ledger.specs.Refusal.{refusalOf}
+use Rattle.ledger.specs.Refusal.{refusalUnder}
 
 -- 'Once loaded it has n, A, a matrix B, axes V, m and Q'; V is `axes`, and Q is P / D in whole numbers
 pub record State : Type 0 where
@@ -88,13 +88,20 @@ unfoldable pub turnsOf : Ledger → ℕ
 turnsOf empty = 0
 turnsOf (loaded s) = s .m
 
--- 'A call leaves it as it is when a refusal below applies to that call on the ledger's own state'
-unfoldable pub ledgerStep : Ledger → Call → Ledger
-ledgerStep g call = cond (eqb (refusalOf (sizeOf g) (turnsOf g) call) 0) (accepted g call) g
+-- 'A call leaves it as it is when a refusal below applies to that call on the ledger's own state', under a limit of the entries
+unfoldable pub ledgerStepUnder : ℕ → Ledger → Call → Ledger
+ledgerStepUnder limit g call = cond (eqb (refusalUnder limit (sizeOf g) (turnsOf g) call) 0) (accepted g call) g
 
-unfoldable pub ledgerFrom : Ledger → List Call → Ledger
-ledgerFrom g [] = g
-ledgerFrom g (call ∷ calls) = ledgerFrom (ledgerStep g call) calls
+unfoldable pub ledgerFromUnder : ℕ → Ledger → List Call → Ledger
+ledgerFromUnder limit g [] = g
+ledgerFromUnder limit g (call ∷ calls) = ledgerFromUnder limit (ledgerStepUnder limit g call) calls
+
+-- under the limit of document 02's W9
+abbrev pub ledgerStep : Ledger → Call → Ledger
+ledgerStep = ledgerStepUnder entryLimit
+
+abbrev pub ledgerFrom : Ledger → List Call → Ledger
+ledgerFrom = ledgerFromUnder entryLimit
 
 unfoldable pub ledger : List Call → Ledger
 ledger calls = ledgerFrom empty calls

@@ -19,25 +19,29 @@ equal (negsuc x) (negsuc y) = eqb x y
 unfoldable pub symmetric : ℕ → Matrix → Bool
 symmetric n a = all (λ i. all (λ j. equal (a i j) (a j i)) n) n
 
--- no entry is beyond ±1,048,576
-unfoldable pub entriesWithin : List ℤ → Bool
-entriesWithin [] = true
-entriesWithin (x ∷ xs) = leb (natAbs x) entryLimit && entriesWithin xs
+-- no entry is beyond ±limit
+unfoldable pub entriesWithin : ℕ → List ℤ → Bool
+entriesWithin limit [] = true
+entriesWithin limit (x ∷ xs) = leb (natAbs x) limit && entriesWithin limit xs
 
 -- refused with this number unless the test holds; else what the later tests say
 abbrev pub unless : Bool → ℕ → ℕ → ℕ
 unless test number later = cond test later number
 
--- The refusal's number, or 0 for a call that is accepted, on a state with n channels (0: no matrix) and m turns made.
+-- The refusal's number, or 0 for a call that is accepted, under a limit of the entries, on a state with n channels (0: no matrix) and m turns made.
 -- Load: 5, 6, 8, 7. Other calls: 10, then 2 or 9, then 11
-unfoldable pub refusalOf : ℕ → ℕ → Call → ℕ
-refusalOf n m (load k numbers) =
+unfoldable pub refusalUnder : ℕ → ℕ → ℕ → Call → ℕ
+refusalUnder limit n m (load k numbers) =
     unless (leb leastChannels k && leb k mostChannels) 5
     (unless (eqb (length numbers) (k * k)) 6
-    (unless (entriesWithin numbers) 8
+    (unless (entriesWithin limit numbers) 8
     (unless (symmetric k (matrixOf k numbers)) 7 0)))
-refusalOf n m (turn p q) =
+refusalUnder limit n m (turn p q) =
     unless (ltb 0 n) 10 (unless (leb 1 p && (ltb p q && leb q n)) 9 (unless (ltb m turnLimit) 11 0))
-refusalOf n m sweep = unless (ltb 0 n) 10 (unless (leb (m + n * (n - 1) / 2) turnLimit) 11 0)
-refusalOf n m (loosePair t) = unless (ltb 0 n) 10 (unless (leb t toleranceLimit) 2 0)
-refusalOf n m (axis i) = unless (ltb 0 n) 10 (unless (leb 1 i && leb i n) 9 0)
+refusalUnder limit n m sweep = unless (ltb 0 n) 10 (unless (leb (m + n * (n - 1) / 2) turnLimit) 11 0)
+refusalUnder limit n m (loosePair t) = unless (ltb 0 n) 10 (unless (leb t toleranceLimit) 2 0)
+refusalUnder limit n m (axis i) = unless (ltb 0 n) 10 (unless (leb 1 i && leb i n) 9 0)
+
+-- 'an entry beyond ±2,097,152' (document 02, W9)
+abbrev pub refusalOf : ℕ → ℕ → Call → ℕ
+refusalOf = refusalUnder entryLimit

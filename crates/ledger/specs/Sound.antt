@@ -2,7 +2,7 @@
 use Prim.Native.Nat.{ℕ, _+_, _*_}
 use Rattle.limits.specs.Limits.{entryLimit, units, whole}
 
--- the norm of the kept matrix after m turns: 8 × 8 entries of up to 2^30 units at first, and less than 4 more with each turn
+-- the norm of the kept matrix after m turns: 8 × 8 entries of up to 2^31 units at first, and less than 4 more with each turn
 abbrev pub matrixBound : ℕ → ℕ
 matrixBound m = 8 * (units * entryLimit) + 4 * m
 

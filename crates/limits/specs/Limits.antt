@@ -32,9 +32,13 @@ mostDilution = 100
 abbrev pub mostCount : ℕ
 mostCount = 65_535
 
--- refusal 8: an entry beyond ±1,048,576
+-- refusal 8: an entry beyond ±2,097,152 (document 02, W9)
 abbrev pub entryLimit : ℕ
-entryLimit = 1_048_576
+entryLimit = 2_097_152
+
+-- the entry limit of document 01, before W9
+abbrev pub formerEntryLimit : ℕ
+formerEntryLimit = 1_048_576
 
 -- refusal 2: a tolerance beyond 1,048,576 units
 abbrev pub toleranceLimit : ℕ

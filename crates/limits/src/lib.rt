@@ -23,7 +23,7 @@ pub const MOST_DILUTION: u32 = 100;
 pub const MOST_COUNT: u32 = 65_535;
 
 // An entry of a loaded matrix is at most this in size.
-pub const ENTRY_LIMIT: u64 = 1_048_576;
+pub const ENTRY_LIMIT: u64 = 2_097_152;
 
 // A tolerance is at most this many units.
 pub const TOLERANCE_LIMIT: u64 = 1_048_576;

@@ -17,7 +17,7 @@ use Rattle.integer.specs.laws.Range.{below, from-each}
 use Rattle.ledger.specs.laws.Accepted.{equal-of, equal-same}
 use Rattle.ledger.specs.Call.{load}
 use Rattle.limits.specs.Limits.{entryLimit}
-use Rattle.ledger.specs.Refusal.{equal, refusalOf, symmetric, unless, entriesWithin}
+use Rattle.ledger.specs.Refusal.{equal, refusalOf, refusalUnder, symmetric, unless, entriesWithin}
 use Rattle.integer.specs.Matrix.{Matrix, matrixOf}
 
 -- tests that imply one another are equal
@@ -73,19 +73,19 @@ not-below l (pos n) e = refl
 not-below l (negsuc n) e = sym (le-leb (suc n) (suc l) (omega (arith, ltb-false)))
 
 -- the numbers from place k on: whether number k is within decides whether all are, or the rest does
-module _ (xs : List ℤ) (k : ℕ) (h : k < length xs) (e : entriesWithin xs ≡ entriesWithin (drop k xs)) where
-  from : entriesWithin xs ≡ (leb (natAbs (getD xs k (pos 0))) entryLimit && entriesWithin (drop (k + 1) xs))
+module _ (xs : List ℤ) (k : ℕ) (h : k < length xs) (e : entriesWithin entryLimit xs ≡ entriesWithin entryLimit (drop k xs)) where
+  from : entriesWithin entryLimit xs ≡ (leb (natAbs (getD xs k (pos 0))) entryLimit && entriesWithin entryLimit (drop (k + 1) xs))
   unfolding entriesWithin
   from = e ∙ rw (add-one, drop-cons xs k (pos 0) h)
 
-  pub within-fails : leb (natAbs (getD xs k (pos 0))) entryLimit ≡ false → false ≡ entriesWithin xs
+  pub within-fails : leb (natAbs (getD xs k (pos 0))) entryLimit ≡ false → false ≡ entriesWithin entryLimit xs
   within-fails t = sym (rw t at from)
 
-  pub within-more : leb (natAbs (getD xs k (pos 0))) entryLimit ≡ true → entriesWithin xs ≡ entriesWithin (drop (k + 1) xs)
+  pub within-more : leb (natAbs (getD xs k (pos 0))) entryLimit ≡ true → entriesWithin entryLimit xs ≡ entriesWithin entryLimit (drop (k + 1) xs)
   within-more t = rw t at from
 
 -- the tests of a load after those of its size
 pub sized : (k : ℕ) (xs : List ℤ) → 2 ≤ k → k ≤ 8 → length xs ≡ k * k →
-    refusalOf 0 0 (load k xs) ≡ unless (entriesWithin xs) 8 (unless (symmetric k (matrixOf k xs)) 7 0)
-unfolding refusalOf
+    refusalOf 0 0 (load k xs) ≡ unless (entriesWithin entryLimit xs) 8 (unless (symmetric k (matrixOf k xs)) 7 0)
+unfolding refusalUnder
 sized k xs h l e = rw (le-leb 2 k h, le-leb k 8 l, eq-eqb (length xs) (k * k) e)

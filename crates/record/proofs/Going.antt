@@ -23,7 +23,7 @@ use Rattle.record.specs.laws.Accepted.{loose-pair-taken, sweep-taken, tu
 use Rattle.record.specs.laws.After.{after-kept}
 use Rattle.record.specs.laws.Fill.{kept-flatOf}
 use Rattle.record.specs.Flat.{entriesOf, flatOf, rowsOf}
-use Rattle.record.specs.Record.{acceptedOf, afterOf, answerOf, sweptOf, valueOf, workOf, workedOf}
+use Rattle.record.specs.Record.{acceptedOf, afterOf, afterOfUnder, answerOf, sweptOf, valueOf, workOf, workedOf}
 use Rattle.record.specs.declared.Record.{Record}
 use Rattle.record.specs.laws.Turning.{matrix-small, works-grow, works-least}
 use Rattle.record.specs.Work.{Work, workPair, workPairs}
@@ -80,7 +80,7 @@ module _ (refused n m : ℕ) (a v : List (List ℤ)) (h : Holds refused n m a v)
 
   module _ (e : refusalOf n m sweep ≡ 0) (made : ℕ) (a′ v′ : List (List ℤ)) (w : workAt a′ v′ made ≡ workPairs n (workAt a v m) (cyclic n)) where
     swept-leaves : afterOf r sweep ≡ heldOf refused n made a′ v′
-    unfolding afterOf acceptedOf sweptOf workedOf
+    unfolding afterOfUnder acceptedOf sweptOf workedOf
     swept-leaves = rw (eq-eqb (refusalOf n m sweep) 0 e, work-held, ← w)
 
     swept-holds : Holds refused n made a′ v′

@@ -15,14 +15,14 @@ use Rattle.record.specs.laws.After.{after-kept}
 use Rattle.record.specs.Done.{Done}
 use Rattle.record.specs.Flat.{rowsOf}
 use Rattle.record.specs.Kept.{Kept}
-use Rattle.record.specs.Record.{acceptedOf, afterOf, answerOf, refusedOf, valueOf, workOf}
+use Rattle.record.specs.Record.{acceptedOf, afterOf, afterOfUnder, answerOf, refusedOf, valueOf, workOf}
 use Rattle.record.specs.declared.Record.{Record}
 use Rattle.record.specs.declared.Step.{Step}
 use Rattle.record.specs.laws.Fill.{shaped-rows}
 
 module _ (r : Record) (call : Call) (k : Kept r) (number : ℕ) (e : number ≡ refusalOf (r .n) (r .m) call) where
   pub refused : (next : Record) → (number ≡ 0 → ⊥) → next ≡ refusedOf r → Done r call (Refused number) next
-  unfolding answerOf afterOf
+  unfolding answerOf afterOfUnder
   refused next f h =
       let test = ne-eqb (refusalOf (r .n) (r .m) call) 0 (λ z. f (e ∙ z)) in
       let leaves : next ≡ afterOf r call = h ∙ rw test in
@@ -32,7 +32,7 @@ module _ (r : Record) (call : Call) (k : Kept r) (number : ℕ) (e : number ≡ 
   refuses z f h = rw (h .0) (refused (z .next) f (h .1))
 
   pub accepted : (answer : Answer) (next : Record) → number ≡ 0 → answer ≡ valueOf r call → next ≡ acceptedOf r call → Done r call answer next
-  unfolding answerOf afterOf
+  unfolding answerOf afterOfUnder
   accepted answer next z a h =
       let test = eq-eqb (refusalOf (r .n) (r .m) call) 0 (sym e ∙ z) in
       let leaves : next ≡ afterOf r call = h ∙ rw test in

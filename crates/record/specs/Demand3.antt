@@ -4,12 +4,13 @@ use mathlib.Core.Path.{_≡_}
 use mathlib.Core.List.{List}
 use Prim.Native.Nat.{ℕ, _-_, _≤_, _<_}
 use Rattle.integer.specs.Matrix.{Same}
+use Rattle.limits.specs.Limits.{entryLimit, formerEntryLimit}
 use Rattle.ledger.specs.Call.{Call, axis}
-use Rattle.ledger.specs.Ledger.{Ledger, State, empty, loaded, ledger}
+use Rattle.ledger.specs.Ledger.{Ledger, State, empty, loaded, ledger, ledgerFrom, ledgerFromUnder}
 use Rattle.ledger.specs.Near.{MatrixNear, AxesNear, RowNear}
 use Rattle.record.specs.declared.query.Answer.the-variants.{Axis}
 use Rattle.record.specs.Flat.{keptEntry}
-use Rattle.record.specs.Record.{after, answerOf}
+use Rattle.record.specs.Record.{after, afterFrom, afterFromUnder, answerOf, fresh}
 use Rattle.record.specs.declared.Record.{Record}
 
 -- axis i, from 1: the axis call answers the kept diagonal entry i and an error, within which row i of Q is an axis of A with that entry
@@ -38,3 +39,11 @@ Certifies r (loaded s) = Certified r s
 
 abbrev pub Demand-3 : Type 0
 Demand-3 = (calls : List Call) → Certifies (after calls) (ledger calls)
+
+-- Document 02, W9: 'A record loaded under the old limit goes on under the new one with its matrix, axes, m and e unchanged, and its ledger goes on
+-- with it, unchanged too'. Calls under a limit from the old one to today's, then calls under today's: the record and the ledger that the first list
+-- leaves are what the second starts from, as they are.
+abbrev pub Goes-on : Type 0
+Goes-on =
+    (limit : ℕ) → formerEntryLimit ≤ limit → limit ≤ entryLimit → (before later : List Call) →
+    Certifies (afterFrom (afterFromUnder limit fresh before) later) (ledgerFrom (ledgerFromUnder limit empty before) later)

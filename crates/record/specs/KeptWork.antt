@@ -11,7 +11,7 @@ use Rattle.ledger.specs.Sound.{matrixBound, axesBound}
 use Rattle.turn.specs.Turn.{at}
 use Rattle.record.specs.Work.{Work}
 
--- the kept matrix is symmetric, matrix and axes are 0 outside the n by n entries in use, and the squares are bounded: of the matrix by (8 × 2^30
+-- the kept matrix is symmetric, matrix and axes are 0 outside the n by n entries in use, and the squares are bounded: of the matrix by (8 × 2^31
 -- + 4m)², of a column of the axes by (2^30 + m)²
 pub record KeptWork (n : ℕ) (w : Work) : Type 0 where
   pub symmetric : (i j : ℕ) → at (w .a) i j ≡ at (w .a) j i

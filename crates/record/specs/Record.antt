@@ -7,9 +7,9 @@ use lib.IntN.{ℤ, pos, _*ℤ_}
 use lib.ListN.{replicate}
 use Rattle.ledger.specs.Axis.{errorOf}
 use Rattle.ledger.specs.Call.{Call, load, turn, sweep, loosePair, axis}
-use Rattle.limits.specs.Limits.{refusedLimit, units, whole}
+use Rattle.limits.specs.Limits.{entryLimit, refusedLimit, units, whole}
 use Rattle.ledger.specs.Pairs.{cyclic}
-use Rattle.ledger.specs.Refusal.{refusalOf}
+use Rattle.ledger.specs.Refusal.{refusalOf, refusalUnder}
 use Rattle.turn.specs.InUse.{inUse}
 use Rattle.turn.specs.Turn.{at}
 use Rattle.record.specs.Work.{Work, chosen, isTurn, workPair, workPairs}
@@ -66,8 +66,13 @@ acceptedOf r sweep = sweptOf r
 acceptedOf r (loosePair t) = r
 acceptedOf r (axis i) = r
 
-unfoldable pub afterOf : Record → Call → Record
-afterOf r call = cond (eqb (refusalOf (r .n) (r .m) call) 0) (acceptedOf r call) (refusedOf r)
+-- under a limit of the entries
+unfoldable pub afterOfUnder : ℕ → Record → Call → Record
+afterOfUnder limit r call = cond (eqb (refusalUnder limit (r .n) (r .m) call) 0) (acceptedOf r call) (refusedOf r)
+
+-- under the limit of document 02's W9
+abbrev pub afterOf : Record → Call → Record
+afterOf = afterOfUnder entryLimit
 
 -- The answer: whether a turn was made, how many a sweep made, a pair or none, a_ii and its error r_i
 unfoldable pub valueOf : Record → Call → Answer
@@ -86,10 +91,13 @@ answerOf r call =
 unfoldable pub axisOf : Record → ℕ → List ℤ
 axisOf r i = cond (eqb (refusalOf (r .n) (r .m) (axis i)) 0) (entriesOf (r .v) (i - 1)) (replicate 8 (pos 0))
 
--- the record after a list of calls, from any record and from a fresh one
-unfoldable pub afterFrom : Record → List Call → Record
-afterFrom r [] = r
-afterFrom r (call ∷ calls) = afterFrom (afterOf r call) calls
+-- the record after a list of calls, from any record under a limit of the entries, under that of W9, and then from a fresh one
+unfoldable pub afterFromUnder : ℕ → Record → List Call → Record
+afterFromUnder limit r [] = r
+afterFromUnder limit r (call ∷ calls) = afterFromUnder limit (afterOfUnder limit r call) calls
+
+abbrev pub afterFrom : Record → List Call → Record
+afterFrom = afterFromUnder entryLimit
 
 unfoldable pub after : List Call → Record
 after calls = afterFrom fresh calls

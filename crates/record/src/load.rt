@@ -15,7 +15,7 @@ ghost use lib.IntN.{pos, natAbs, _*ℤ_};
 ghost use lib.ListN.{length};
 use crate::Record;
 
-// Whether x is not beyond ±1,048,576.
+// Whether x is not beyond ±2,097,152.
 fn is_within(x: i64) -> bool
     ensures { λ r. ⌜ r ≡ leb (natAbs x) entryLimit ⌝ }
 {
@@ -26,7 +26,7 @@ fn is_within(x: i64) -> bool
 }
 
 fn all_within(numbers: &[i64]) -> bool
-    ensures { λ r. ⌜ r ≡ entriesWithin (now (numbers .entry)) ⌝ }
+    ensures { λ r. ⌜ r ≡ entriesWithin entryLimit (now (numbers .entry)) ⌝ }
 {
     let mut k = 0;
     while k < numbers.len() {
@@ -91,7 +91,7 @@ pub fn load_refusal(n: usize, numbers: &[i64]) -> u32
 
 // The kept entry in row i and column j.
 fn loaded_entry(n: usize, numbers: &[i64], i: usize, j: usize) -> i64
-    requires { ⌜ (i < n) × (j < n) × (n ≤ 8) × (length (now numbers) ≡ n * n) × (entriesWithin (now numbers) ≡ true) ⌝ }
+    requires { ⌜ (i < n) × (j < n) × (n ≤ 8) × (length (now numbers) ≡ n * n) × (entriesWithin entryLimit (now numbers) ≡ true) ⌝ }
     ensures { λ r. ⌜ r ≡ pos units *ℤ matrixOf n (now (numbers .entry)) i j ⌝ }
 {
     Record::UNITS * numbers[i * n + j]
@@ -99,7 +99,7 @@ fn loaded_entry(n: usize, numbers: &[i64], i: usize, j: usize) -> i64
 
 // The n×n numbers in kept units, put into rows of 0.
 pub(crate) fn load_matrix(matrix: &mut [[i64; 8]; 8], n: usize, numbers: &[i64])
-    requires { ⌜ (now matrix ≡ blank) × (n ≤ 8) × (length (now numbers) ≡ n * n) × (entriesWithin (now numbers) ≡ true) ⌝ }
+    requires { ⌜ (now matrix ≡ blank) × (n ≤ 8) × (length (now numbers) ≡ n * n) × (entriesWithin entryLimit (now numbers) ≡ true) ⌝ }
     ensures { λ _. ⌜ now (matrix .exit) ≡ square (inUse n (λ i j. pos units *ℤ matrixOf n (now (numbers .entry)) i j)) ⌝ }
 {
     let mut i = 0;

@@ -25,7 +25,7 @@ use Rattle.ledger.specs.laws.Accepted.{axis-taken}
 use Rattle.ledger.specs.laws.Invariant.{SoundLedger, sound, turnPairs-continues}
 use Rattle.ledger.specs.laws.Sound.{Sound}
 use Rattle.ledger.specs.Ledger as book
-use Rattle.ledger.specs.Ledger.{Ledger, State, empty, loaded, ledger, ledgerFrom, ledgerStep, sizeOf, turnsOf}
+use Rattle.ledger.specs.Ledger.{Ledger, State, empty, loaded, ledger, ledgerFrom, ledgerFromUnder, ledgerStep, ledgerStepUnder, sizeOf, turnsOf}
 use Rattle.ledger.specs.Near.{DirectionNear, RowNear, axesDifference}
 use Rattle.ledger.specs.Pairs.{cyclic}
 use Rattle.ledger.specs.Refusal.{refusalOf}
@@ -37,7 +37,8 @@ use Rattle.record.specs.declared.Record.{Record}
 use Rattle.record.specs.laws.Demand3proof.{demand-3}
 use Rattle.rounding.specs.Rounding.{rnd}
 use Rattle.run.specs.Calls.{callsOf, rounds}
-use Rattle.scatter.specs.Table.{S, tableFrom, tableOf}
+use Rattle.scatter.specs.Table.{S, tableFromUnder, tableUnder}
+use Rattle.limits.specs.Limits.{entryLimit}
 use Rattle.scatter.specs.laws.Entries.{entries-at, table-entries}
 use Rattle.text.specs.Line.{numberLine, wordLine}
 use Rattle.text.specs.laws.Lines.{lines-same}
@@ -58,7 +59,7 @@ record Has (n : ℕ) (A : Matrix) (g : Ledger) : Type 0 where
 
 module _ (n : ℕ) (A : Matrix) where
   asked-has : (t : ℕ) (g : Ledger) → Has n A g → Has n A (ledgerStep g (loosePair t))
-  unfolding ledgerStep book.accepted
+  unfolding ledgerStepUnder book.accepted
   asked-has t g h = by-refusal (eqb (refusalOf (sizeOf g) (turnsOf g) (loosePair t)) 0)
     where
       by-refusal : (b : Bool) → Has n A (cond b g g)
@@ -66,7 +67,7 @@ module _ (n : ℕ) (A : Matrix) where
       by-refusal false = h
 
   swept-has : (g : Ledger) → Has n A g → Has n A (ledgerStep g sweep)
-  unfolding ledgerStep book.accepted
+  unfolding ledgerStepUnder book.accepted
   swept-has g h = by-refusal (eqb (refusalOf (sizeOf g) (turnsOf g) sweep) 0)
     where
       swept : Has n A (book.accepted g sweep)
@@ -84,13 +85,13 @@ module _ (n : ℕ) (A : Matrix) where
       by-refusal false = h
 
   rounds-have : (t sweeps : ℕ) (g : Ledger) → Has n A g → Has n A (ledgerFrom g (rounds t sweeps))
-  unfolding rounds ledgerFrom
+  unfolding rounds ledgerFromUnder
   rounds-have t zero g h = asked-has t g h
   rounds-have t (suc sweeps) g h = rounds-have t sweeps _ (swept-has _ (asked-has t g h))
 
 run-has : (n : ℕ) (numbers : List ℤ) (t sweeps : ℕ) → refusalOf 0 0 (load n numbers) ≡ 0 →
     Has n (matrixOf n numbers) (ledger (callsOf n numbers t sweeps))
-unfolding ledger callsOf ledgerFrom ledgerStep sizeOf turnsOf book.accepted book.loadedState
+unfolding ledger callsOf ledgerFromUnder ledgerStepUnder sizeOf turnsOf book.accepted book.loadedState
 run-has n numbers t sweeps e = rounds-have n (matrixOf n numbers) t sweeps (ledgerStep empty (load n numbers)) first
   where
     first : Has n (matrixOf n numbers) (ledgerStep empty (load n numbers))
@@ -139,8 +140,8 @@ module _ (j : Job) (p : Proper j) where
   state-sound = rw (has .is) at (sound calls)
 
   table-is : Same (j .n) (state .A) (λ i k. rnd (S (samplesOf j) i k) (2 ^ tableFor j .e))
-  unfolding tableFor tableOf tableFrom
-  table-is i k h g = rw (has .given, table-entries (j .n) (samplesOf j)) (entries-at (j .n) (samplesOf j) i k h g)
+  unfolding tableFor tableUnder tableFromUnder
+  table-is i k h g = rw (has .given, table-entries (j .n) (samplesOf j) entryLimit) (entries-at (j .n) (samplesOf j) entryLimit i k h g)
 
   within : (i : ℕ) → i < j .n → i < last .n
   within i l = rw (run-channels j p) l

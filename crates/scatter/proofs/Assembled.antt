@@ -10,12 +10,14 @@ use Rattle.integer.specs.Padded.{padded}
 use Rattle.integer.specs.Tabulate.{tabulate}
 use Rattle.integer.specs.laws.Padded.{length-padded, padded-at}
 use Rattle.integer.specs.laws.Tabulate.{length-tabulate, getD-tabulate}
+use Rattle.limits.specs.Limits.{entryLimit}
 use Rattle.limits.specs.laws.Channels.{places}
+use Rattle.limits.specs.laws.Values.{former-below, some-entry}
 use Rattle.rounding.specs.Rounding.{rnd}
 use Rattle.sums.specs.declared.Sums.{Sums}
 use Rattle.sums.specs.inner.Ranges.{Bounded}
 use Rattle.scatter.specs.declared.table.Table.{Table}
-use Rattle.scatter.specs.Table.{largest, shift, entries, tableFrom}
+use Rattle.scatter.specs.Table.{largest, shift, entries, tableFrom, tableFromUnder}
 use Rattle.scatter.specs.inner.BySums.{scatterBySums}
 use Rattle.scatter.specs.inner.Ranges.{Roundable, ZeroFrom}
 use Rattle.scatter.specs.inner.Shift.{LeastShift}
@@ -29,7 +31,7 @@ rounded-all : (us : List ℤ) → length us ≤ 64 →
 rounded-all us h =
     ext-getD (pos 0) _ _ (length-tabulate 64 _ ∙ sym (length-padded 64 (pos 0) (entries us) (rw length-entries h)))
     (λ p b. getD-tabulate 64 _ p (pos 0) (rw length-tabulate at b)
-    ∙ ap (λ u. rnd u (2 ^ shift us)) (padded-at 64 (pos 0) us p) ∙ sym (padded-at 64 (pos 0) (entries us) p ∙ entry-at us p))
+    ∙ ap (λ u. rnd u (2 ^ shift us)) (padded-at 64 (pos 0) us p) ∙ sym (padded-at 64 (pos 0) (entries us) p ∙ entry-at entryLimit us p))
 
 module _ (n : ℕ) (t : Sums) (h : n ≤ 8) (b : Bounded t) {s : List ℤ} (is : s ≡ padded 64 (pos 0) (scatterBySums n t)) where
   fits : length (scatterBySums n t) ≤ 64
@@ -45,14 +47,14 @@ module _ (n : ℕ) (t : Sums) (h : n ≤ 8) (b : Bounded t) {s : List ℤ} (is :
     pub most-small : m < 2 ^ 62
     most-small = omega (arith, most, largest-least s (2 ^ 62 - 1) (λ p. omega (arith, all-small .small p)))
 
-    module _ {e : ℕ} (found : LeastShift m e) where
+    module _ {e : ℕ} (found : LeastShift entryLimit m e) where
       pub shift-below : e < 62
-      shift-below = shift-small m e found most-small
+      shift-below = omega (arith, shift-small former-below m e found most-small)
 
       the-shift : e ≡ shift (scatterBySums n t)
-      the-shift = shift-is (scatterBySums n t) e (rw (most, is, largest-padded) at found)
+      the-shift = shift-is some-entry (scatterBySums n t) e (rw (most, is, largest-padded) at found)
 
       pub assembled : (rs : List ℤ) → rs ≡ tabulate 64 (λ p. rnd (getD s p (pos 0)) (2 ^ e)) →
           _≡_ {A = Table} (record { e = e; entries = rs; scatter = s }) (tableFrom (scatterBySums n t))
-      unfolding tableFrom
+      unfolding tableFromUnder
       assembled rs g = rw (g, the-shift, is, rounded-all (scatterBySums n t) fits)

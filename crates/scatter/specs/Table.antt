@@ -26,22 +26,37 @@ largest [] = 0
 largest (u ∷ us) = max (natAbs u) (largest us)
 
 -- The smallest shift, from e on, with m ≤ limit × 2^e: `enough` says whether that is so at e, and at most `tries` more are tried
-unfoldable pub smallestShift : ℕ → Bool → ℕ → ℕ → ℕ
-smallestShift zero enough m e = e
-smallestShift (suc tries) true m e = e
-smallestShift (suc tries) false m e = smallestShift tries (leb m (entryLimit * 2 ^ suc e)) m (suc e)
+unfoldable pub smallestShift : ℕ → ℕ → Bool → ℕ → ℕ → ℕ
+smallestShift limit zero enough m e = e
+smallestShift limit (suc tries) true m e = e
+smallestShift limit (suc tries) false m e = smallestShift limit tries (leb m (limit * 2 ^ suc e)) m (suc e)
 
--- 'The shift e is the smallest e ≥ 0 with every |S_ij| ≤ 1,048,576 × 2^e.' As many tries as the greatest |S_ij| says are enough, since m ≤ 2^m.
-unfoldable pub shift : List ℤ → ℕ
-shift us = smallestShift (largest us) (leb (largest us) (entryLimit * 2 ^ 0)) (largest us) 0
+-- 'The shift e is the smallest e ≥ 0 with every |S_ij| ≤ 1,048,576 × 2^e', with any limit for that one. As many tries as the greatest |S_ij| says
+-- are enough, since m ≤ 2^m.
+unfoldable pub shiftUnder : ℕ → List ℤ → ℕ
+shiftUnder limit us = smallestShift limit (largest us) (leb (largest us) (limit * 2 ^ 0)) (largest us) 0
 
 -- 'The loaded entry is rnd(S_ij / 2^e).'
-unfoldable pub entries : List ℤ → List ℤ
-entries us = map (λ u. rnd u (2 ^ shift us)) us
+unfoldable pub entriesUnder : ℕ → List ℤ → List ℤ
+entriesUnder limit us = map (λ u. rnd u (2 ^ shiftUnder limit us)) us
 
 -- The table of every S_ij: e, the entries and the S_ij, in 64 places each
-unfoldable pub tableFrom : List ℤ → Table
-tableFrom us = record { e = shift us; entries = padded 64 (pos 0) (entries us); scatter = padded 64 (pos 0) us }
+unfoldable pub tableFromUnder : ℕ → List ℤ → Table
+tableFromUnder limit us =
+    record { e = shiftUnder limit us; entries = padded 64 (pos 0) (entriesUnder limit us); scatter = padded 64 (pos 0) us }
 
-unfoldable pub tableOf : ℕ → List Sample → Table
-tableOf n ss = tableFrom (scatter n ss)
+unfoldable pub tableUnder : ℕ → ℕ → List Sample → Table
+tableUnder limit n ss = tableFromUnder limit (scatter n ss)
+
+-- Under the limit of document 02's W9
+abbrev pub shift : List ℤ → ℕ
+shift = shiftUnder entryLimit
+
+abbrev pub entries : List ℤ → List ℤ
+entries = entriesUnder entryLimit
+
+abbrev pub tableFrom : List ℤ → Table
+tableFrom = tableFromUnder entryLimit
+
+abbrev pub tableOf : ℕ → List Sample → Table
+tableOf = tableUnder entryLimit

@@ -6,6 +6,7 @@ ghost use lib.IntN.{pos, _-ℤ_};
 ghost use lib.ListN.{getD};
 ghost use Rattle.integer.specs.Padded.{padded};
 ghost use Rattle.integer.specs.Tabulate.{tabulate};
+ghost use Rattle.limits.specs.Limits.{entryLimit};
 ghost use Rattle.rounding.specs.Rounding.{rnd};
 ghost use Rattle.sums.specs.Samples.{samples};
 ghost use Rattle.sums.specs.Ranges.{Readings};
@@ -79,7 +80,7 @@ fn largest_of(s: &[i64; 64], size: usize) -> u64
 // The shift for the greatest |S_ij|.
 fn shift_of(m: u64) -> u32
     requires { ⌜ m < 2 ^ 62 ⌝ }
-    ensures { λ r. ⌜ LeastShift m r ⌝ }
+    ensures { λ r. ⌜ LeastShift entryLimit m r ⌝ }
 {
     let mut e = 0;
     let mut bound = limits::ENTRY_LIMIT;

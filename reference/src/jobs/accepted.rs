@@ -30,7 +30,7 @@ fn cards() -> Vec<Stored> {
             "P 2 16 0\nS 1 0 0\nS 1 3 0\nS 1 0 1\nS 1 3 1\nE 4\n",
         ),
         written(
-            "card 5: block 0, 1, 1048576",
+            "card 5: block 0, 2, 2097152",
             "P 2 16 0\nS 64 1 16384\nS 1 63 0\nE 2\n",
         ),
         written(
@@ -62,12 +62,12 @@ fn cards() -> Vec<Stored> {
             "P 8 16 0\nS 1 0 0 0 0 0 0 0 0\nS 100 0 0 0 0 0 0 0 0\nE 2\n",
         ),
         written(
-            "card 10: S is 1048576",
-            "P 2 2 0\nS 1 1024 1\nS 1 0 0\nE 2\n",
+            "card 10: S is 2097152",
+            "P 2 2 0\nS 1 1024 1\nS 1 0 0\nS 1 0 0\nE 3\n",
         ),
         written(
-            "card 10: S is 1048577",
-            "P 2 2 0\nS 1 303 1\nS 1 61 2\nS 1 429 0\nS 1 0 0\nS 1 0 0\nS 1 0 1\nE 6\n",
+            "card 10: S is 2097153",
+            "P 2 2 0\nS 1 517 1\nS 1 511 2\nS 1 403 0\nS 1 0 0\nS 1 0 0\nS 1 0 1\nE 6\n",
         ),
         written(
             "card 11: S is 42948362250000",

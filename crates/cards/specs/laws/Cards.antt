@@ -7,7 +7,7 @@ use Rattle.integer.specs.Matrix.{matrixOf, rowMajor}
 use Rattle.integer.specs.Padded.{padded}
 use Rattle.integer.specs.Tabulate.{tabulate}
 use Rattle.rounding.specs.Rounding.{rnd}
-use Rattle.scatter.specs.Table.{S, scatter, largest, smallestShift, shift, entries, tableFrom, tableOf}
+use Rattle.scatter.specs.Table.{S, scatter, largest, smallestShift, shiftUnder, entriesUnder, tableFromUnder, tableUnder}
 use Rattle.sums.specs.Samples.{total, z}
 use Rattle.turn.specs.InUse.{inUse}
 use Rattle.turn.specs.Rotation.{rotationOf, first, second}
@@ -21,8 +21,8 @@ use Rattle.cards.specs.laws.Runs.{still}
 
 pub cards : BenchCards
 unfolding threshold roundedUp u w rnd levelOf signOf choose smallestFit fits minusSign negative turnMatrix array eight at turned newp newq newpp newpq
-    newqq hpp hpq hqp hqq atPair rotationOf signed first second inUse matrixOf tabulate rowMajor total z S scatter largest smallestShift shift
-    entries padded tableFrom tableOf
+    newqq hpp hpq hqp hqq atPair rotationOf signed first second inUse matrixOf tabulate rowMajor total z S scatter largest smallestShift shiftUnder
+    entriesUnder padded tableFromUnder tableUnder
 cards =
     record {
       card1 = (refl, refl, refl);

@@ -17,7 +17,7 @@ use Rattle.integer.specs.laws.Tabulate.{getD-repeated}
 use Rattle.ledger.specs.laws.Accepted.{Loads}
 use Rattle.ledger.specs.Call.{load, loosePair}
 use Rattle.ledger.specs.Refusal.{refusalOf}
-use Rattle.limits.specs.Limits.{toleranceLimit, units}
+use Rattle.limits.specs.Limits.{entryLimit, toleranceLimit, units}
 use Rattle.limits.specs.laws.Channels.{places}
 use Rattle.record.specs.laws.Fill.{kept-flatOf}
 use Rattle.record.specs.Flat.{keptEntry}
@@ -26,7 +26,7 @@ use Rattle.ledger.specs.Pairs.{cyclic}
 use Rattle.rounding.specs.laws.Nearest.{rnd-zero}
 use Rattle.record.specs.laws.Accepted.{after-accepted, load-taken, loose-pair-taken}
 use Rattle.sums.specs.Samples.{Sample, z, total}
-use Rattle.scatter.specs.Table.{S, scatter, smallestShift, shift, entries, tableFrom, tableOf}
+use Rattle.scatter.specs.Table.{S, scatter, smallestShift, shift, shiftUnder, entries, tableFrom, tableFromUnder, tableOf, tableUnder}
 use Rattle.scatter.specs.laws.Entries.{entry-at, largest-zeros, length-entries, length-scatter, table-entries}
 use Rattle.turn.specs.laws.InUse.{inUse-inside}
 use Rattle.record.specs.Run.{noPair, stop}
@@ -75,11 +75,11 @@ equal-samples n k s =
 
 zero-entries : (n : ℕ) → entries (zeros n) ≡ zeros n
 zero-entries n =
-    zeros-only (n * n) _ (length-entries (zeros n) ∙ length-replicate (n * n) (pos 0))
-    (λ p. entry-at (zeros n) p ∙ rw (getD-repeated (n * n) p (pos 0)) (rnd-zero (2 ^ shift (zeros n)) (pow-pos (shift (zeros n)))))
+    zeros-only (n * n) _ (length-entries entryLimit (zeros n) ∙ length-replicate (n * n) (pos 0))
+    (λ p. entry-at entryLimit (zeros n) p ∙ rw (getD-repeated (n * n) p (pos 0)) (rnd-zero (2 ^ shift (zeros n)) (pow-pos (shift (zeros n)))))
 
 no-shift : (n : ℕ) → shift (zeros n) ≡ 0
-unfolding shift smallestShift
+unfolding shiftUnder smallestShift
 no-shift n = rw (largest-zeros (n * n))
 
 padded-zeros : (n : ℕ) → n ≤ 8 → padded 64 (pos 0) (zeros n) ≡ replicate 64 (pos 0)
@@ -88,7 +88,7 @@ padded-zeros n h =
     (λ p. padded-at 64 (pos 0) (zeros n) p ∙ getD-repeated (n * n) p (pos 0))
 
 zero-table : (n k : ℕ) (s : Sample) → n ≤ 8 → tableOf n (replicate k s) ≡ zeroTable
-unfolding tableOf tableFrom
+unfolding tableUnder tableFromUnder
 zero-table n k s h =
     ap tableFrom (equal-samples n k s)
     ∙ (λ i. record {
@@ -136,5 +136,5 @@ pub equal-settled : (n k limit t : ℕ) (s : Sample) → 2 ≤ n → n ≤ 8 →
     (tableOf n (replicate k s) ≡ zeroTable) × SettledAtOnce (runOf n (take (n * n) (tableOf n (replicate k s) .entries)) limit t)
 equal-settled n k limit t s low high few = (
   zero-table n k s high,
-  rw (table-entries n (replicate k s), equal-samples n k s, zero-entries n, zeros-settled n t low high few limit) (refl, refl),
+  rw (table-entries n (replicate k s) entryLimit, equal-samples n k s, zero-entries n, zeros-settled n t low high few limit) (refl, refl),
 )

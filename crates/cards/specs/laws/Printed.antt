@@ -15,7 +15,7 @@ use Rattle.report.specs.AxisNumbers.{axisValues}
 use Rattle.report.specs.Report.{headOf, runFor, lineR, lineA, reportOf}
 use Rattle.report.specs.Text.{outcomeWord}
 use Rattle.rounding.specs.Rounding.{rnd}
-use Rattle.scatter.specs.Table.{S, scatter, largest, smallestShift, shift, entries, tableFrom, tableOf}
+use Rattle.scatter.specs.Table.{S, scatter, largest, smallestShift, shiftUnder, entriesUnder, tableFromUnder, tableUnder}
 use Rattle.sums.specs.Samples.{samples, sampleAt, total, z}
 use Rattle.text.specs.Ascii.{ascii}
 use Rattle.text.specs.Decimal.{digits, digitsBy, number}
@@ -36,7 +36,7 @@ unfolding ascii jobOf split onto allWithin leadingZero valueFrom numberOf before
 read = refl
 
 table : (tableFor job .e ≡ 0) × (take 4 (tableFor job .entries) ≡ twoByTwo (pos 50) (pos 25) (pos 50))
-unfolding tableFor samplesOf tableOf tableFrom padded tabulate rowMajor samples sampleAt total z S scatter largest smallestShift shift entries rnd
+unfolding tableFor samplesOf tableUnder tableFromUnder padded tabulate rowMajor samples sampleAt total z S scatter largest smallestShift shiftUnder entriesUnder rnd
 table = (refl, refl)
 
 ran : runFor job ≡ threeRun

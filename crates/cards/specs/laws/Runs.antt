@@ -14,10 +14,10 @@ use Rattle.integer.specs.Tabulate.{tabulate}
 use Rattle.ledger.specs.Axis.{errorOf}
 use Rattle.ledger.specs.Call.{axis, load, loosePair, sweep}
 use Rattle.ledger.specs.Pairs.{cyclic, row, rowsFrom}
-use Rattle.ledger.specs.Refusal.{equal, refusalOf, symmetric, entriesWithin}
+use Rattle.ledger.specs.Refusal.{equal, refusalUnder, symmetric, entriesWithin}
 use Rattle.record.specs.Flat.{entriesOf, flatOf, keptEntry, rowsOf}
 use Rattle.record.specs.Loose.{looseOf}
-use Rattle.record.specs.Record.{acceptedOf, afterOf, answerOf, axisOf, fresh, loadedRecord, sweptOf, valueOf, workOf, workedOf}
+use Rattle.record.specs.Record.{acceptedOf, afterOf, afterOfUnder, answerOf, axisOf, fresh, loadedRecord, sweptOf, valueOf, workOf, workedOf}
 use Rattle.record.specs.Work.{chosen, workBy, workPair, workPairs}
 use Rattle.record.specs.declared.Record.{Record}
 use Rattle.record.specs.declared.query.Answer.the-variants.{Axis}
@@ -40,8 +40,8 @@ stuck = afterOf fresh (load 2 (twoByTwo (pos 0) (pos 1) (pos 1_048_576)))
 -- its pair is loose before and after a sweep, which makes no turn
 stays : (noPair (answerOf stuck (loosePair 0)) ≡ false) × (noTurn (answerOf stuck sweep) ≡ true) ×
     (noPair (answerOf (afterOf stuck sweep) (loosePair 0)) ≡ false)
-unfolding noPair noTurn answerOf valueOf afterOf acceptedOf fresh loadedRecord inUse sweptOf workOf workedOf looseOf tabulate keptEntry entriesOf
-    rowsOf flatOf chosen workBy workPair workPairs cyclic rowsFrom row matrixOf equal symmetric entriesWithin refusalOf diagonal choose smallestFit
+unfolding noPair noTurn answerOf valueOf afterOfUnder acceptedOf fresh loadedRecord inUse sweptOf workOf workedOf looseOf tabulate keptEntry entriesOf
+    rowsOf flatOf chosen workBy workPair workPairs cyclic rowsFrom row matrixOf equal symmetric entriesWithin refusalUnder diagonal choose smallestFit
     fits threshold roundedUp u w minusSign negative eight at
 stays = (refl, refl, refl)
 
@@ -67,8 +67,8 @@ pub record Spends : Type 0 where
   pub row-2 : axisOf (threeRun .last) 2 ≡ pos 858993459 ∷ pos 644245094 ∷ pos 0 ∷ pos 0 ∷ pos 0 ∷ pos 0 ∷ pos 0 ∷ pos 0 ∷ []
 
 pub spends : Spends
-unfolding runOf runFrom tried noPair noTurn answerOf valueOf afterOf acceptedOf axisOf fresh loadedRecord inUse sweptOf workOf workedOf looseOf
+unfolding runOf runFrom tried noPair noTurn answerOf valueOf afterOfUnder acceptedOf axisOf fresh loadedRecord inUse sweptOf workOf workedOf looseOf
     tabulate keptEntry entriesOf rowsOf flatOf chosen workBy workPair workPairs errorOf cyclic rowsFrom row matrixOf equal symmetric entriesWithin
-    refusalOf diagonal sumℕ choose smallestFit fits threshold roundedUp u w minusSign negative rotationOf signed first second turnMatrix turnAxes
+    refusalUnder diagonal sumℕ choose smallestFit fits threshold roundedUp u w minusSign negative rotationOf signed first second turnMatrix turnAxes
     turnedAxes array eight at turned newp newq newpp newpq newqq hpp hpq hqp hqq atPair rnd
 spends = record { outcome = refl; sweeps = refl; turns = refl; axis-1 = refl; row-1 = refl; axis-2 = refl; row-2 = refl }

@@ -11,6 +11,7 @@ use lib.Seq.{length-take-le}
 use mir.Facts.{and-yes}
 use Rattle.ledger.specs.laws.Accepted.{passed}
 use Rattle.limits.specs.laws.Channels.{places}
+use Rattle.limits.specs.laws.Values.{some-entry}
 use Rattle.scatter.specs.laws.Table.{table-is}
 use Rattle.sums.specs.Samples.{Sample, samples}
 use Rattle.scatter.specs.Table.{tableOf}
@@ -41,10 +42,10 @@ readable n dilutions counts size e =
 
 module _ (n : ℕ) (h : n ≤ 8) (ss : List Sample) where
   pub length-scatter : length (tableOf n ss .scatter) ≡ 64
-  length-scatter = table-is n h ss .scatter .size
+  length-scatter = table-is n h some-entry ss .scatter .size
 
   pub length-entries : length (tableOf n ss .entries) ≡ 64
-  length-entries = table-is n h ss .entries .size
+  length-entries = table-is n h some-entry ss .entries .size
 
   -- the first n×n of them
   pub scatter-used : length (take (n * n) (tableOf n ss .scatter)) ≡ n * n

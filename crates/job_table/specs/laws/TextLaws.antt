@@ -13,7 +13,7 @@ use Rattle.job.specs.declared.Job as arrays
 use Rattle.job_table.specs.Held.{Held, jobIn, samplesOf, tableFor}
 use Rattle.job_table.specs.laws.Laws.{channels-held, samples-held}
 use Rattle.scatter.specs.laws.Entries.{scatter-at}
-use Rattle.scatter.specs.Table.{scatter, tableFrom, tableOf}
+use Rattle.scatter.specs.Table.{scatter, tableFromUnder, tableUnder}
 use Rattle.scatter.specs.declared.table.Table.{Table}
 use Rattle.text.specs.Line.{numberLine}
 use Rattle.text.specs.laws.Lines.{lines-same}
@@ -27,7 +27,7 @@ unfoldable pub tableHead : Job → List ℤ
 tableHead j = map pos (j .n ∷ length (j .dilutions) ∷ tableFor j .e ∷ [])
 
 pub text-of-table : (j : Job) → j .n ≤ 8 → textOfRows (tableHead j) (j .n) (tableRows (j .n) (tableFor j .scatter)) ≡ tableText j
-unfolding textOfRows tableHead tableFor tableOf tableFrom tableText lineT matrixOf
+unfolding textOfRows tableHead tableFor tableUnder tableFromUnder tableText lineT matrixOf
 text-of-table j h =
     ap (λ lines. lineT (j .n) (length (j .dilutions)) (tableFor j .e) ++ lines)
     (lines-same (j .n) _ _

@@ -1,5 +1,5 @@
 -- What it says of a call's arguments that no refusal applies to it.
-use mathlib.Core.Path.{_≡_, ap}
+use mathlib.Core.Path.{_≡_, refl, ap}
 use mathlib.Core.Bool.{Bool, true, false, _&&_}
 use mathlib.Core.List.{List, [], _∷_}
 use Prim.Native.Nat.{ℕ, zero, suc, _+_, _-_, _*_, _/_, _<_, _≤_}
@@ -14,8 +14,8 @@ use Rattle.integer.specs.laws.Range.{below, from-each}
 use Rattle.limits.specs.Limits.{entryLimit, turnLimit}
 use Rattle.integer.specs.Matrix.{Matrix, matrixOf}
 use Rattle.integer.specs.Matrix.{Symmetric}
-use Rattle.ledger.specs.Call.{load, turn, sweep, axis}
-use Rattle.ledger.specs.Refusal.{equal, symmetric, entriesWithin, unless, refusalOf}
+use Rattle.ledger.specs.Call.{Call, load, turn, sweep, loosePair, axis}
+use Rattle.ledger.specs.Refusal.{equal, symmetric, entriesWithin, unless, refusalOf, refusalUnder}
 
 -- 'Load: 5, 6, 8, 7': none of them
 pub record Loads (n : ℕ) (numbers : List ℤ) : Type 0 where
@@ -61,31 +61,62 @@ pub symmetric-of : (n : ℕ) (a : Matrix) → Symmetric n a → T (symmetric n a
 unfolding symmetric
 symmetric-of n a s = from-each _ n (λ i h. from-each _ n (λ j k. equal-of (a i j) (a j i) (s i j h k)))
 
-pub within-small : (numbers : List ℤ) → T (entriesWithin numbers) → (i : ℕ) → natAbs (getD numbers i (pos 0)) ≤ entryLimit
-unfolding entriesWithin
-within-small [] t i = omega arith
-within-small (x ∷ xs) t zero = leb→le (natAbs x) entryLimit (and-yes (leb (natAbs x) entryLimit) (entriesWithin xs) t .0)
-within-small (x ∷ xs) t (suc i) = within-small xs (and-yes (leb (natAbs x) entryLimit) (entriesWithin xs) t .1) i
+module _ (limit : ℕ) where
+  pub within-small : (numbers : List ℤ) → T (entriesWithin limit numbers) → (i : ℕ) → natAbs (getD numbers i (pos 0)) ≤ limit
+  unfolding entriesWithin
+  within-small [] t i = omega arith
+  within-small (x ∷ xs) t zero = leb→le (natAbs x) limit (and-yes (leb (natAbs x) limit) (entriesWithin limit xs) t .0)
+  within-small (x ∷ xs) t (suc i) = within-small xs (and-yes (leb (natAbs x) limit) (entriesWithin limit xs) t .1) i
+
+  pub small-within : (numbers : List ℤ) → ((i : ℕ) → natAbs (getD numbers i (pos 0)) ≤ limit) → entriesWithin limit numbers ≡ true
+  unfolding entriesWithin
+  small-within [] h = refl
+  small-within (x ∷ xs) h = rw (le-leb (natAbs x) limit (h 0), small-within xs (λ i. h (suc i)))
+
+-- a call that is not refused under a limit is not refused under a larger one
+module _ (limit larger : ℕ) (h : limit ≤ larger) where
+  still-within : (numbers : List ℤ) → T (entriesWithin limit numbers) → entriesWithin larger numbers ≡ true
+  still-within numbers t = small-within larger numbers (λ i. omega (arith, h, within-small limit numbers t i))
+
+  later-only : (test : Bool) (number later later′ : ℕ) → (later ≡ 0 → later′ ≡ 0) → unless test number later ≡ 0 → unless test number later′ ≡ 0
+  later-only true number later later′ f e = f e
+  later-only false number later later′ f e = e
+
+  entries-only : (numbers : List ℤ) (later : ℕ) → unless (entriesWithin limit numbers) 8 later ≡ 0 →
+      unless (entriesWithin larger numbers) 8 later ≡ 0
+  entries-only numbers later e =
+      let entries = passed (entriesWithin limit numbers) 8 later e (omega arith) in
+      rw (still-within numbers (entries .0)) (entries .1)
+
+  pub accepted-under : (n m : ℕ) (call : Call) → refusalUnder limit n m call ≡ 0 → refusalUnder larger n m call ≡ 0
+  unfolding refusalUnder
+  accepted-under n m (load k numbers) e =
+      later-only (leb 2 k && leb k 8) 5 _ _
+      (later-only (eqb (length numbers) (k * k)) 6 _ _ (entries-only numbers (unless (symmetric k (matrixOf k numbers)) 7 0))) e
+  accepted-under n m (turn p q) e = e
+  accepted-under n m sweep e = e
+  accepted-under n m (loosePair t) e = e
+  accepted-under n m (axis i) e = e
 
 -- on any state: a load does not depend on it
 pub load-accepted : (k m n : ℕ) (numbers : List ℤ) → refusalOf k m (load n numbers) ≡ 0 → Loads n numbers
-unfolding refusalOf
+unfolding refusalUnder
 load-accepted k m n numbers e =
     let size = passed (leb 2 n && leb n 8) 5 _ e (omega arith) in
     let count = passed (eqb (length numbers) (n * n)) 6 _ (size .1) (omega arith) in
-    let entries = passed (entriesWithin numbers) 8 _ (count .1) (omega arith) in
+    let entries = passed (entriesWithin entryLimit numbers) 8 _ (count .1) (omega arith) in
     let mirrors = passed (symmetric n (matrixOf n numbers)) 7 _ (entries .1) (omega arith) in
     record {
       low = leb→le 2 n (and-yes (leb 2 n) (leb n 8) (size .0) .0);
       high = leb→le n 8 (and-yes (leb 2 n) (leb n 8) (size .0) .1);
       count = eqb→eq (length numbers) (n * n) (count .0);
-      small = within-small numbers (entries .0);
+      small = within-small entryLimit numbers (entries .0);
       same = symmetric-same n (matrixOf n numbers) (mirrors .0);
     }
 
 -- a turn, on a state with n channels and m turns made
 pub turn-accepted : (n m p q : ℕ) → refusalOf n m (turn p q) ≡ 0 → TurnGiven n m p q
-unfolding refusalOf
+unfolding refusalUnder
 turn-accepted n m p q e =
     let held = passed (ltb 0 n) 10 _ e (omega arith) in
     let places = passed (leb 1 p && (ltb p q && leb q n)) 9 _ (held .1) (omega arith) in
@@ -101,7 +132,7 @@ turn-accepted n m p q e =
 
 -- 'sweep with m + n(n−1)/2 > 448': not so
 pub sweep-accepted : (n m : ℕ) → refusalOf n m sweep ≡ 0 → m + n * (n - 1) / 2 ≤ turnLimit
-unfolding refusalOf
+unfolding refusalUnder
 sweep-accepted n m e =
     let held = passed (ltb 0 n) 10 _ e (omega arith) in
     leb→le (m + n * (n - 1) / 2) turnLimit (passed (leb (m + n * (n - 1) / 2) turnLimit) 11 _ (held .1) (omega arith) .0)
@@ -112,12 +143,12 @@ pub record Names (n i : ℕ) : Type 0 where
   pub last : i ≤ n
 
 pub axis-accepted : (n m i : ℕ) → refusalOf n m (axis i) ≡ 0 → Names n i
-unfolding refusalOf
+unfolding refusalUnder
 axis-accepted n m i e =
     let held = passed (ltb 0 n) 10 _ e (omega arith) in
     let place = and-yes (leb 1 i) (leb i n) (passed (leb 1 i && leb i n) 9 _ (held .1) (omega arith) .0) in
     record { first = leb→le 1 i (place .0); last = leb→le i n (place .1) }
 
 pub axis-taken : (n m i : ℕ) → 1 ≤ i → i ≤ n → refusalOf n m (axis i) ≡ 0
-unfolding refusalOf
+unfolding refusalUnder
 axis-taken n m i k l = rw (lt-ltb 0 n (omega arith), le-leb 1 i k, le-leb i n l)

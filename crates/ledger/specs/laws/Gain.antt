@@ -15,7 +15,7 @@ use Rattle.ledger.specs.laws.Cyclic.{Each, cyclic-pairs}
 use Rattle.ledger.specs.Pairs.{Ordered}
 use Rattle.ledger.specs.Gain.{PairGains, Turning, by-turn, by-sweep, StateGains, Gains-always}
 use Rattle.ledger.specs.laws.Invariant.{turnPair-continues, SoundLedger, sound}
-use Rattle.ledger.specs.Ledger.{State, loaded, take, turnPair, turnPairs, accepted, sizeOf, turnsOf, ledgerStep}
+use Rattle.ledger.specs.Ledger.{State, loaded, take, turnPair, turnPairs, accepted, sizeOf, turnsOf, ledgerStep, ledgerStepUnder}
 use Rattle.ledger.specs.Pairs.{Pair}
 use Rattle.ledger.specs.Refusal.{refusalOf}
 
@@ -52,7 +52,7 @@ turning-each s call pairs by-sweep e = cyclic-pairs (s .n)
 
 turning-done : (s : State) (call : Call) (pairs : List Pair) → Turning (s .n) call pairs → refusalOf (s .n) (s .m) call ≡ 0 →
     ledgerStep (loaded s) call ≡ loaded (turnPairs s pairs)
-unfolding ledgerStep accepted sizeOf turnsOf turnPairs
+unfolding ledgerStepUnder accepted sizeOf turnsOf turnPairs
 turning-done s call pairs (by-turn p q) e = rw e
 turning-done s call pairs by-sweep e = rw e
 

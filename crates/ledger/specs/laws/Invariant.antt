@@ -3,22 +3,24 @@ use mathlib.Core.Path.{_≡_, refl, _∙_}
 use mathlib.Core.Bool.{Bool, true, false, cond}
 use mathlib.Core.List.{List, [], _∷_}
 use Prim.Native.Nat.{ℕ, _+_, _-_, _≤_}
+use native.Mathlib.Nat.{le-refl}
 use native.Mathlib.Omega.{arith}
 use borrow.Author.Tests.{eqb-true}
 use lib.Dec.{eqb}
 use lib.ListN.{length}
-use Rattle.limits.specs.Limits.{turnLimit}
+use Rattle.limits.specs.Limits.{entryLimit, turnLimit}
 use Rattle.choice.specs.Choice.{choose}
 use Rattle.choice.specs.declared.Choice.{Choice}
 use Rattle.choice.specs.declared.Choice.the-variants.{NoTurn, Turn}
-use Rattle.ledger.specs.laws.Accepted.{load-accepted, turn-accepted, sweep-accepted}
+use Rattle.ledger.specs.laws.Accepted.{accepted-under, load-accepted, turn-accepted, sweep-accepted}
 use Rattle.ledger.specs.Call.{Call, load, turn, sweep, loosePair, axis}
 use Rattle.ledger.specs.laws.Cyclic.{Each, cyclic-pairs, cyclic-length}
-use Rattle.ledger.specs.Ledger.{State, Ledger, empty, loaded, take, turnPair, turnPairs, accepted, sizeOf, turnsOf, ledgerStep, ledgerFrom}
+use Rattle.ledger.specs.Ledger.{State, Ledger, empty, loaded, take, turnPair, turnPairs, accepted, sizeOf, turnsOf}
+use Rattle.ledger.specs.Ledger.{ledgerStepUnder, ledgerFromUnder}
 use Rattle.ledger.specs.Ledger.{ledger}
 use Rattle.ledger.specs.laws.Loaded.{sound-load}
 use Rattle.ledger.specs.Pairs.{Pair, cyclic}
-use Rattle.ledger.specs.Refusal.{refusalOf}
+use Rattle.ledger.specs.Refusal.{refusalOf, refusalUnder}
 use Rattle.ledger.specs.laws.Sound.{Sound}
 use Rattle.ledger.specs.laws.Turned.{sound-turn}
 
@@ -74,21 +76,24 @@ sound-accepted (loaded s) sweep h e =
 sound-accepted g (loosePair t) h e = h
 sound-accepted g (axis i) h e = h
 
--- A call that is refused leaves the ledger as it is
-pub sound-step : (g : Ledger) (call : Call) → SoundLedger g → SoundLedger (ledgerStep g call)
-unfolding ledgerStep
-sound-step g call h = cases (eqb (refusalOf (sizeOf g) (turnsOf g) call) 0) refl
-  where
-    cases : (b : Bool) → eqb (refusalOf (sizeOf g) (turnsOf g) call) 0 ≡ b → SoundLedger (cond b (accepted g call) g)
-    cases true e = sound-accepted g call h (eqb-true (refusalOf (sizeOf g) (turnsOf g) call) 0 e)
-    cases false e = h
+-- A call that is refused leaves the ledger as it is. Under any limit up to today's: what it accepts, today's does
+module _ (limit : ℕ) (below : limit ≤ entryLimit) where
+  pub sound-step : (g : Ledger) (call : Call) → SoundLedger g → SoundLedger (ledgerStepUnder limit g call)
+  unfolding ledgerStepUnder
+  sound-step g call h = cases (eqb (refusalUnder limit (sizeOf g) (turnsOf g) call) 0) refl
+    where
+      cases : (b : Bool) → eqb (refusalUnder limit (sizeOf g) (turnsOf g) call) 0 ≡ b → SoundLedger (cond b (accepted g call) g)
+      cases true e =
+          sound-accepted g call h
+          (accepted-under limit entryLimit below _ _ call (eqb-true (refusalUnder limit (sizeOf g) (turnsOf g) call) 0 e))
+      cases false e = h
 
-sound-from : (g : Ledger) (calls : List Call) → SoundLedger g → SoundLedger (ledgerFrom g calls)
-unfolding ledgerFrom
-sound-from g [] h = h
-sound-from g (call ∷ calls) h = sound-from (ledgerStep g call) calls (sound-step g call h)
+  sound-from : (g : Ledger) (calls : List Call) → SoundLedger g → SoundLedger (ledgerFromUnder limit g calls)
+  unfolding ledgerFromUnder
+  sound-from g [] h = h
+  sound-from g (call ∷ calls) h = sound-from (ledgerStepUnder limit g call) calls (sound-step g call h)
 
 -- For every list of calls; nothing is assumed of it
 pub sound : (calls : List Call) → SoundLedger (ledger calls)
 unfolding ledger SoundLedger
-sound calls = sound-from empty calls tt
+sound calls = sound-from entryLimit (le-refl entryLimit) empty calls tt

@@ -7,9 +7,9 @@ use Rattle.integer.specs.Matrix.{matrixOf}
 use Rattle.text.specs.Numeral.{leadingZero, valueFrom}
 use Rattle.text.specs.Parts.{before, onto, split}
 use Rattle.text.specs.Range.{allWithin, within}
-use Rattle.ledger.specs.Refusal.{equal, refusalOf, symmetric}
+use Rattle.ledger.specs.Refusal.{equal, refusalUnder, symmetric}
 use Rattle.ledger.specs.Refusal.{entriesWithin}
-use Rattle.record.specs.Record.{acceptedOf, afterOf, answerOf, counted, fresh, loadedRecord, refusedOf, valueOf}
+use Rattle.record.specs.Record.{acceptedOf, afterOfUnder, answerOf, counted, fresh, loadedRecord, refusedOf, valueOf}
 use Rattle.text.specs.Decimal.{digits, digitsBy}
 use Rattle.call_text.specs.Answers.{answerLine, rowFor, shown, shownAs, toldOf}
 use Rattle.call_text.specs.Calls.{argument, callBy, callOf, callOfFields, callWithin, loadBy, numberLimit, oneBy, sweepBy, turnBy, withNumbers}
@@ -75,7 +75,7 @@ examples :
     × (played false (load-2 (49 ∷ []) ++ one 65 (45 ∷ 49 ∷ []) ++ one 65 past-64-bits) ≡ 76 ∷ 10 ∷ refused 57 49 ++ refused 57 50)
 unfolding played playedFrom lineThen unknownLine split onto callOf callWithin numberLimit callOfFields withNumbers callBy loadBy turnBy sweepBy oneBy
     argument eachNumber before signedOf withMinus withoutMinus unsignedOf standsFor numeral leadingZero valueFrom allWithin within answerLine toldOf
-    shown shownAs rowFor afterOf answerOf acceptedOf loadedRecord valueOf refusedOf counted fresh refusalOf entriesWithin symmetric equal matrixOf
+    shown shownAs rowFor afterOfUnder answerOf acceptedOf loadedRecord valueOf refusedOf counted fresh refusalUnder entriesWithin symmetric equal matrixOf
     line
     further digits digitsBy
 examples = (refl, refl, refl, refl, refl, refl, refl, refl, refl, refl, refl, refl, refl, refl, refl, refl, refl, refl, refl, refl, refl)

@@ -11,29 +11,29 @@ use Rattle.ledger.specs.laws.Accepted.{Loads, symmetric-of}
 use Rattle.ledger.specs.Call.{Call, load, loosePair, sweep}
 use Rattle.limits.specs.laws.Channels.{pairs-twice}
 use Rattle.limits.specs.Limits.{toleranceLimit, turnLimit}
-use Rattle.ledger.specs.Refusal.{refusalOf, symmetric}
+use Rattle.ledger.specs.Refusal.{refusalOf, refusalUnder, symmetric}
 use Rattle.integer.specs.Matrix.{matrixOf}
 use Rattle.record.specs.laws.Loading.{loads-within}
-use Rattle.record.specs.Record.{acceptedOf, afterOf}
+use Rattle.record.specs.Record.{acceptedOf, afterOf, afterOfUnder}
 use Rattle.record.specs.declared.Record.{Record}
 
 -- the record after such a call
 pub after-accepted : (r : Record) (call : Call) → refusalOf (r .n) (r .m) call ≡ 0 → afterOf r call ≡ acceptedOf r call
-unfolding afterOf
+unfolding afterOfUnder
 after-accepted r call e = rw (eq-eqb (refusalOf (r .n) (r .m) call) 0 e)
 
 -- a state with n channels and m turns made
 module _ (n m : ℕ) (h : 1 ≤ n) where
   pub loose-pair-taken : (t : ℕ) → t ≤ toleranceLimit → refusalOf n m (loosePair t) ≡ 0
-  unfolding refusalOf
+  unfolding refusalUnder
   loose-pair-taken t l = rw (lt-ltb 0 n h, le-leb t toleranceLimit l)
 
   pub sweep-taken : m + n * (n - 1) / 2 ≤ turnLimit → refusalOf n m sweep ≡ 0
-  unfolding refusalOf
+  unfolding refusalUnder
   sweep-taken l = rw (lt-ltb 0 n h, le-leb (m + n * (n - 1) / 2) turnLimit l)
 
 pub load-taken : (n m k : ℕ) (numbers : List ℤ) → Loads k numbers → refusalOf n m (load k numbers) ≡ 0
-unfolding refusalOf
+unfolding refusalUnder
 load-taken n m k numbers l =
     rw (
       le-leb 2 k (l .low),

@@ -3,7 +3,7 @@ use mathlib.Core.Path.{_≡_, refl, sym, ap, _∙_}
 use mathlib.Core.Bool.{Bool, true, false, cond, _&&_}
 use mathlib.Core.List.{List}
 use Prim.Native.Nat.{ℕ, zero, suc, _+_, _-_, _*_, _/_, _≤_}
-use native.Mathlib.Nat.{le-trans}
+use native.Mathlib.Nat.{le-refl, le-trans}
 use native.Mathlib.Omega.{arith}
 use lib.Dec.{eqb, ltb}
 use lib.IntN.{ℤ, pos}
@@ -15,12 +15,12 @@ use Rattle.integer.specs.Square.{sq}
 use Rattle.integer.specs.Sum.{sumℕ}
 use Rattle.integer.specs.laws.Sum.{sumℕ-cong}
 use Rattle.integer.specs.laws.Tabulate.{getD-repeated}
-use Rattle.ledger.specs.laws.Accepted.{turn-accepted, sweep-accepted}
+use Rattle.ledger.specs.laws.Accepted.{accepted-under, turn-accepted, sweep-accepted}
 use Rattle.ledger.specs.Call.{Call, load, turn, sweep, loosePair, axis}
 use Rattle.ledger.specs.laws.Cyclic.{cyclic-length, cyclic-pairs}
-use Rattle.limits.specs.Limits.{turnLimit}
+use Rattle.limits.specs.Limits.{entryLimit, turnLimit}
 use Rattle.ledger.specs.Pairs.{Pair, cyclic, rowsFrom}
-use Rattle.ledger.specs.Refusal.{refusalOf}
+use Rattle.ledger.specs.Refusal.{refusalOf, refusalUnder}
 use Rattle.turn.specs.Turn.{at}
 use Rattle.record.specs.KeptWork.{KeptWork}
 use Rattle.turn.specs.InUse.{inUse}
@@ -31,7 +31,7 @@ use Rattle.record.specs.Flat.{entriesOf, flatOf, keptEntry, rowsOf}
 use Rattle.record.specs.Kept.{Kept}
 use Rattle.record.specs.laws.Fill.{length-flat}
 use Rattle.record.specs.laws.Loading.{at-flat, load-kept}
-use Rattle.record.specs.Record.{acceptedOf, afterOf, fresh, refusedOf, sweptOf, turnedOf, workOf, workedOf}
+use Rattle.record.specs.Record.{acceptedOf, afterOf, afterOfUnder, fresh, refusedOf, sweptOf, turnedOf, workOf, workedOf}
 use Rattle.record.specs.declared.Record.{Record}
 
 -- what is 0 outside is itself in use
@@ -124,13 +124,17 @@ accepted-kept r sweep k e = swept-kept r k e
 accepted-kept r (loosePair t) k e = k
 accepted-kept r (axis i) k e = k
 
-pub after-kept : (r : Record) (call : Call) → Kept r → Kept (afterOf r call)
-unfolding afterOf
-after-kept r call k = by-refusal (eqb (refusalOf (r .n) (r .m) call) 0) refl
+-- under any limit up to today's: what it accepts, today's does
+pub after-kept-under : (limit : ℕ) → limit ≤ entryLimit → (r : Record) (call : Call) → Kept r → Kept (afterOfUnder limit r call)
+unfolding afterOfUnder
+after-kept-under limit below r call k = by-refusal (eqb (refusalUnder limit (r .n) (r .m) call) 0) refl
   where
-    by-refusal : (t : Bool) → eqb (refusalOf (r .n) (r .m) call) 0 ≡ t → Kept (cond t (acceptedOf r call) (refusedOf r))
-    by-refusal true e = accepted-kept r call k (eqb-true _ _ e)
+    by-refusal : (t : Bool) → eqb (refusalUnder limit (r .n) (r .m) call) 0 ≡ t → Kept (cond t (acceptedOf r call) (refusedOf r))
+    by-refusal true e = accepted-kept r call k (accepted-under limit entryLimit below _ _ call (eqb-true _ _ e))
     by-refusal false e = refused-kept r k
+
+pub after-kept : (r : Record) (call : Call) → Kept r → Kept (afterOf r call)
+after-kept = after-kept-under entryLimit (le-refl entryLimit)
 
 -- a fresh record
 empty : (i j : ℕ) → at (rowsOf (replicate 64 (pos 0))) i j ≡ pos 0

@@ -8,14 +8,15 @@ use lib.Dec.{eqb}
 use lib.IntN.{ℤ}
 use borrow.Author.Tests.{eqb-true}
 use Rattle.integer.specs.Matrix.{Same}
-use Rattle.ledger.specs.laws.Accepted.{load-accepted, turn-accepted}
+use Rattle.ledger.specs.laws.Accepted.{accepted-under, load-accepted, turn-accepted}
+use Rattle.limits.specs.Limits.{entryLimit}
 use Rattle.ledger.specs.Call.{Call, load, turn, sweep, loosePair, axis}
 use Rattle.ledger.specs.laws.Cyclic.{Each, cyclic-pairs}
 use Rattle.ledger.specs.Pairs.{Ordered}
 use Rattle.ledger.specs.Ledger as L
-use Rattle.ledger.specs.Ledger.{Ledger, State, empty, loaded, accepted, ledgerStep, sizeOf, turnsOf, take, turnPair, turnPairs}
+use Rattle.ledger.specs.Ledger.{Ledger, State, empty, loaded, accepted, ledgerStepUnder, sizeOf, turnsOf, take, turnPair, turnPairs}
 use Rattle.ledger.specs.Pairs.{Pair, cyclic}
-use Rattle.ledger.specs.Refusal.{refusalOf}
+use Rattle.ledger.specs.Refusal.{refusalOf, refusalUnder}
 use Rattle.turn.specs.laws.Congruence.{choose-same, turned-same, turnedAxes-same}
 use Rattle.turn.specs.Rotation.{rotationOf}
 use Rattle.turn.specs.Turn.{at, turnMatrix, turnAxes}
@@ -28,7 +29,7 @@ use Rattle.choice.specs.declared.Choice.the-variants.{NoTurn, Turn}
 use Rattle.record.specs.laws.Fill.{at-rowsOf, kept-flatOf}
 use Rattle.record.specs.Flat.{keptEntry}
 use Rattle.record.specs.Kept.{Kept}
-use Rattle.record.specs.Record.{acceptedOf, afterOf, loadedRecord, refusedOf, sweptOf, turnedOf, workOf, workedOf}
+use Rattle.record.specs.Record.{acceptedOf, afterOfUnder, loadedRecord, refusedOf, sweptOf, turnedOf, workOf, workedOf}
 use Rattle.record.specs.declared.Record.{Record}
 
 -- work and a ledger's state, below n
@@ -101,18 +102,19 @@ from-work r w s b a =
     }
 
 -- a refusal is of n and m alone, and where there is no matrix of n alone
-no-matrix : (m : ℕ) (call : Call) → refusalOf 0 m call ≡ refusalOf 0 0 call
-unfolding refusalOf
-no-matrix m (load n numbers) = refl
-no-matrix m (turn p q) = refl
-no-matrix m sweep = refl
-no-matrix m (loosePair t) = refl
-no-matrix m (axis i) = refl
+no-matrix : (limit m : ℕ) (call : Call) → refusalUnder limit 0 m call ≡ refusalUnder limit 0 0 call
+unfolding refusalUnder
+no-matrix limit m (load n numbers) = refl
+no-matrix limit m (turn p q) = refl
+no-matrix limit m sweep = refl
+no-matrix limit m (loosePair t) = refl
+no-matrix limit m (axis i) = refl
 
-same-refusal : (r : Record) (g : Ledger) (call : Call) → Agrees r g → refusalOf (r .n) (r .m) call ≡ refusalOf (sizeOf g) (turnsOf g) call
+same-refusal : (limit : ℕ) (r : Record) (g : Ledger) (call : Call) → Agrees r g →
+    refusalUnder limit (r .n) (r .m) call ≡ refusalUnder limit (sizeOf g) (turnsOf g) call
 unfolding Agrees sizeOf turnsOf
-same-refusal r empty call a = rw a (no-matrix (r .m) call)
-same-refusal r (loaded s) call a = rw (a .size, a .turns)
+same-refusal limit r empty call a = rw a (no-matrix limit (r .m) call)
+same-refusal limit r (loaded s) call a = rw (a .size, a .turns)
 
 agree-refused : (r : Record) (g : Ledger) → Agrees r g → Agrees (refusedOf r) g
 unfolding Agrees refusedOf
@@ -134,7 +136,7 @@ ten-is-not-zero z = omega arith
 
 agree-accepted : (r : Record) (g : Ledger) (call : Call) → Kept r → Agrees r g → refusalOf (r .n) (r .m) call ≡ 0 →
     Agrees (acceptedOf r call) (accepted g call)
-unfolding Agrees acceptedOf accepted refusalOf turnedOf sweptOf
+unfolding Agrees acceptedOf accepted refusalUnder turnedOf sweptOf
 agree-accepted r g (load n numbers) k a e = agree-loaded r n numbers (load-accepted (r .n) (r .m) n numbers e .high)
 agree-accepted r empty (turn p q) k a e = absurd (ten-is-not-zero (rw a at e))
 agree-accepted r (loaded s) (turn p q) k a e =
@@ -150,11 +152,13 @@ agree-accepted r (loaded s) sweep k a e =
 agree-accepted r g (loosePair t) k a e = a
 agree-accepted r g (axis i) k a e = a
 
-pub agree-step : (r : Record) (g : Ledger) (call : Call) → Kept r → Agrees r g → Agrees (afterOf r call) (ledgerStep g call)
-unfolding afterOf ledgerStep
-agree-step r g call k a = rw (← same-refusal r g call a) (by-refusal (eqb (refusalOf (r .n) (r .m) call) 0) refl)
+-- under any limit up to today's: what it accepts, today's does
+pub agree-step : (limit : ℕ) → limit ≤ entryLimit → (r : Record) (g : Ledger) (call : Call) → Kept r → Agrees r g →
+    Agrees (afterOfUnder limit r call) (ledgerStepUnder limit g call)
+unfolding afterOfUnder ledgerStepUnder
+agree-step limit below r g call k a = rw (← same-refusal limit r g call a) (by-refusal (eqb (refusalUnder limit (r .n) (r .m) call) 0) refl)
   where
-    by-refusal : (t : Bool) → eqb (refusalOf (r .n) (r .m) call) 0 ≡ t →
+    by-refusal : (t : Bool) → eqb (refusalUnder limit (r .n) (r .m) call) 0 ≡ t →
         Agrees (cond t (acceptedOf r call) (refusedOf r)) (cond t (accepted g call) g)
-    by-refusal true e = agree-accepted r g call k a (eqb-true _ _ e)
+    by-refusal true e = agree-accepted r g call k a (accepted-under limit entryLimit below _ _ call (eqb-true _ _ e))
     by-refusal false e = agree-refused r g a

@@ -1,7 +1,8 @@
--- Demand 3 is proved: the ledger is sound, and the record agrees with it.
+-- Demand 3 is proved: the ledger is sound, and the record agrees with it; and a record of the former limit goes on.
 use mathlib.Core.Path.{_≡_, refl, ap}
 use mathlib.Core.List.{List, [], _∷_}
 use Prim.Native.Nat.{ℕ, _*_, _-_, _≤_, _<_}
+use native.Mathlib.Nat.{le-refl}
 use native.Mathlib.Omega.{arith}
 use lib.IntN.{pos, _-ℤ_, _*ℤ_}
 use borrow.Author.Tests.{le-leb, lt-ltb}
@@ -11,18 +12,18 @@ use Rattle.ledger.specs.Axis.{errorOf}
 use Rattle.ledger.specs.laws.Axis.{same-error}
 use Rattle.ledger.specs.Call.{Call, axis}
 use Rattle.ledger.specs.laws.Invariant.{SoundLedger, sound-step}
-use Rattle.ledger.specs.Ledger.{Ledger, State, empty, loaded, ledger, ledgerFrom, ledgerStep}
-use Rattle.limits.specs.Limits.{units, whole}
+use Rattle.ledger.specs.Ledger.{Ledger, State, empty, loaded, ledger, ledgerFromUnder, ledgerStepUnder}
+use Rattle.limits.specs.Limits.{entryLimit, units, whole}
 use Rattle.ledger.specs.Near.{matrixDifference, axesDifference}
-use Rattle.ledger.specs.Refusal.{refusalOf}
+use Rattle.ledger.specs.Refusal.{refusalOf, refusalUnder}
 use Rattle.ledger.specs.laws.Rows.{row-near}
 use Rattle.ledger.specs.laws.Sound.{Sound}
-use Rattle.record.specs.laws.After.{after-kept, fresh-kept}
+use Rattle.record.specs.laws.After.{after-kept-under, fresh-kept}
 use Rattle.record.specs.laws.Agree.{Agree, Agrees, agree-step}
-use Rattle.record.specs.Demand3.{AxisNear, Certified, Certifies, Demand-3}
+use Rattle.record.specs.Demand3.{AxisNear, Certified, Certifies, Demand-3, Goes-on}
 use Rattle.record.specs.Flat.{keptEntry}
 use Rattle.record.specs.Kept.{Kept}
-use Rattle.record.specs.Record.{after, afterFrom, afterOf, answerOf, fresh, valueOf}
+use Rattle.record.specs.Record.{after, afterFromUnder, afterOfUnder, answerOf, fresh, valueOf}
 use Rattle.record.specs.declared.Record.{Record}
 
 module _ (r : Record) (s : State) (a : Agree r s) (h : Sound s) where
@@ -30,7 +31,7 @@ module _ (r : Record) (s : State) (a : Agree r s) (h : Sound s) where
   error-agrees i l = rw (a .size, a .turns) (same-error (s .n) (keptEntry (r .a)) (s .B) (s .m) i (λ j k. a .matrix i j l k))
 
   accepted : (i : ℕ) → 1 ≤ i → i ≤ s .n → refusalOf (r .n) (r .m) (axis i) ≡ 0
-  unfolding refusalOf
+  unfolding refusalUnder
   accepted i f l = rw (a .size, lt-ltb 0 (s .n) (omega (arith, h .low)), le-leb 1 i f, le-leb i (s .n) l)
 
   axis-near : (i : ℕ) → 1 ≤ i → i ≤ s .n → AxisNear r s i
@@ -68,12 +69,37 @@ unfolding Agrees SoundLedger Certifies
 certifies r empty a h = a
 certifies r (loaded s) a h = certified r s a h
 
-from : (r : Record) (g : Ledger) (calls : List Call) → Kept r → Agrees r g → SoundLedger g → Certifies (afterFrom r calls) (ledgerFrom g calls)
-unfolding afterFrom ledgerFrom
-from r g [] k a h = certifies r g a h
-from r g (call ∷ calls) k a h =
-    from (afterOf r call) (ledgerStep g call) calls (after-kept r call k) (agree-step r g call k a) (sound-step g call h)
+-- a record and a ledger as every list of calls leaves them, under any limit up to today's
+pub record Holds (r : Record) (g : Ledger) : Type 0 where
+  pub kept : Kept r
+  pub agrees : Agrees r g
+  pub sound : SoundLedger g
+
+from : (limit : ℕ) → limit ≤ entryLimit → (r : Record) (g : Ledger) (calls : List Call) → Holds r g →
+    Holds (afterFromUnder limit r calls) (ledgerFromUnder limit g calls)
+unfolding afterFromUnder ledgerFromUnder
+from limit below r g [] h = h
+from limit below r g (call ∷ calls) h =
+    from limit below (afterOfUnder limit r call) (ledgerStepUnder limit g call) calls
+    (record {
+      kept = after-kept-under limit below r call (h .kept);
+      agrees = agree-step limit below r g call (h .kept) (h .agrees);
+      sound = sound-step limit below g call (h .sound);
+    })
+
+begun : Holds fresh empty
+unfolding Agrees SoundLedger fresh
+begun = record { kept = fresh-kept; agrees = refl; sound = tt }
 
 pub demand-3 : Demand-3
-unfolding after ledger Agrees SoundLedger fresh
-demand-3 calls = from fresh empty calls fresh-kept refl tt
+unfolding after ledger
+demand-3 calls =
+    let h = from entryLimit (le-refl entryLimit) fresh empty calls begun in
+    certifies (after calls) (ledger calls) (h .agrees) (h .sound)
+
+-- the list under the former limit, then that under today's
+pub goes-on : Goes-on
+goes-on limit old below before later =
+    let h = from limit below fresh empty before begun in
+    let k = from entryLimit (le-refl entryLimit) _ _ later h in
+    certifies _ _ (k .agrees) (k .sound)

@@ -12,11 +12,11 @@ use Rattle.integer.specs.Square.{sq}
 use Rattle.integer.specs.laws.Square.{sq-pos}
 use Rattle.integer.specs.Sum.{sumℕ}
 use Rattle.integer.specs.laws.Sum.{sumℕ-cong, sumℕ-const}
-use Rattle.ledger.specs.laws.Accepted.{Loads, load-accepted}
+use Rattle.ledger.specs.laws.Accepted.{Loads, load-accepted, small-within}
 use Rattle.ledger.specs.Call.{load}
 use Rattle.ledger.specs.laws.Loaded.{load-size}
 use Rattle.limits.specs.Limits.{entryLimit, units, whole}
-use Rattle.ledger.specs.Refusal.{refusalOf, entriesWithin}
+use Rattle.ledger.specs.Refusal.{refusalOf, refusalUnder, entriesWithin}
 use Rattle.ledger.specs.Sound.{matrixBound, axesBound}
 use Rattle.turn.specs.Turn.{at}
 use Rattle.turn.specs.InUse.{inUse}
@@ -31,16 +31,11 @@ use Rattle.record.specs.declared.Record.{Record}
 
 -- a load's refusal is of its arguments alone
 pub load-refusal-alone : (n m k : ℕ) (numbers : List ℤ) → refusalOf n m (load k numbers) ≡ refusalOf 0 0 (load k numbers)
-unfolding refusalOf
+unfolding refusalUnder
 load-refusal-alone n m k numbers = refl
 
-small-within : (numbers : List ℤ) → ((i : ℕ) → natAbs (getD numbers i (pos 0)) ≤ entryLimit) → entriesWithin numbers ≡ true
-unfolding entriesWithin
-small-within [] h = refl
-small-within (x ∷ xs) h = rw (le-leb (natAbs x) entryLimit (h 0), small-within xs (λ i. h (suc i)))
-
-pub loads-within : {n : ℕ} {numbers : List ℤ} → Loads n numbers → entriesWithin numbers ≡ true
-loads-within {n} {numbers} l = small-within numbers (l .small)
+pub loads-within : {n : ℕ} {numbers : List ℤ} → Loads n numbers → entriesWithin entryLimit numbers ≡ true
+loads-within {n} {numbers} l = small-within entryLimit numbers (l .small)
 
 -- an entry of the rows of a flat matrix that is 0 outside
 pub at-flat : (n : ℕ) (x : Matrix) → n ≤ 8 → (i j : ℕ) → at (rowsOf (flatOf (inUse n x))) i j ≡ inUse n x i j

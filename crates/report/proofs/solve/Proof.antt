@@ -7,6 +7,7 @@ use lib.Seq.{length-take-le}
 use borrow.Author.Needs.{needs}
 use Rattle.job_table.specs.Held.{jobIn, samplesOf, tableFor}
 use Rattle.limits.specs.laws.Channels.{places}
+use Rattle.limits.specs.laws.Values.{some-entry}
 use Rattle.job_table.specs.laws.Laws.{channels-held}
 use Rattle.scatter.specs.declared.table.Table.{Table}
 use Rattle.scatter.specs.laws.Table.{table-is}
@@ -22,7 +23,7 @@ entries-within : (c : tie.After-table-of) → (let s = c .before in s .args .job
 unfolding jobIn tableFor
 entries-within c =
     let s = c .before in
-    let t = table-is (s .args .job .n) (channels-held (s .args .job) (s .pre)) (samplesOf (jobIn (s .args .job))) in
+    let t = table-is (s .args .job .n) (channels-held (s .args .job) (s .pre)) some-entry (samplesOf (jobIn (s .args .job))) in
     rw (c .table-of .ensures, t .entries .size) (size s)
 
 run-requires : tie.Need-run-requires

@@ -15,7 +15,7 @@ use Rattle.ledger.specs.Pairs.{cyclic}
 use Rattle.ledger.specs.Refusal.{refusalOf}
 use Rattle.record.specs.laws.Accepted.{after-accepted, loose-pair-taken, sweep-taken, turns-suffice}
 use Rattle.record.specs.laws.Loading.{load-refusal-alone}
-use Rattle.record.specs.Record.{acceptedOf, after, afterFrom, afterOf, fresh, loadedRecord, sweptOf, workOf, workedOf}
+use Rattle.record.specs.Record.{acceptedOf, after, afterFrom, afterFromUnder, afterOf, fresh, loadedRecord, sweptOf, workOf, workedOf}
 use Rattle.record.specs.declared.Record.{Record}
 use Rattle.record.specs.laws.Turning.{works-grow}
 use Rattle.run.specs.laws.Course.{Course, settles, is-still, is-spent, sweeps-on, course}
@@ -44,12 +44,12 @@ pub record AsCalls (n : ℕ) (numbers : List ℤ) (t : ℕ) (z : Run) : Type 0 w
 
 -- lists of calls, one after the other
 after-++ : (r : Record) (xs ys : List Call) → afterFrom r (xs ++ ys) ≡ afterFrom (afterFrom r xs) ys
-unfolding afterFrom
+unfolding afterFromUnder
 after-++ r [] ys = refl
 after-++ r (call ∷ xs) ys = after-++ (afterOf r call) xs ys
 
 none-refused-++ : (r : Record) (xs ys : List Call) → NoneRefused r xs → NoneRefused (afterFrom r xs) ys → NoneRefused r (xs ++ ys)
-unfolding NoneRefused afterFrom
+unfolding NoneRefused afterFromUnder
 none-refused-++ r [] ys h g = g
 none-refused-++ r (call ∷ xs) ys h g = (h .0, none-refused-++ (afterOf r call) xs ys (h .1) g)
 
@@ -60,7 +60,7 @@ module _ (r : Record) (h : 1 ≤ r .n) where
   axis-leaves i e = after-accepted r (axis i) e
 
   axes-accepted : (i count : ℕ) → 1 ≤ i → i + count ≤ r .n + 1 → NoneRefused r (axesFrom i count) × (afterFrom r (axesFrom i count) ≡ r)
-  unfolding NoneRefused axesFrom afterFrom
+  unfolding NoneRefused axesFrom afterFromUnder
   axes-accepted i zero k l = (tt, refl)
   axes-accepted i (suc count) k l =
       let e = given.axis-taken (r .n) (r .m) i k (omega arith) in
@@ -102,7 +102,7 @@ module _ (n t : ℕ) (low : 1 ≤ n) (high : n ≤ 8) (h : t ≤ toleranceLimit)
     swept : Swept (z .sweeps) (z .last)
 
   stopped : (sweeps : ℕ) (r : Record) (z : Run) → Swept sweeps r → z .sweeps ≡ sweeps → z .last ≡ r → Rounds sweeps r z
-  unfolding NoneRefused rounds afterFrom
+  unfolding NoneRefused rounds afterFromUnder
   stopped sweeps r z s k e =
       record {
         more = 0;
@@ -115,7 +115,7 @@ module _ (n t : ℕ) (low : 1 ≤ n) (high : n ≤ 8) (h : t ≤ toleranceLimit)
   course-rounds : {left sweeps : ℕ} {idle : Bool} {r : Record} {z : Run} → Course t left sweeps idle r z → Swept sweeps r →
       sweeps + left ≤ mostSweeps →
       Rounds sweeps r z
-  unfolding NoneRefused rounds afterFrom
+  unfolding NoneRefused rounds afterFromUnder
   course-rounds (settles e) s l = stopped _ _ _ s refl refl
   course-rounds (is-still e) s l = stopped _ _ _ s refl refl
   course-rounds (is-spent e) s l = stopped _ _ _ s refl refl
@@ -153,7 +153,7 @@ module _ (n : ℕ) (numbers : List ℤ) (limit t : ℕ) (a : Allowed n numbers l
   run-rounds = course-rounds n t low (matrix-loads .high) (a .tolerance) (course t limit 0 false loaded) loaded-swept (omega (arith, a .sweeps))
 
   pub run-calls : AsCalls n numbers t (runOf n numbers limit t)
-  unfolding callsOf after afterFrom NoneRefused loaded
+  unfolding callsOf after afterFromUnder NoneRefused loaded
   run-calls =
       record {
         accepted = none-refused-++ fresh calls (axesFrom 1 n) (load-taken, taken) (rw leaves (axes .0));

@@ -5,7 +5,8 @@ use Prim.Native.Nat.{ℕ, _*_, _≤_}
 use lib.ListN.{take}
 use Rattle.ledger.specs.laws.Accepted.{Loads}
 use Rattle.ledger.specs.Call.{load}
-use Rattle.limits.specs.Limits.{toleranceLimit, mostSweeps}
+use Rattle.limits.specs.Limits.{entryLimit, toleranceLimit, mostSweeps}
+use Rattle.limits.specs.laws.Values.{some-entry}
 use Rattle.ledger.specs.Refusal.{refusalOf}
 use Rattle.scatter.specs.laws.Entries.{entries-symmetric, entries-within, length-entries, length-scatter, table-entries}
 use Rattle.scatter.specs.Table.{entries, scatter, tableOf}
@@ -19,13 +20,13 @@ module _ (n : ℕ) (ss : List Sample) (low : 2 ≤ n) (high : n ≤ 8) where
       record {
         low = low;
         high = high;
-        count = length-entries (scatter n ss) ∙ length-scatter n ss;
-        small = entries-within (scatter n ss);
-        same = entries-symmetric n ss;
+        count = length-entries entryLimit (scatter n ss) ∙ length-scatter n ss;
+        small = entries-within entryLimit (scatter n ss) some-entry;
+        same = entries-symmetric n ss entryLimit;
       }
 
   pub table-accepted : refusalOf 0 0 (load n (take (n * n) (tableOf n ss .entries))) ≡ 0
-  table-accepted = rw (table-entries n ss) (load-taken 0 0 n _ entries-load)
+  table-accepted = rw (table-entries n ss entryLimit) (load-taken 0 0 n _ entries-load)
 
   pub table-allowed : (limit tolerance : ℕ) → limit ≤ mostSweeps → tolerance ≤ toleranceLimit →
       Allowed n (take (n * n) (tableOf n ss .entries)) limit tolerance

@@ -14,12 +14,13 @@ use Rattle.sums.specs.Samples.{samples}
 use Rattle.sums.specs.declared.Sums.{Sums}
 use Rattle.sums.specs.inner.Ranges.{zLimit, Bounded}
 use Rattle.sums.specs.laws.Bounds.{readings-bounded}
-use Rattle.scatter.specs.Table.{largest, shift, tableFrom, tableOf}
+use Rattle.scatter.specs.Table.{largest, shift, shiftUnder, tableFromUnder, tableOf, tableUnder}
 use Rattle.scatter.specs.inner.BySums.{SBySums, scatterBySums}
 use Rattle.scatter.specs.inner.Ranges.{Roundable}
 use Rattle.scatter.specs.laws.BySums.{scatter-by-sums}
 use Rattle.scatter.specs.laws.Shift.{largest-least, smallest-found, shift-small}
 use Rattle.limits.specs.Limits.{mostSamples}
+use Rattle.limits.specs.laws.Values.{former-below, some-entry}
 
 difference-within : (a b m : ℕ) → a ≤ m → b ≤ m → natAbs (pos a -ℤ pos b) ≤ m
 difference-within a b m h g = omega (arith, natAbs--ℤ a b)
@@ -54,11 +55,16 @@ module _ (us : List ℤ) (h : (p : ℕ) → natAbs (getD us p (pos 0)) < 2 ^ 62)
   padded-small l = record { size = length-padded 64 (pos 0) us l; small = λ p. rw padded-at (h p) }
 
   pub shift-bound : shift us < 62
-  unfolding shift
-  shift-bound = shift-small _ _ (smallest-found (largest us)) (omega (arith, largest-least us (2 ^ 62 - 1) (λ p. omega (arith, h p))))
+  unfolding shiftUnder
+  shift-bound =
+      omega (
+        arith,
+        shift-small former-below _ _ (smallest-found some-entry (largest us))
+            (omega (arith, largest-least us (2 ^ 62 - 1) (λ p. omega (arith, h p)))),
+      )
 
 pub readings-shift : (n : ℕ) (dilutions counts : List ℕ) → Readings n dilutions counts → tableOf n (samples n dilutions counts) .e < 62
-unfolding tableOf tableFrom
+unfolding tableUnder tableFromUnder
 readings-shift n dilutions counts r =
     rw (← scatter-by-sums (samples n dilutions counts) n (r .channels))
     (shift-bound _ (scatter-small _ (readings-bounded n dilutions counts r) n))

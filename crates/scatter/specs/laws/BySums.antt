@@ -7,7 +7,7 @@ use Rattle.integer.specs.laws.RowMajor.{rowMajor-same}
 use Rattle.sums.specs.Samples.{Sample}
 use Rattle.sums.specs.Sums.{sumsOf}
 use Rattle.sums.specs.laws.Sums.{number-of, cross-of, channel-of}
-use Rattle.scatter.specs.Table.{S, scatter, tableFrom, tableOf}
+use Rattle.scatter.specs.Table.{S, scatter, tableFrom, tableOf, tableUnder}
 use Rattle.scatter.specs.inner.BySums.{SBySums, scatterBySums}
 
 module _ (ss : List Sample) where
@@ -20,5 +20,5 @@ module _ (ss : List Sample) where
   scatter-by-sums n h = rowMajor-same n (λ i j a b. S-by-sums i j (omega arith) (omega arith))
 
   pub table-by-sums : (n : ℕ) → n ≤ 8 → tableFrom (scatterBySums n (sumsOf ss)) ≡ tableOf n ss
-  unfolding tableOf
+  unfolding tableUnder
   table-by-sums n h = ap tableFrom (scatter-by-sums n h)

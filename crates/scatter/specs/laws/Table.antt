@@ -1,4 +1,4 @@
--- What the table of samples is in document 01's words: `tableOf` gives it, and nothing else is it.
+-- What the table of samples is in document 01's words, under any limit: `tableUnder` gives it, and nothing else is it.
 use mathlib.Core.Path.{_≡_, refl, ap, sym, _∙_}
 use mathlib.Core.List.{List}
 use Prim.Native.Nat.{ℕ, _*_, _^_, _<_, _≤_}
@@ -9,12 +9,11 @@ use Rattle.integer.specs.Matrix.{Matrix, Same, matrixOf}
 use Rattle.integer.specs.Padded.{padded}
 use Rattle.integer.specs.laws.Padded.{length-padded, padded-at}
 use Rattle.integer.specs.laws.RowMajor.{rowMajor-all, same-numbers}
-use Rattle.limits.specs.Limits.{entryLimit}
 use Rattle.limits.specs.laws.Channels.{places}
 use Rattle.rounding.specs.Rounding.{rnd}
 use Rattle.sums.specs.Samples.{Sample}
 use Rattle.scatter.specs.declared.table.Table.{Table}
-use Rattle.scatter.specs.Table.{S, scatter, entries, tableFrom, tableOf}
+use Rattle.scatter.specs.Table.{S, scatter, entriesUnder, tableFromUnder, tableUnder}
 use Rattle.scatter.specs.laws.Entries.{entries-at, length-entries, length-scatter, scatter-at}
 use Rattle.scatter.specs.laws.Shift.{shift-smallest}
 
@@ -24,14 +23,14 @@ pub record InArray (n : ℕ) (X : Matrix) (us : List ℤ) : Type 0 where
   pub numbers : Same n (matrixOf n us) X
   pub zeros : (p : ℕ) → n * n ≤ p → getD us p (pos 0) ≡ pos 0
 
--- every |S_ij| ≤ 1,048,576 × 2^e
-abbrev pub Enough : ℕ → List Sample → ℕ → Type 0
-Enough n ss e = (i j : ℕ) → i < n → j < n → natAbs (S ss i j) ≤ entryLimit * 2 ^ e
+-- every |S_ij| ≤ limit × 2^e
+abbrev pub Enough : ℕ → ℕ → List Sample → ℕ → Type 0
+Enough limit n ss e = (i j : ℕ) → i < n → j < n → natAbs (S ss i j) ≤ limit * 2 ^ e
 
-pub record IsTable (n : ℕ) (ss : List Sample) (t : Table) : Type 0 where
-  -- 'The shift e is the smallest e ≥ 0 with every |S_ij| ≤ 1,048,576 × 2^e.'
-  pub within : Enough n ss (t .e)
-  pub least : (e : ℕ) → Enough n ss e → t .e ≤ e
+pub record IsTable (limit n : ℕ) (ss : List Sample) (t : Table) : Type 0 where
+  -- 'The shift e is the smallest e ≥ 0 with every |S_ij| ≤ 1,048,576 × 2^e', with any limit for that one
+  pub within : Enough limit n ss (t .e)
+  pub least : (e : ℕ) → Enough limit n ss e → t .e ≤ e
   -- 'The loaded entry is rnd(S_ij / 2^e).'
   pub entries : InArray n (λ i j. rnd (S ss i j) (2 ^ t .e)) (t .entries)
   pub scatter : InArray n (S ss) (t .scatter)
@@ -51,22 +50,22 @@ module _ (n : ℕ) (h : n ≤ 8) where
       same-numbers n us vs (a .size ∙ sym (b .size)) (λ i j g f. a .numbers i j g f ∙ e i j g f ∙ sym (b .numbers i j g f))
       (λ p l. a .zeros p l ∙ sym (b .zeros p l))
 
-  module _ (ss : List Sample) where
-    everywhere : (e : ℕ) → Enough n ss e → (p : ℕ) → natAbs (getD (scatter n ss) p (pos 0)) ≤ entryLimit * 2 ^ e
+  module _ {limit : ℕ} (some : 1 ≤ limit) (ss : List Sample) where
+    everywhere : (e : ℕ) → Enough limit n ss e → (p : ℕ) → natAbs (getD (scatter n ss) p (pos 0)) ≤ limit * 2 ^ e
     unfolding scatter
-    everywhere e w = rowMajor-all n (S ss) (λ u. natAbs u ≤ entryLimit * 2 ^ e) (omega arith) w
+    everywhere e w = rowMajor-all n (S ss) (λ u. natAbs u ≤ limit * 2 ^ e) (omega arith) w
 
-    pub table-is : IsTable n ss (tableOf n ss)
-    unfolding tableOf tableFrom matrixOf
+    pub table-is : IsTable limit n ss (tableUnder limit n ss)
+    unfolding tableUnder tableFromUnder matrixOf
     table-is =
         record {
-          within = λ i j g f. rw (← scatter-at n ss i j g f) (shift-smallest (scatter n ss) .within _);
-          least = λ e w. shift-smallest (scatter n ss) .least e (everywhere e w);
-          entries = padded-in-array (entries (scatter n ss)) (length-entries (scatter n ss) ∙ length-scatter n ss) (entries-at n ss);
+          within = λ i j g f. rw (← scatter-at n ss i j g f) (shift-smallest some (scatter n ss) .within _);
+          least = λ e w. shift-smallest some (scatter n ss) .least e (everywhere e w);
+          entries = padded-in-array (entriesUnder limit (scatter n ss)) (length-entries limit (scatter n ss) ∙ length-scatter n ss) (entries-at n ss limit);
           scatter = padded-in-array (scatter n ss) (length-scatter n ss) (scatter-at n ss);
         }
 
-    pub table-unique : (t : Table) → IsTable n ss t → t ≡ tableOf n ss
+    pub table-unique : (t : Table) → IsTable limit n ss t → t ≡ tableUnder limit n ss
     table-unique t is =
         λ i. record {
           e = same-e i;
@@ -74,5 +73,5 @@ module _ (n : ℕ) (h : n ≤ 8) where
           scatter = in-array-unique (λ k j g f. refl) (is .scatter) (table-is .scatter) i;
         }
       where
-        same-e : t .e ≡ tableOf n ss .e
-        same-e = omega (arith, is .least (tableOf n ss .e) (table-is .within), table-is .least (t .e) (is .within))
+        same-e : t .e ≡ tableUnder limit n ss .e
+        same-e = omega (arith, is .least (tableUnder limit n ss .e) (table-is .within), table-is .least (t .e) (is .within))

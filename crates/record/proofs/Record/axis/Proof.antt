@@ -14,7 +14,7 @@ use Rattle.ledger.specs.laws.Accepted.{Names, axis-accepted}
 use Rattle.ledger.specs.Axis.{errorOf}
 use Rattle.ledger.specs.laws.Axis.{same-error}
 use Rattle.ledger.specs.Call.{axis}
-use Rattle.ledger.specs.Refusal.{refusalOf}
+use Rattle.ledger.specs.Refusal.{refusalOf, refusalUnder}
 use Rattle.turn.specs.Turn.{at}
 use Rattle.record.specs.declared.query.Answer.the-variants.{Axis}
 use Rattle.record.specs.laws.Fill.{at-rowsOf}
@@ -25,7 +25,7 @@ use Rattle.record.proofs.Record.axis.Statement.{statement}
 use Rattle.record.proofs.Record.axis.Tie as tie
 
 returns : tie.Need-returns
-unfolding refusalOf axisOf
+unfolding refusalUnder axisOf
 returns c =
     let s = c .before .before .before in
     let e = c .before .before .axis-refusal .ensures in
@@ -57,7 +57,7 @@ error-of-requires c κs =
     )
 
 returns-2 : tie.Need-returns-2
-unfolding refusalOf valueOf acceptedOf axisOf at
+unfolding refusalUnder valueOf acceptedOf axisOf at
 returns-2 c =
     let error = c .before .before .before in
     let unpacked = error .before .before .before in

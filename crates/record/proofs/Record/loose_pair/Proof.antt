@@ -5,7 +5,7 @@ use borrow.Author.Needs.{needs}
 use Rattle.ledger.specs.Call.{loosePair}
 use Rattle.ledger.specs.laws.Cyclic.{cyclic-pairs}
 use Rattle.ledger.specs.Pairs.{cyclic}
-use Rattle.ledger.specs.Refusal.{refusalOf}
+use Rattle.ledger.specs.Refusal.{refusalUnder}
 use Rattle.record.proofs.Search.{same-loose}
 use Rattle.record.specs.laws.Fill.{at-rowsOf}
 use Rattle.record.specs.laws.Loose.{loose-done}
@@ -15,7 +15,7 @@ use Rattle.record.proofs.Record.loose_pair.Statement.{statement}
 use Rattle.record.proofs.Record.loose_pair.Tie as tie
 
 returns : tie.Need-returns
-unfolding refusalOf
+unfolding refusalUnder
 returns c =
     let s = c .before .before .before in
     loose-done
@@ -26,7 +26,7 @@ loose-pair-of-requires : tie.Need-loose-pair-of-requires
 loose-pair-of-requires c κs = c .before .before .before .before .before .before .pre .size
 
 returns-2 : tie.Need-returns-2
-unfolding refusalOf valueOf acceptedOf
+unfolding refusalUnder valueOf acceptedOf
 returns-2 c =
     let unpacked = c .before .before in
     let checked = unpacked .before .before .before in

@@ -17,7 +17,7 @@ use Rattle.record.proofs.load.all_within.Statement.{statement}
 use Rattle.record.proofs.load.all_within.Tie as tie
 
 abbrev Inv-loop : tie.InvT-loop
-Inv-loop numbers k₀ k = (k ≤ length numbers) × (entriesWithin numbers ≡ entriesWithin (drop k numbers))
+Inv-loop numbers k₀ k = (k ≤ length numbers) × (entriesWithin entryLimit numbers ≡ entriesWithin entryLimit (drop k numbers))
 
 abbrev μ-loop : tie.MeasureT-loop
 μ-loop numbers k₀ k = length numbers - k

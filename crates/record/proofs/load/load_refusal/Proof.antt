@@ -5,24 +5,24 @@ use native.Mathlib.Omega.{arith}
 use lib.ListN.{length}
 use borrow.Author.Needs.{needs}
 use borrow.Author.Tests.{le-leb, lt-leb, ne-eqb, not-true, not-false}
-use Rattle.ledger.specs.Refusal.{refusalOf}
+use Rattle.ledger.specs.Refusal.{refusalUnder}
 use Rattle.limits.specs.laws.Channels.{places}
 use Rattle.record.proofs.Checks.{sized}
 use Rattle.record.proofs.load.load_refusal.Statement.{statement}
 use Rattle.record.proofs.load.load_refusal.Tie as tie
 
 returns : tie.Need-returns
-unfolding refusalOf
+unfolding refusalUnder
 returns c = rw (lt-leb 2 (c .before .args .n) (omega arith))
 
 returns-2 : tie.Need-returns-2
-unfolding refusalOf
+unfolding refusalUnder
 returns-2 c =
     let n = c .before .before .args .n in
     rw (le-leb 2 n (omega arith), lt-leb n 8 (omega arith))
 
 returns-3 : tie.Need-returns-3
-unfolding refusalOf
+unfolding refusalUnder
 returns-3 c =
     let s = c .before .before .before .args in
     rw (le-leb 2 (s .n) (omega arith), le-leb (s .n) 8 (omega arith), ne-eqb (length (s .numbers .now)) (s .n * s .n) (c .if3 .taken))

@@ -13,7 +13,7 @@ use Rattle.integer.specs.laws.Laws.{natAbs-*ℤ}
 use Rattle.integer.specs.laws.Word.{held}
 use Rattle.ledger.specs.laws.Accepted.{within-small}
 use Rattle.limits.specs.laws.Channels.{places}
-use Rattle.limits.specs.Limits.{units}
+use Rattle.limits.specs.Limits.{entryLimit, units}
 use Rattle.integer.specs.Matrix.{matrixOf}
 use Rattle.record.proofs.load.loaded_entry.Statement.{statement}
 use Rattle.record.proofs.load.loaded_entry.Tie as tie
@@ -39,7 +39,7 @@ module _ (c : tie.After-result) where
   unfolding number
   in-units =
       let s = c .before in
-      held _ (rw natAbs-*ℤ (omega (arith, within-small (s .args .numbers .now) (rw (s .pre .4) tt) (s .args .i * s .args .n + s .args .j))))
+      held _ (rw natAbs-*ℤ (omega (arith, within-small entryLimit (s .args .numbers .now) (rw (s .pre .4) tt) (s .args .i * s .args .n + s .args .j))))
 
 mul-result-3 : tie.Need-mul-result-3
 unfolding number

@@ -1,22 +1,22 @@
 -- `sweep::turn_refusal` meets its contract, test by test.
 use native.Mathlib.Omega.{arith}
 use borrow.Author.Tests.{le-leb, le-ltb, lt-leb, lt-ltb}
-use Rattle.ledger.specs.Refusal.{refusalOf}
+use Rattle.ledger.specs.Refusal.{refusalUnder}
 use Rattle.record.proofs.sweep.turn_refusal.Statement.{statement}
 use Rattle.record.proofs.sweep.turn_refusal.Tie as tie
 
 returns : tie.Need-returns
-unfolding refusalOf
+unfolding refusalUnder
 returns c = rw (le-ltb 0 (c .before .args .n) (omega arith))
 
 returns-2 : tie.Need-returns-2
-unfolding refusalOf
+unfolding refusalUnder
 returns-2 c =
     let s = c .before .before in
     rw (lt-ltb 0 (s .args .n) (omega arith), lt-leb 1 (s .args .p) (omega arith))
 
 returns-3 : tie.Need-returns-3
-unfolding refusalOf
+unfolding refusalUnder
 returns-3 c =
     let s = c .before .before .before in
     rw (
@@ -26,7 +26,7 @@ returns-3 c =
     )
 
 returns-4 : tie.Need-returns-4
-unfolding refusalOf
+unfolding refusalUnder
 returns-4 c =
     let s = c .before .before .before .before in
     rw (
@@ -37,7 +37,7 @@ returns-4 c =
     )
 
 returns-5 : tie.Need-returns-5
-unfolding refusalOf
+unfolding refusalUnder
 returns-5 c =
     let s = c .before .before .before .before .before in
     rw (
@@ -49,7 +49,7 @@ returns-5 c =
     )
 
 returns-6 : tie.Need-returns-6
-unfolding refusalOf
+unfolding refusalUnder
 returns-6 c =
     let s = c .before .before .before .before .before in
     rw (

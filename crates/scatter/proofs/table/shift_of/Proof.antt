@@ -8,6 +8,7 @@ use borrow.Author.Count.{below-more}
 use borrow.Author.Needs.{needs}
 use lib.Pow.{pow-pos}
 use Rattle.limits.specs.Limits.{entryLimit}
+use Rattle.limits.specs.laws.Values.{former-below}
 use Rattle.scatter.specs.laws.Shift.{below-limit}
 use Rattle.scatter.proofs.table.shift_of.Statement.{statement}
 use Rattle.scatter.proofs.table.shift_of.Tie as tie
@@ -26,7 +27,7 @@ low : (c : tie.In-loop Inv-loop μ-loop) → entryLimit * 2 ^ c .before .loop .e
 low c = rw (c .before .loop .inv .0) at (c .loop-test .taken)
 
 add-e : tie.Need-add-e Inv-loop μ-loop
-add-e c = record { fits = omega (arith, below-limit (low c) (c .before .before .pre)) }
+add-e c = record { fits = omega (arith, below-limit former-below (low c) (c .before .before .pre)) }
 
 loop-less : tie.Need-loop-less Inv-loop μ-loop
 loop-less c = omega (arith, pow-pos (c .before .loop .e))
