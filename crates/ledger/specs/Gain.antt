@@ -8,9 +8,8 @@ use Rattle.choice.specs.declared.Choice.the-variants.{Turn}
 use Rattle.turn.specs.Gain.{Gains}
 use Rattle.turn.specs.Rotation.{rotationOf}
 use Rattle.ledger.specs.Call.{Call, turn, sweep}
-use Rattle.ledger.specs.Pairs.{Ordered}
 use Rattle.ledger.specs.Ledger.{State, loaded, turnPairs, ledgerStep, ledger}
-use Rattle.ledger.specs.Pairs.{Pair, cyclic}
+use Rattle.ledger.specs.Pairs.{Ordered, Pair, cyclic}
 use Rattle.ledger.specs.Refusal.{refusalOf}
 
 -- the turn that the choice rule picks for a pair of the ledger's matrix B, if it picks one, gains

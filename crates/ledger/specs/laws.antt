@@ -9,3 +9,4 @@ pub mod Turned
 pub mod Rows
 pub mod Invariant
 pub mod Gain
+pub mod GainExample

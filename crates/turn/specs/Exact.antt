@@ -1,7 +1,6 @@
--- Document 01's exact rotation R, written whole, that is N times it: it multiplies sums of squares by N², and R Rᵀ is N² times the identity.
+-- Document 01's exact rotation R, written whole, that is N times it.
 use Prim.Native.Nat.{ℕ}
 use lib.IntN.{pos, negℤ}
-use Rattle.integer.specs.laws.Pair
 use Rattle.integer.specs.Matrix.{Matrix, diagonal}
 use Rattle.turn.specs.Turn.{atPair}
 use Rattle.turn.specs.declared.pair.Rotation.{Rotation}

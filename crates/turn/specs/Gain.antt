@@ -4,8 +4,7 @@ use mathlib.Core.Bool.{Bool, cond}
 use Prim.Native.Nat.{ℕ, _+_, _*_, _<_, _≤_}
 use lib.Dec.{eqb}
 use lib.IntN.{natAbs}
-use Rattle.integer.specs.Matrix.{Matrix, conjugate}
-use Rattle.integer.specs.Matrix.{Symmetric}
+use Rattle.integer.specs.Matrix.{Matrix, Symmetric, conjugate}
 use Rattle.integer.specs.Square.{sq}
 use Rattle.integer.specs.Sum.{sumℕ}
 use Rattle.choice.specs.Choice.{choose}

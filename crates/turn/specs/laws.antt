@@ -13,3 +13,4 @@ pub mod Congruence
 pub mod Half
 pub mod OffDiagonal
 pub mod Gain
+pub mod GainExamples
