@@ -32,9 +32,18 @@ pub fn case(seed: u64) -> Result<String, String> {
     if got != wanted || out != expected {
         return Err(format!(
             "calls {:?}, size {size}: {got:?} {:?}, and the reference has {wanted:?} {:?}",
-            String::from_utf8_lossy(&text),
-            String::from_utf8_lossy(&out),
-            String::from_utf8_lossy(&expected)
+            shown(&text),
+            shown(&out),
+            shown(&expected)
+        ));
+    }
+    // The function that makes a buffer of its own.
+    let own = field_axes::calls(&text);
+    if own.as_bytes() != answers {
+        return Err(format!(
+            "calls {:?}: {own:?}, and the reference has {:?}",
+            shown(&text),
+            shown(&answers)
         ));
     }
     Ok(match got {
@@ -42,4 +51,9 @@ pub fn case(seed: u64) -> Result<String, String> {
         Ok(_) => "played".to_string(),
         Err(Refused(number)) => format!("refused {number}"),
     })
+}
+
+/// The first bytes of a text, to be printed.
+fn shown(text: &[u8]) -> std::borrow::Cow<'_, str> {
+    String::from_utf8_lossy(&text[..text.len().min(400)])
 }

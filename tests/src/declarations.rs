@@ -1,11 +1,25 @@
-//! The declarations of the exported functions: those of both bindings against the library's own, parameter for parameter.
+//! The declarations of the exported functions: those of both bindings against the library's own, parameter for parameter; and the sizes
+//! of the buffers.
 
 const LIBRARY: &str = include_str!("../../crates/field_axes/src/lib.rt");
 const RUST: &str = include_str!("../../bindings/rust/src/lib.rs");
 const C: &str = include_str!("../../bindings/c/field_axes.h");
 
+/// The most that an answer has, in C's words and as Rust has it; that Rust's is enough is seen where the buffer is Rust's own.
+const MOST: [(&str, usize); 4] = [
+    ("NUMBERS", field_axes::MOST_NUMBERS),
+    ("TABLE_NUMBERS", field_axes::MOST_TABLE_NUMBERS),
+    ("REPORT_BYTES", field_axes::MOST_REPORT_BYTES),
+    ("ANSWER_BYTES", field_axes::MOST_ANSWER_BYTES),
+];
+
 /// How many functions are declared alike, or the first difference.
 pub fn compare() -> Result<usize, String> {
+    for (name, most) in MOST {
+        if !C.contains(&format!("#define FIELD_AXES_MOST_{name} {most}\n")) {
+            return Err(format!("C does not have {most} for {name}"));
+        }
+    }
     let library = declared(LIBRARY, "fn field_axes_", of_library);
     for (language, bound) in [
         ("Rust", declared(RUST, "fn field_axes_", of_rust)),

@@ -1,8 +1,8 @@
 //! A job text and its report.
 
 use crate::random::Random;
-use field_axes::{report_into, JobRefused, MOST_REPORT_BYTES};
-use reference::report::{self, Denied};
+use field_axes::{report, report_into, JobRefused, MOST_REPORT_BYTES};
+use reference::report::{self as by, Denied};
 
 /// Compares one call; the answer is what kind it came to.
 pub fn case(seed: u64) -> Result<String, String> {
@@ -11,6 +11,15 @@ pub fn case(seed: u64) -> Result<String, String> {
     let entry = random.bytes(MOST_REPORT_BYTES + 8);
     let mut expected = entry.clone();
     let whole = by_reference(&text, &mut expected);
+    // The function that makes a buffer of its own.
+    let own = report(&text);
+    let printed = whole.map(|length| String::from_utf8_lossy(&expected[..length]).into_owned());
+    if own != printed {
+        return Err(format!(
+            "job {:?}: {own:?}, and the reference has {printed:?}",
+            String::from_utf8_lossy(&text)
+        ));
+    }
     // Buffers that the report fits, that it fills, and that are too short for it.
     let length = whole.unwrap_or(MOST_REPORT_BYTES);
     let size = match random.between(0, 7) {
@@ -39,7 +48,7 @@ pub fn case(seed: u64) -> Result<String, String> {
 }
 
 fn by_reference(text: &[u8], out: &mut [u8]) -> Result<usize, JobRefused> {
-    report::report_into(text, out).map_err(|denied| match denied {
+    by::report_into(text, out).map_err(|denied| match denied {
         Denied::Job(refusal) => JobRefused {
             number: refusal.number as u32,
             line: refusal.line as usize,

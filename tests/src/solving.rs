@@ -1,7 +1,7 @@
 //! A run and its axes.
 
 use crate::random::Random;
-use field_axes::{solve_into, Refused};
+use field_axes::{solve, solve_into, Refused, MOST_NUMBERS};
 
 const ENTRY_LIMIT: i64 = 2_097_152;
 const TOLERANCE_LIMIT: u64 = 1_048_576;
@@ -16,7 +16,7 @@ pub fn case(seed: u64) -> Result<String, String> {
     let mut given = n;
     let mut limit = random.pick(&[1, 2, 3, 4, 16, 16]);
     let mut tolerance = random.pick(&[0, 0, 1, 100, TOLERANCE_LIMIT]);
-    let mut size = field_axes::MOST_NUMBERS;
+    let mut size = MOST_NUMBERS;
     if random.one_in(3) {
         for _ in 0..random.between(1, 2) {
             match random.between(0, 6) {
@@ -50,10 +50,35 @@ pub fn case(seed: u64) -> Result<String, String> {
              and the reference has {wanted:?} {expected:?}"
         ));
     }
+    // The function that makes a buffer of its own.
+    let own = own(given, &numbers, limit, tolerance);
+    let mut whole = vec![FILL; MOST_NUMBERS];
+    let wanted = by_reference(given, &numbers, limit, tolerance, &mut whole)
+        .map(|count| whole[..count].to_vec());
+    if own != wanted {
+        return Err(format!(
+            "n {given}, numbers {numbers:?}, limit {limit}, tolerance {tolerance}: {own:?}, and the reference has {wanted:?}"
+        ));
+    }
     Ok(match got {
         Ok(_) => ["settled", "still", "spent"][out[0] as usize].to_string(),
         Err(Refused(number)) => format!("refused {number}"),
     })
+}
+
+/// The numbers of a solution, as `solve_into` writes them.
+fn own(n: usize, numbers: &[i64], limit: u64, tolerance: u64) -> Result<Vec<i64>, Refused> {
+    let solution = solve(n, numbers, limit, tolerance)?;
+    let head = [
+        solution.outcome as i64,
+        solution.sweeps as i64,
+        solution.turns as i64,
+    ];
+    let axes = solution
+        .axes
+        .into_iter()
+        .flat_map(|axis| [axis.entry, axis.error].into_iter().chain(axis.row));
+    Ok(head.into_iter().chain(axes).collect())
 }
 
 fn by_reference(

@@ -1,7 +1,7 @@
 //! The table of some samples.
 
 use crate::random::Random;
-use field_axes::{table_into, Refused};
+use field_axes::{table_into, Refused, MOST_TABLE_NUMBERS};
 use reference::scatter::{table, Sample};
 
 /// What stands in the lent buffer before the call.
@@ -35,7 +35,7 @@ pub fn case(seed: u64) -> Result<String, String> {
             } as u32);
         }
     }
-    let mut size = field_axes::MOST_TABLE_NUMBERS;
+    let mut size = MOST_TABLE_NUMBERS;
     if random.one_in(3) {
         for _ in 0..random.between(1, 2) {
             match random.between(0, 6) {
@@ -60,6 +60,21 @@ pub fn case(seed: u64) -> Result<String, String> {
     if got != wanted || out != expected {
         return Err(format!(
             "n {n}, dilutions {dilutions:?}, counts {counts:?}, size {size}: {got:?} {out:?}, and the reference has {wanted:?} {expected:?}"
+        ));
+    }
+    // The function that makes a buffer of its own.
+    let own = field_axes::table(n, &dilutions, &counts).map(|table| {
+        let numbers = table.sums.into_iter().chain(table.entries);
+        std::iter::once(i64::from(table.e))
+            .chain(numbers)
+            .collect::<Vec<i64>>()
+    });
+    let mut whole = vec![FILL; MOST_TABLE_NUMBERS];
+    let wanted =
+        by_reference(n, &dilutions, &counts, &mut whole).map(|count| whole[..count].to_vec());
+    if own != wanted {
+        return Err(format!(
+            "n {n}, dilutions {dilutions:?}, counts {counts:?}: {own:?}, and the reference has {wanted:?}"
         ));
     }
     Ok(match got {
