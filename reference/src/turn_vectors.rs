@@ -16,10 +16,22 @@ const P: i128 = (1 << 31) - 1;
 const ENTRY: i128 = (1 << 34) + 1792;
 const AXIS: i128 = (1 << 30) + 448;
 
-/// Five lines for each of 300 numbers.
+/// Five lines for each of 300 numbers, and six for the largest that are rounded.
 pub fn turns() -> String {
     (0..300)
         .map(|k| rounded(k) + &half(k) + &chosen(k) + &bound(k) + &turned(k))
+        .chain([largest_rounded()])
+        .collect()
+}
+
+/// R u w rnd(u/w): the largest u for the smallest w, and for the largest w the least u that is rounded away from zero and the greatest
+/// that is not.
+fn largest_rounded() -> String {
+    let most = i128::from(i64::MAX);
+    [(most, 1), (1 << 62, most), ((1 << 62) - 1, most)]
+        .into_iter()
+        .flat_map(|(u, w)| [(u, w), (-u, w)])
+        .map(|(u, w)| tagged("R", &[u, w, rnd(u, w)]))
         .collect()
 }
 

@@ -1,5 +1,6 @@
 // The lines that are printed for the number k: what rounding, choice and turn give on the values of k.
-ghost use Prim.Native.Nat.{_<_, _≤_, _^_};
+ghost use Prim.Native.Nat.{_<_, _≤_, _+_, _/_, _^_};
+ghost use lib.IntN.{natAbs};
 use crate::generator;
 use crate::text;
 use choice::Choice;
@@ -16,6 +17,27 @@ pub fn rounded(k: u64)
     text::natural(w);
     text::number(rounding::nearest(u, w));
     text::end();
+}
+
+// R u w rnd(u/w), of every u and w that rounding takes
+fn rounded_of(u: i64, w: u64)
+    requires { ⌜ (0 < w) × (w < 2 ^ 63) × (natAbs u + w / 2 < 2 ^ 63) ⌝ }
+{
+    io::write_all(1, b"R");
+    text::number(u);
+    text::natural(w);
+    text::number(rounding::nearest(u, w));
+    text::end();
+}
+
+// The largest u for the smallest w, and for the largest w the least u that is rounded away from zero and the greatest that is not.
+pub fn largest_rounded() {
+    rounded_of(9_223_372_036_854_775_807, 1);
+    rounded_of(-9_223_372_036_854_775_807, 1);
+    rounded_of(4_611_686_018_427_387_904, 9_223_372_036_854_775_807);
+    rounded_of(-4_611_686_018_427_387_904, 9_223_372_036_854_775_807);
+    rounded_of(4_611_686_018_427_387_903, 9_223_372_036_854_775_807);
+    rounded_of(-4_611_686_018_427_387_903, 9_223_372_036_854_775_807);
 }
 
 // H u w rnd(u/w), with w even and u a multiple of w/2: a half where it is an odd one

@@ -1,4 +1,4 @@
-// Test program: rounding, choice and turn on 300 sets of values, which follow this rule.
+// Test program: rounding, choice and turn on 300 sets of values, which follow this rule; then rounding of the largest numbers that it takes.
 //
 // draw(k) is x² mod P, where P is 2^31 − 1 and x is 742938285 × k mod P. A value has a number k and a greatest size `most`.
 // With w = 2^31 × draw(3k) + draw(3k + 1) and d = draw(3k + 2), its size is, by d mod 4: 0, w mod 4; 1, most − w mod 4; 2,
@@ -18,4 +18,5 @@ fn main() {
         lines::turn(k);
         k += 1;
     }
+    lines::largest_rounded();
 }
