@@ -48,6 +48,13 @@ pub const CALLS: &[Example] = &[
     example("no_call", || tabs("L 2 2 1 1 2\nW\nA 01\nA 1\n")),
     example("no_line_feed", || tabs("L 2 2 1 1 2\nW\nA 1")),
     example("beyond_limit", calls_beyond_limit),
+    example("line_feed_at_limit", || {
+        [calls_of_length(calls::TEXT_LIMIT), tabs("W\n")].concat()
+    }),
+    example("byte_after_limit", || {
+        calls_of_length(calls::TEXT_LIMIT + 1)
+    }),
+    example("pairs", every_pair),
 ];
 
 /// Document 01's printed example, blanks for tabs.
@@ -210,10 +217,51 @@ pub fn longest_calls() -> Vec<u8> {
     with_calls([tabs(REFUSED), used_up()].concat(), calls::TEXT_LIMIT, 1)
 }
 
-/// Loads of numbers beyond the limit, the last of which is not read whole.
+/// A load of numbers beyond the limit.
+fn load_beyond() -> String {
+    text::tagged("L", &[&[8], &[-9_999_999_999; 64][..]].concat())
+}
+
+/// Such loads, the last of which is not read whole.
 fn calls_beyond_limit() -> Vec<u8> {
-    let load = text::tagged("L", &[&[8], &[-9_999_999_999; 64][..]].concat());
+    let load = load_beyond();
     load.repeat(calls::TEXT_LIMIT / load.len() + 1).into_bytes()
+}
+
+/// Such loads, and a last one of fewer and longer numbers, so that its line feed is the last of so many bytes.
+fn calls_of_length(length: usize) -> Vec<u8> {
+    let load = load_beyond();
+    let mut text = load.repeat(length / load.len());
+    text += "L\t8";
+    let left = length - text.len() - 1;
+    for place in 0..left / 12 {
+        text += "\t-9999999999";
+        if place < left % 12 {
+            text += "9";
+        }
+    }
+    text += "\n";
+    text.into_bytes()
+}
+
+/// Each pair of 8 channels as the only loose one, and as the first of those that are; of either sign, at its size and below it.
+fn every_pair() -> Vec<u8> {
+    let pairs: Vec<(usize, usize)> = (0..8)
+        .flat_map(|p| (p + 1..8).map(move |q| (p, q)))
+        .collect();
+    let mut lines = String::new();
+    for place in 0..pairs.len() {
+        for (last, size) in [(place, -5), (pairs.len() - 1, 5)] {
+            let mut numbers = [0; 64];
+            for &(p, q) in &pairs[place..=last] {
+                numbers[8 * p + q] = size;
+                numbers[8 * q + p] = size;
+            }
+            lines += &text::tagged("L", &[&[8], &numbers[..]].concat());
+            lines += "Q\t5119\nQ\t5120\n";
+        }
+    }
+    lines.into_bytes()
 }
 
 #[cfg(test)]
@@ -226,6 +274,27 @@ mod tests {
         String::from_utf8(calls_of(text))
             .unwrap()
             .replace('\t', " ")
+    }
+
+    #[test]
+    fn calls_end_at_the_limit_and_a_byte_after_it() {
+        for (length, line) in [(calls::TEXT_LIMIT, 86), (calls::TEXT_LIMIT + 1, 85)] {
+            let mut text = calls_of_length(length);
+            assert_eq!((text.len(), text.last()), (length, Some(&b'\n')));
+            text.extend(b"W\n");
+            assert!(answers(&text).ends_with(&format!("\n? {line}\n")));
+        }
+    }
+
+    #[test]
+    fn every_pair_is_found_alone_and_first() {
+        let answers = answers(&every_pair());
+        for p in 1..=8 {
+            for q in p + 1..=8 {
+                assert_eq!(answers.matches(&format!("Q {p} {q}\n")).count(), 2);
+            }
+        }
+        assert_eq!(answers.matches("Q none\n").count(), 56);
     }
 
     #[test]
