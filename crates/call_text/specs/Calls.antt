@@ -10,7 +10,7 @@ use Rattle.text.specs.Parts.{split}
 use Rattle.ledger.specs.Call.{Call, load, turn, sweep, loosePair, axis}
 use Rattle.call_text.specs.Numbers.{beyond, eachNumber}
 
--- 'negative where the call's argument is a natural (n, p, q, t, i) is a value out of that argument's range'
+-- README: 'negative where the call's argument is a natural (n, p, q, t, i) is a value out of that argument's range'
 unfoldable pub argument : ℤ → ℕ
 argument (pos x) = x
 argument (negsuc x) = beyond
@@ -62,7 +62,7 @@ callOfFields most ((tag ∷ b ∷ bs) ∷ fields) = none
 unfoldable pub callWithin : ℕ → List ℕ → Option Call
 callWithin most line = callOfFields most (split 9 line)
 
--- 'A line has at most 4,096 numbers; more make it no call'
+-- README: 'A line has at most 4,096 numbers; more make it no call'
 unfoldable pub numberLimit : ℕ
 numberLimit = 4096
 

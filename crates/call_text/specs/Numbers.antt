@@ -10,11 +10,11 @@ use Rattle.text.specs.Numeral.{leadingZero, valueFrom}
 use Rattle.text.specs.Parts.{before}
 use Rattle.text.specs.Range.{allWithin}
 
--- 'decimal digits, no leading zero unless it is 0'
+-- README: 'decimal digits, no leading zero unless it is 0'
 unfoldable pub numeral : List ℕ → Bool
 numeral f = ltb 0 (length f) && (not (leadingZero f) && allWithin 48 57 f)
 
--- 'of any length: one of more than 10 digits stands for 9,999,999,999, which is beyond every range'
+-- README: 'of any length: one of more than 10 digits stands for 9,999,999,999, which is beyond every range'
 abbrev pub digitLimit : ℕ
 digitLimit = 10
 

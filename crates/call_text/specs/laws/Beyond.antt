@@ -1,5 +1,5 @@
--- 9,999,999,999 is beyond every range: a load with it as n is refused 5, an entry of it, of either sign, is 8, a tolerance of it is 2, and a channel
--- or an axis of it is 9; so is each argument that is negative, which stands for it.
+-- 9,999,999,999 is beyond every range: a load with it as n is refused 5, an entry of it, of either sign, is not within the limit (refusal 8), a
+-- tolerance of it is refused 2, and a channel or an axis of it 9.
 use Prim.Native.Nat.{ℕ, _≤_, _<_}
 use mathlib.Core.Path.{_≡_, refl}
 use mathlib.Core.Bool.{Bool, true, false, _&&_}
