@@ -1,4 +1,4 @@
--- The scalar product of two vectors, bilinear.
+-- The scalar product of two vectors.
 use Prim.Native.Nat.{ℕ}
 use lib.IntN.{ℤ, _*ℤ_}
 use Rattle.integer.specs.Sum.{sum}

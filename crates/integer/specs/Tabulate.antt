@@ -1,4 +1,4 @@
--- The list of a function's values at 0, 1, .., and its laws; and what stands in a list of one value repeated.
+-- The list of a function's values at 0, 1, ..
 use mathlib.Core.List.{List, [], _∷_}
 use Prim.Native.Nat.{ℕ, zero, suc}
 

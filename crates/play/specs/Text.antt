@@ -14,7 +14,7 @@ use Rattle.call_text.specs.Answers.{answerLine}
 use Rattle.call_text.specs.Calls.{callOf}
 use Rattle.text.specs.Line.{line}
 
--- '`?` and the line's number is for a line that is no call'
+-- README: '`?` and the line's number is for a line that is no call'
 unfoldable pub unknownLine : ℕ → List ℕ
 unknownLine k = line ((63 ∷ []) ∷ digits k ∷ [])
 
@@ -34,7 +34,7 @@ playedFrom left r k (line ∷ part ∷ parts) = lineThen r k (callOf line) (λ n
 unfoldable pub played : Bool → List ℕ → List ℕ
 played left text = playedFrom left fresh 1 (split 10 text)
 
--- 'the program reads at most 65,536 bytes'
+-- README: 'The program reads at most 65,536 bytes'
 unfoldable pub inputLimit : ℕ
 inputLimit = 65536
 

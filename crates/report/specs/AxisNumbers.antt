@@ -1,4 +1,4 @@
--- The numbers of an axis: a_ii and r_i, which an axis call answers, and the row beside them. How many they are, and that r_i is below 2^63.
+-- The numbers of an axis that stand before its row: a_ii and r_i, which an axis call answers.
 use mathlib.Core.List.{List, [], _∷_}
 use lib.IntN.{ℤ, pos}
 use Rattle.record.specs.declared.query.Answer.{Answer}

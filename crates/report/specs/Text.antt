@@ -1,4 +1,4 @@
--- The report's lines from their values, as the writer gets them: the numbers of the R line, the outcome, and eleven numbers for each A line.
+-- The word of an outcome in the R line.
 use Prim.Native.Nat.{ℕ}
 use mathlib.Core.List.{List, [], _∷_}
 use Rattle.record.specs.declared.run.Outcome.{Outcome}

@@ -1,4 +1,4 @@
--- A run as a list of calls on a fresh record: none of them is refused, and they leave the run's record.
+-- A run as a list of calls on a fresh record.
 use mathlib.Core.List.{List, [], _∷_}
 use Prim.Native.Nat.{ℕ, zero, suc}
 use lib.IntN.{ℤ}

@@ -1,4 +1,4 @@
--- Lines one after another, and their laws: one line more, and the room that a line has among the others.
+-- Lines one after another.
 use Prim.Native.Nat.{ℕ, zero, suc}
 use mathlib.Core.List.{List, [], _++_}
 

@@ -1,4 +1,4 @@
--- Numbers within a range: the test, of one and of each of a list, and what it tells.
+-- Numbers within a range: the test, of one and of each of a list.
 use Prim.Native.Nat.{ℕ}
 use mathlib.Core.Bool.{Bool, true, _&&_}
 use mathlib.Core.List.{List, [], _∷_}

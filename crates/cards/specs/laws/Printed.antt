@@ -36,7 +36,8 @@ unfolding ascii jobOf split onto allWithin leadingZero valueFrom numberOf before
 read = refl
 
 table : (tableFor job .e ≡ 0) × (take 4 (tableFor job .entries) ≡ twoByTwo (pos 50) (pos 25) (pos 50))
-unfolding tableFor samplesOf tableUnder tableFromUnder padded tabulate rowMajor samples sampleAt total z S scatter largest smallestShift shiftUnder entriesUnder rnd
+unfolding tableFor samplesOf tableUnder tableFromUnder padded tabulate rowMajor samples sampleAt total z S scatter largest smallestShift shiftUnder
+    entriesUnder rnd
 table = (refl, refl)
 
 ran : runFor job ≡ threeRun

@@ -75,7 +75,6 @@ examples :
     × (played false (load-2 (49 ∷ []) ++ one 65 (45 ∷ 49 ∷ []) ++ one 65 past-64-bits) ≡ 76 ∷ 10 ∷ refused 57 49 ++ refused 57 50)
 unfolding played playedFrom lineThen unknownLine split onto callOf callWithin numberLimit callOfFields withNumbers callBy loadBy turnBy sweepBy oneBy
     argument eachNumber before signedOf withMinus withoutMinus unsignedOf standsFor numeral leadingZero valueFrom allWithin within answerLine toldOf
-    shown shownAs rowFor afterOfUnder answerOf acceptedOf loadedRecord valueOf refusedOf counted fresh refusalUnder entriesWithin symmetric equal matrixOf
-    line
-    further digits digitsBy
+    shown shownAs rowFor afterOfUnder answerOf acceptedOf loadedRecord valueOf refusedOf counted fresh refusalUnder entriesWithin symmetric equal
+    matrixOf line further digits digitsBy
 examples = (refl, refl, refl, refl, refl, refl, refl, refl, refl, refl, refl, refl, refl, refl, refl, refl, refl, refl, refl, refl, refl)

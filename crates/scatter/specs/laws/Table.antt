@@ -61,7 +61,8 @@ module _ (n : ℕ) (h : n ≤ 8) where
         record {
           within = λ i j g f. rw (← scatter-at n ss i j g f) (shift-smallest some (scatter n ss) .within _);
           least = λ e w. shift-smallest some (scatter n ss) .least e (everywhere e w);
-          entries = padded-in-array (entriesUnder limit (scatter n ss)) (length-entries limit (scatter n ss) ∙ length-scatter n ss) (entries-at n ss limit);
+          entries = padded-in-array (entriesUnder limit (scatter n ss)) (length-entries limit (scatter n ss) ∙ length-scatter n ss)
+              (entries-at n ss limit);
           scatter = padded-in-array (scatter n ss) (length-scatter n ss) (scatter-at n ss);
         }
 

@@ -39,7 +39,8 @@ module _ (c : tie.After-result) where
   unfolding number
   in-units =
       let s = c .before in
-      held _ (rw natAbs-*ℤ (omega (arith, within-small entryLimit (s .args .numbers .now) (rw (s .pre .4) tt) (s .args .i * s .args .n + s .args .j))))
+      let small = within-small entryLimit (s .args .numbers .now) (rw (s .pre .4) tt) (s .args .i * s .args .n + s .args .j) in
+      held _ (rw natAbs-*ℤ (omega (arith, small)))
 
 mul-result-3 : tie.Need-mul-result-3
 unfolding number
