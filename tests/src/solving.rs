@@ -3,8 +3,8 @@
 use crate::random::Random;
 use field_axes::{solve, solve_into, Refused, MOST_NUMBERS};
 
-const ENTRY_LIMIT: i64 = 2_097_152;
-const TOLERANCE_LIMIT: u64 = 1_048_576;
+const ENTRY_LIMIT: i64 = reference::record::ENTRY_LIMIT as i64;
+const TOLERANCE_LIMIT: u64 = reference::record::TOLERANCE_LIMIT as u64;
 /// What stands in the lent buffer before the call.
 const FILL: i64 = -7_777_777;
 

@@ -1,4 +1,4 @@
--- The limits of document 01, each named once; src/lib.rt has them for the code.
+-- The limits of documents 01 and 02, each named once; src/lib.rt has them for the code.
 use Prim.Native.Nat.{ℕ, _^_}
 
 -- refusals 2 and 5: n is 2..8

@@ -1,4 +1,4 @@
-// The limits of document 01, each named once; specs/Limits.antt has them for the definitions.
+// The limits of documents 01 and 02, each named once; specs/Limits.antt has them for the definitions.
 
 // Channels of a job or of a loaded matrix.
 pub const LEAST_CHANNELS: usize = 2;

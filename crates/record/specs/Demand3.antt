@@ -10,6 +10,7 @@ use Rattle.ledger.specs.Ledger.{Ledger, State, empty, loaded, ledger, ledgerFro
 use Rattle.ledger.specs.Near.{MatrixNear, AxesNear, RowNear}
 use Rattle.record.specs.declared.query.Answer.the-variants.{Axis}
 use Rattle.record.specs.Flat.{keptEntry}
+use Rattle.record.specs.Kept.{Kept}
 use Rattle.record.specs.Record.{after, afterFrom, afterFromUnder, answerOf, fresh}
 use Rattle.record.specs.declared.Record.{Record}
 
@@ -42,8 +43,9 @@ Demand-3 = (calls : List Call) → Certifies (after calls) (ledger calls)
 
 -- Document 02, W9: 'A record loaded under the old limit goes on under the new one with its matrix, axes, m and e unchanged, and its ledger goes on
 -- with it, unchanged too'. Calls under a limit from the old one to today's, then calls under today's: the record and the ledger that the first list
--- leaves are what the second starts from, as they are.
+-- leaves are what the second starts from, as they are. The record is one that every call takes (`Kept`).
 abbrev pub Goes-on : Type 0
 Goes-on =
     (limit : ℕ) → formerEntryLimit ≤ limit → limit ≤ entryLimit → (before later : List Call) →
+    Kept (afterFromUnder limit fresh before) ×
     Certifies (afterFrom (afterFromUnder limit fresh before) later) (ledgerFrom (ledgerFromUnder limit empty before) later)

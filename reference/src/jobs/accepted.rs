@@ -88,12 +88,12 @@ fn outcomes() -> Vec<Stored> {
         example("printed example, limit 2", "P 2 2 0"),
         example("printed example, limit 16", "P 2 16 0"),
         written(
-            "card 5 within a tolerance of 1024: settled",
-            "P 2 16 1024\nS 64 1 16384\nS 1 63 0\nE 2\n",
+            "card 5 within a tolerance of 2048: settled",
+            "P 2 16 2048\nS 64 1 16384\nS 1 63 0\nE 2\n",
         ),
         written(
-            "card 5 beyond a tolerance of 1023: still",
-            "P 2 16 1023\nS 64 1 16384\nS 1 63 0\nE 2\n",
+            "card 5 beyond a tolerance of 2047: still",
+            "P 2 16 2047\nS 64 1 16384\nS 1 63 0\nE 2\n",
         ),
         written(
             "card 5 at limit 1: still before spent",

@@ -1,14 +1,21 @@
--- Document 02, W9: under the former limit card 11 is document 01's, and an entry of 1,048,577 is refused, which today's limit takes.
+-- Document 02, W9: under the former limit card 11 is document 01's, and an entry of 1,048,577 is refused, which today's limit takes. A record and a
+-- ledger that the former limit has left so go on.
 use mathlib.Core.Path.{_≡_, refl}
-use mathlib.Core.List.{[], _∷_}
+use mathlib.Core.List.{List, [], _∷_}
+use native.Mathlib.Nat.{le-refl}
 use lib.IntN.{pos}
 use lib.ListN.{replicate, take}
 use Rattle.integer.specs.Matrix.{matrixOf, rowMajor}
 use Rattle.integer.specs.Padded.{padded}
 use Rattle.integer.specs.Tabulate.{tabulate}
-use Rattle.ledger.specs.Call.{load}
+use Rattle.ledger.specs.Call.{Call, load, loosePair}
+use Rattle.ledger.specs.Ledger.{empty, accepted, loadedState, sizeOf, turnsOf, ledgerFrom, ledgerFromUnder, ledgerStepUnder}
 use Rattle.ledger.specs.Refusal.{equal, entriesWithin, refusalOf, refusalUnder, symmetric}
 use Rattle.limits.specs.Limits.{formerEntryLimit}
+use Rattle.limits.specs.laws.Values.{former-below}
+use Rattle.record.specs.Demand3.{Certifies}
+use Rattle.record.specs.Record.{acceptedOf, afterFrom, afterFromUnder, afterOfUnder, fresh, loadedRecord, refusedOf}
+use Rattle.record.specs.laws.Demand3proof.{goes-on}
 use Rattle.rounding.specs.Rounding.{rnd}
 use Rattle.scatter.specs.Table.{S, scatter, largest, smallestShift, shiftUnder, entriesUnder, tableFromUnder, tableUnder}
 use Rattle.sums.specs.Samples.{total, z}
@@ -24,3 +31,23 @@ beyond : (refusalUnder formerEntryLimit 0 0 (load 2 (twoByTwo (pos 1_048_577) (p
     (refusalOf 0 0 (load 2 (twoByTwo (pos 2_097_153) (pos 1) (pos 0))) ≡ 8)
 unfolding refusalUnder entriesWithin symmetric equal matrixOf
 beyond = (refl, refl, refl)
+
+abbrev refused : List Call
+refused = load 2 (twoByTwo (pos 1_048_577) (pos 1) (pos 0)) ∷ []
+
+-- the former limit leaves neither of them a matrix; today's does
+left : (afterFromUnder formerEntryLimit fresh refused .n ≡ 0) × (ledgerFromUnder formerEntryLimit empty refused ≡ empty) ×
+    (afterFrom fresh refused .n ≡ 2) × (sizeOf (ledgerFrom empty refused) ≡ 2)
+unfolding afterFromUnder afterOfUnder acceptedOf loadedRecord refusedOf fresh ledgerFromUnder ledgerStepUnder accepted loadedState sizeOf turnsOf
+    refusalUnder entriesWithin symmetric equal matrixOf
+left = (refl, refl, refl, refl)
+
+-- and whatever calls come then, demand 3 holds
+pub goes : (later : List Call) →
+    Certifies (afterFrom (afterFromUnder formerEntryLimit fresh refused) later) (ledgerFrom (ledgerFromUnder formerEntryLimit empty refused) later)
+goes later = goes-on formerEntryLimit (le-refl formerEntryLimit) former-below refused later .1
+
+-- the range of a tolerance did not move
+tolerance : (refusalOf 2 0 (loosePair 1_048_576) ≡ 0) × (refusalOf 2 0 (loosePair 1_048_577) ≡ 2)
+unfolding refusalUnder
+tolerance = (refl, refl)

@@ -102,4 +102,4 @@ pub goes-on : Goes-on
 goes-on limit old below before later =
     let h = from limit below fresh empty before begun in
     let k = from entryLimit (le-refl entryLimit) _ _ later h in
-    certifies _ _ (k .agrees) (k .sound)
+    (h .kept, certifies _ _ (k .agrees) (k .sound))
