@@ -1,25 +1,23 @@
--- `choice::threshold_of` meets its contract: every entry of the table is T_l, by one test over the table.
-use mathlib.Core.Path.{_≡_}
-use mathlib.Core.List.{List, [], _∷_}
-use Prim.Native.Nat.{ℕ, _-_, _≤_}
-use lib.Dec.{eqb, eqb→eq}
+-- `choice::threshold_of` meets its contract: the table is the list of the T_l, computed from their rule.
+use mathlib.Core.Path.{_≡_, ap, _∙_}
+use Prim.Native.Nat.{ℕ, suc, _-_, _≤_}
+use native.Mathlib.Omega.{arith}
 use lib.ListN.{getD}
 use borrow.Author.Needs.{needs}
 use Rattle.choice.specs.Threshold.{threshold, u, w}
 use Rattle.integer.specs.RoundedUp.{roundedUp}
-use Rattle.choice.specs.laws.Threshold.{from-1-to-14}
+use Rattle.integer.specs.Tabulate.{tabulate}
+use Rattle.integer.specs.laws.Tabulate.{getD-tabulate}
 use Rattle.choice.proofs.threshold_of.Statement.{statement}
 use Rattle.choice.proofs.threshold_of.Tie as tie
 
-abbrev thresholds : List ℕ
-thresholds =
-    108406627 ∷ 15278151 ∷ 6575832 ∷ 3179943 ∷ 1577102 ∷ 786961 ∷ 393283 ∷ 196617 ∷ 98306 ∷ 49153 ∷ 24577 ∷ 12289 ∷ 6145 ∷ 3073 ∷ []
-
-entry : (l : ℕ) → 1 ≤ l → l ≤ 14 → getD thresholds (l - 1) 0 ≡ threshold l
-unfolding threshold roundedUp u w
-entry l h k = eqb→eq _ _ (from-1-to-14 (λ m. eqb (getD thresholds (m - 1) 0) (threshold m)) tt l h k)
+entry : (l : ℕ) → 1 ≤ l → l ≤ 14 → getD (tabulate 14 (λ k. threshold (suc k))) (l - 1) 0 ≡ threshold l
+entry l h k =
+    let back : suc (l - 1) ≡ l = omega arith in
+    getD-tabulate 14 (λ k. threshold (suc k)) (l - 1) 0 (omega arith) ∙ ap threshold back
 
 returns : tie.Need-returns
+unfolding tabulate threshold roundedUp u w
 returns c = entry (c .args .l) (c .pre .0) (c .pre .1)
 
 pub threshold-of-spec : {M : Type 1} → statement M
