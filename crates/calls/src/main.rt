@@ -22,8 +22,8 @@ fn show(done: Stepped) -> bool
     done.more
 }
 
-// Line after line from the first, each on the record that those before it left, to where there is no more: that cursor is the answer.
-fn play_all(text: &[u8], left: bool) -> Cursor
+// Line after line from the first, each on the record that those before it left, to where there is no more: the answer is the last step.
+fn play_all(text: &[u8], left: bool) -> Stepped
     ensures { λ z. ⌜ Ends (now (text .entry)) left z ⌝ }
 {
     let mut r = Record::new();
@@ -31,7 +31,7 @@ fn play_all(text: &[u8], left: bool) -> Cursor
     loop {
         let done = step(&mut r, text, left, here);
         if !show(done) {
-            return here;
+            return done;
         }
         let next = done.next;
         here = next;

@@ -65,8 +65,11 @@ pub record Steps (text : List ℕ) (left : Bool) (here : Cursor) (r : Record) (z
   pub moves : z .more ≡ true → (here .at < z .next .at) × (z .next .at ≤ length text)
   pub reaches : z .more ≡ true → Reached text next (z .next)
 
--- where a text ends: a cursor that is reached, at which a step says that there is no more
-pub record Ends (text : List ℕ) (left : Bool) (here : Cursor) : Type 0 where
+-- a text's last step: that of a record and a cursor that are reached, which says that there is no more. What it prints depends on whether input is
+-- left.
+pub record Ends (text : List ℕ) (left : Bool) (z : Stepped) : Type 0 where
   pub on : Record
+  pub here : Cursor
   pub reached : Reached text on here
-  pub last : stepped left on here (linesFrom text here) .more ≡ false
+  pub last : z ≡ stepped left on here (linesFrom text here)
+  pub stops : z .more ≡ false

@@ -112,8 +112,8 @@ once-not true h = absurd h
 once-not false h = refl
 
 last-turn : {text : List ℕ} {left : Bool} (x : Turn text) (y : Stepped) (g : Record) → Steps text left (x .at) (x .on) y g → y .more ≡ false →
-    Ends text left (x .at)
-last-turn x y g so e = record { on = x .on; reached = x .reached; last = ap (λ (s : Stepped). s .more) (sym (so .is)) ∙ e }
+    Ends text left y
+last-turn x y g so e = record { on = x .on; here = x .at; reached = x .reached; last = so .is; stops = e }
 
 module _ {M : Type 1} (𝓤 : URA M) (H : Heap 𝓤) (A : Atoms 𝓤) (W : Given 𝓤 H A) (mem : Memory → SProp 𝓤) (run : Routine → Fun 𝓤) where
   -- ---- a branch that returns, or goes on
@@ -192,12 +192,12 @@ module _ {M : Type 1} (𝓤 : URA M) (H : Heap 𝓤) (A : Atoms 𝓤) (W : Given
   abbrev End : Val → SProp 𝓤
   End = walkOf 𝓤 H A play-all.ended stayed (play-all.clauses 𝓤 H A mem run) .post bound
 
-  exits : (z : Cursor) → Is Cur.the-row z (cursor z ∷ []) → Ends (now text) left z → ent 𝓤 (A .lft κ q) (End (cursor z))
+  exits : (z : Stepped) → Is Done.the-row z (stepped-value z ∷ []) → Ends (now text) left z → ent 𝓤 (A .lft κ q) (End (stepped-value z))
   exits z is so =
       qed W (‵ (flft κ q) ∷ []) ∵ suffices ! _
-      (ends-at 𝓤 H A play-all.ended stayed (play-all.clauses 𝓤 H A mem run) W bound (cursor z) z (tt, (tt, tt)) (tt, (tt, tt))) $
+      (ends-at 𝓤 H A play-all.ended stayed (play-all.clauses 𝓤 H A mem run) W bound (stepped-value z) z (tt, (tt, tt)) (tt, (tt, tt))) $
       says ! so $ nothing ! $ move ! (1 ∷ 0 ∷ []) $ join ! $ framed ! $ nothing ! $ nothing ! $ fjoin ! $ nothing ! $ fjoin ! $ framed ! $
-      owned ! Cur.the-row (Is Cur.the-row) (LL.makes Cur.the-type Cur′.the-plain 𝓤 H A) z _ is $ done !
+      owned ! Done.the-row (Is Done.the-row) (LL.makes Done.the-type Done′.the-plain 𝓤 H A) z _ is $ done !
 
   -- what goes to `step` beside the record
   brings : (at : Cursor) → Is Cur.the-row at (cursor at ∷ []) → ent 𝓤 (sep 𝓤 (A .lft κ q) (sem 𝓤 H A own-text)) (sep 𝓤 (sep 𝓤 (A .lft κ q) (emp 𝓤))
@@ -294,10 +294,10 @@ module _ {M : Type 1} (𝓤 : URA M) (H : Heap 𝓤) (A : Atoms 𝓤) (W : Given
         assigns ! (un ! (load ! (from ! (stop !)) (here ! _ 9 refl)) tt) (from ! (stop !)) (fills ! _ 10 refl (tt, tt)) $
         move ! (1 ∷ []) $ use1 W (‵ (flft κ q) ⊛ ‵ ftrue) (id⊢ 𝓤 _) $ split ! $ keep ! (2 ∷ 0 ∷ 3 ∷ []) $
         either 𝓤 H A W mem run (load ! (from ! (stop !)) (here ! _ 10 refl))
-        (λ stops. assigns ! (of-opd ! (load ! (from ! (stop !)) (here ! _ 4 refl))) (from ! (stop !))
-        (fills ! _ 0 refl (LL.lawful Cur.the-type Cur′.the-laws 𝓤 H A W .typed (x .at) _ (x .at-is) .0)) $ returns-within ! End refl
+        (λ stops. assigns ! (of-opd ! (load ! (from ! (stop !)) (here ! _ 5 refl))) (from ! (stop !))
+        (fills ! _ 0 refl (LL.lawful Done.the-type Done′.the-laws 𝓤 H A W .typed y _ y-is .0)) $ returns-within ! End refl
         (here ! _ 0 refl) $
-        releases _ tt (keep ! (0 ∷ []) $ by ! (exits (x .at) (x .at-is) (last-turn x y g so (sym more-is ∙ once-not t stops)))))
+        releases _ tt (keep ! (0 ∷ []) $ by ! (exits y y-is (last-turn x y g so (sym more-is ∙ once-not t stops)))))
         (λ goes. let more : y .more ≡ true = sym more-is ∙ twice-not t goes in
         let x′ : Turn (now text) = record {
           on = g;
