@@ -7,10 +7,12 @@ use Rattle.choice.specs.Choice.{choose}
 use Rattle.choice.specs.declared.Choice.the-variants.{Turn}
 use Rattle.turn.specs.Gain.{Gains}
 use Rattle.turn.specs.Rotation.{rotationOf}
-use Rattle.ledger.specs.Call.{Call, turn, sweep}
+use Rattle.ledger.specs.Call.{Call, turn, sweepIn}
 use Rattle.ledger.specs.Ledger.{State, loaded, turnPairs, ledgerStep, ledger}
-use Rattle.ledger.specs.Pairs.{Ordered, Pair, cyclic}
+use Rattle.ledger.specs.Pairs.{Ordered, Pair}
+use Rattle.ledger.specs.Order.{pairsIn}
 use Rattle.ledger.specs.Refusal.{refusalOf}
+use Rattle.ledger.specs.declared.Order.{Order}
 
 -- the turn that the choice rule picks for a pair of the ledger's matrix B, if it picks one, gains
 abbrev pub PairGains : State → Pair → Type 0
@@ -21,7 +23,7 @@ PairGains s pair =
 -- the calls that turn, and their pairs in order, on n channels
 pub data Turning (n : ℕ) : Call → List Pair → Type 0 where
   by-turn : (p q : ℕ) → Turning n (turn p q) (record { p = p - 1; q = q - 1 } ∷ [])
-  by-sweep : Turning n sweep (cyclic n)
+  by-sweep : (order : Order) → Turning n (sweepIn order) (pairsIn order n)
 
 -- a call that turns the pairs
 pub record CallGains (s : State) (call : Call) (pairs : List Pair) : Type 0 where

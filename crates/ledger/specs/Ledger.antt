@@ -12,8 +12,9 @@ use Rattle.choice.specs.Choice.{choose}
 use Rattle.choice.specs.declared.Choice.{Choice}
 use Rattle.choice.specs.declared.Choice.the-variants.{NoTurn, Turn}
 use Rattle.integer.specs.Matrix.{Matrix, diagonal, product, matrixOf}
-use Rattle.ledger.specs.Call.{Call, load, turn, sweep, loosePair, axis}
-use Rattle.ledger.specs.Pairs.{Pair, cyclic}
+use Rattle.ledger.specs.Call.{Call, load, turn, sweepIn, loosePair, axis}
+use Rattle.ledger.specs.Order.{pairsIn}
+use Rattle.ledger.specs.Pairs.{Pair}
 use Rattle.ledger.specs.Refusal.{refusalUnder}
 
 -- 'Once loaded it has n, A, a matrix B, axes V, m and Q'; V is `axes`, and Q is P / D in whole numbers
@@ -74,8 +75,8 @@ unfoldable pub accepted : Ledger → Call → Ledger
 accepted g (load n numbers) = loaded (loadedState n numbers)
 accepted empty (turn p q) = empty
 accepted (loaded s) (turn p q) = loaded (turnPair s (record { p = p - 1; q = q - 1 }))
-accepted empty sweep = empty
-accepted (loaded s) sweep = loaded (turnPairs s (cyclic (s .n)))
+accepted empty (sweepIn order) = empty
+accepted (loaded s) (sweepIn order) = loaded (turnPairs s (pairsIn order (s .n)))
 accepted g (loosePair t) = g
 accepted g (axis i) = g
 

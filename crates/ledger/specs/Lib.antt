@@ -1,6 +1,9 @@
 pub mod Call
 pub mod Refusal
 pub mod Pairs
+pub mod Tournament
+pub mod Order
+pub mod Once
 pub mod Ledger
 pub mod Near
 pub mod Gain

@@ -23,3 +23,8 @@ cyclic n = rowsFrom 0 (n - 1)
 pub record Ordered (n : ℕ) (pair : Pair) : Type 0 where
   pub ordered : pair .p < pair .q
   pub within : pair .q < n
+
+-- of every pair of a list
+unfoldable pub Each : ℕ → List Pair → Type 0
+Each n [] = Unit
+Each n (pair ∷ pairs) = Ordered n pair × Each n pairs

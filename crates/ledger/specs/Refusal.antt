@@ -7,7 +7,7 @@ use lib.IntN.{ℤ, pos, negsuc, natAbs}
 use lib.ListN.{length}
 use Rattle.integer.specs.Matrix.{Matrix, matrixOf}
 use Rattle.integer.specs.Range.{all}
-use Rattle.ledger.specs.Call.{Call, load, turn, sweep, loosePair, axis}
+use Rattle.ledger.specs.Call.{Call, load, turn, sweepIn, loosePair, axis}
 use Rattle.limits.specs.Limits.{entryLimit, leastChannels, mostChannels, toleranceLimit, turnLimit}
 
 unfoldable pub equal : ℤ → ℤ → Bool
@@ -38,7 +38,7 @@ refusalUnder limit n m (load k numbers) =
     (unless (symmetric k (matrixOf k numbers)) 7 0)))
 refusalUnder limit n m (turn p q) =
     unless (ltb 0 n) 10 (unless (leb 1 p && (ltb p q && leb q n)) 9 (unless (ltb m turnLimit) 11 0))
-refusalUnder limit n m sweep = unless (ltb 0 n) 10 (unless (leb (m + n * (n - 1) / 2) turnLimit) 11 0)
+refusalUnder limit n m (sweepIn order) = unless (ltb 0 n) 10 (unless (leb (m + n * (n - 1) / 2) turnLimit) 11 0)
 refusalUnder limit n m (loosePair t) = unless (ltb 0 n) 10 (unless (leb t toleranceLimit) 2 0)
 refusalUnder limit n m (axis i) = unless (ltb 0 n) 10 (unless (leb 1 i && leb i n) 9 0)
 

@@ -2,6 +2,8 @@ pub mod Order
 pub mod Axis
 pub mod Accepted
 pub mod Cyclic
+pub mod Tournament
+pub mod Orders
 pub mod Near
 pub mod Sound
 pub mod Loaded

@@ -1,1 +1,6 @@
-// Theory only: everything is in specs/.
+// The order of a sweep's pairs. Everything else of this crate is theory, in specs/.
+
+pub enum Order {
+    Cyclic,
+    Tournament,
+}

@@ -14,7 +14,8 @@ use Rattle.integer.specs.laws.Range.{below, from-each}
 use Rattle.limits.specs.Limits.{entryLimit, turnLimit}
 use Rattle.integer.specs.Matrix.{Matrix, matrixOf}
 use Rattle.integer.specs.Matrix.{Symmetric}
-use Rattle.ledger.specs.Call.{Call, load, turn, sweep, loosePair, axis}
+use Rattle.ledger.specs.Call.{Call, load, turn, sweepIn, loosePair, axis}
+use Rattle.ledger.specs.declared.Order.{Order}
 use Rattle.ledger.specs.Refusal.{equal, symmetric, entriesWithin, unless, refusalOf, refusalUnder}
 
 -- 'Load: 5, 6, 8, 7': none of them
@@ -94,7 +95,7 @@ module _ (limit larger : ℕ) (h : limit ≤ larger) where
       later-only (leb 2 k && leb k 8) 5 _ _
       (later-only (eqb (length numbers) (k * k)) 6 _ _ (entries-only numbers (unless (symmetric k (matrixOf k numbers)) 7 0))) e
   accepted-under n m (turn p q) e = e
-  accepted-under n m sweep e = e
+  accepted-under n m (sweepIn order) e = e
   accepted-under n m (loosePair t) e = e
   accepted-under n m (axis i) e = e
 
@@ -131,11 +132,16 @@ turn-accepted n m p q e =
     }
 
 -- 'sweep with m + n(n−1)/2 > 448': not so
-pub sweep-accepted : (n m : ℕ) → refusalOf n m sweep ≡ 0 → m + n * (n - 1) / 2 ≤ turnLimit
+pub sweep-accepted : (n m : ℕ) (order : Order) → refusalOf n m (sweepIn order) ≡ 0 → m + n * (n - 1) / 2 ≤ turnLimit
 unfolding refusalUnder
-sweep-accepted n m e =
+sweep-accepted n m order e =
     let held = passed (ltb 0 n) 10 _ e (omega arith) in
     leb→le (m + n * (n - 1) / 2) turnLimit (passed (leb (m + n * (n - 1) / 2) turnLimit) 11 _ (held .1) (omega arith) .0)
+
+-- 'no matrix loaded': not so
+pub sweep-held : (n m : ℕ) (order : Order) → refusalOf n m (sweepIn order) ≡ 0 → 1 ≤ n
+unfolding refusalUnder
+sweep-held n m order e = ltb→lt 0 n (passed (ltb 0 n) 10 _ e (omega arith) .0)
 
 -- an axis, from 1 to n
 pub record Names (n i : ℕ) : Type 0 where

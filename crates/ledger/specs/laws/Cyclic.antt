@@ -5,12 +5,7 @@ use Prim.Native.Nat.{ℕ, zero, suc, _+_, _-_, _*_, _/_, _<_, _≤_}
 use native.Mathlib.Nat.{div-eq-of-eq-mul-right}
 use native.Mathlib.Omega.{arith}
 use lib.ListN.{length, length-append}
-use Rattle.ledger.specs.Pairs.{Pair, row, rowsFrom, cyclic, Ordered}
-
--- of every pair of a list
-unfoldable pub Each : ℕ → List Pair → Type 0
-Each n [] = Unit
-Each n (pair ∷ pairs) = Ordered n pair × Each n pairs
+use Rattle.ledger.specs.Pairs.{Pair, row, rowsFrom, cyclic, Each}
 
 pub each-++ : (n : ℕ) (xs ys : List Pair) → Each n xs → Each n ys → Each n (xs ++ ys)
 unfolding Each

@@ -1,6 +1,7 @@
 -- Every turn of every list of calls gains: the ledger's matrix is symmetric after every list of calls, and stays so from pair to pair.
 use mathlib.Core.Path.{_≡_}
 use mathlib.Core.List.{List, [], _∷_, _++_}
+use Prim.Native.Nat.{_≤_}
 use native.Mathlib.Omega.{arith}
 use Rattle.integer.specs.Matrix.{Symmetric}
 use Rattle.choice.specs.Choice.{choose}
@@ -11,8 +12,8 @@ use Rattle.turn.specs.laws.Symmetry.{turned-symmetric}
 use Rattle.turn.specs.laws.Gain.{gains}
 use Rattle.ledger.specs.laws.Accepted.{turn-accepted}
 use Rattle.ledger.specs.Call.{Call}
-use Rattle.ledger.specs.laws.Cyclic.{Each, cyclic-pairs}
-use Rattle.ledger.specs.Pairs.{Ordered}
+use Rattle.ledger.specs.laws.Orders.{each-in}
+use Rattle.ledger.specs.Pairs.{Ordered, Each}
 use Rattle.ledger.specs.Gain.{PairGains, Turning, by-turn, by-sweep, StateGains, Gains-always}
 use Rattle.ledger.specs.laws.Invariant.{turnPair-continues, SoundLedger, sound}
 use Rattle.ledger.specs.Ledger.{State, loaded, take, turnPair, turnPairs, accepted, sizeOf, turnsOf, ledgerStep, ledgerStepUnder}
@@ -43,29 +44,30 @@ pairs-gain s h (first ∷ before) pair after e =
     pairs-gain (turnPair s first) (pair-mirrored s h first (e .0)) before pair after (rw (turnPair-continues s first .size) (e .1))
 
 -- the pairs of an accepted call
-turning-each : (s : State) (call : Call) (pairs : List Pair) → Turning (s .n) call pairs → refusalOf (s .n) (s .m) call ≡ 0 → Each (s .n) pairs
+turning-each : (s : State) (call : Call) (pairs : List Pair) → s .n ≤ 8 → Turning (s .n) call pairs → refusalOf (s .n) (s .m) call ≡ 0 →
+    Each (s .n) pairs
 unfolding Each
-turning-each s call pairs (by-turn p q) e =
+turning-each s call pairs b (by-turn p q) e =
     let turns = turn-accepted (s .n) (s .m) p q e in
     (record { ordered = omega arith; within = omega arith }, tt)
-turning-each s call pairs by-sweep e = cyclic-pairs (s .n)
+turning-each s call pairs b (by-sweep order) e = each-in order (s .n) b
 
 turning-done : (s : State) (call : Call) (pairs : List Pair) → Turning (s .n) call pairs → refusalOf (s .n) (s .m) call ≡ 0 →
     ledgerStep (loaded s) call ≡ loaded (turnPairs s pairs)
 unfolding ledgerStepUnder accepted sizeOf turnsOf turnPairs
 turning-done s call pairs (by-turn p q) e = rw e
-turning-done s call pairs by-sweep e = rw e
+turning-done s call pairs (by-sweep order) e = rw e
 
-state-gains : (s : State) → Mirrored s → StateGains s
-state-gains s h = record {
+state-gains : (s : State) → s .n ≤ 8 → Mirrored s → StateGains s
+state-gains s b h = record {
   pairs = pair-gains s h;
   calls = λ call pairs t e. record {
     done = turning-done s call pairs t e;
-    gain = λ before pair after same. pairs-gain s h before pair after (rw same at (turning-each s call pairs t e));
+    gain = λ before pair after same. pairs-gain s h before pair after (rw same at (turning-each s call pairs b t e));
   };
 }
 
 -- For every list of calls; nothing is assumed of it
 pub gains-always : Gains-always
 unfolding SoundLedger
-gains-always calls s e = let sound-state = rw e at (sound calls) in state-gains s (sound-state .symmetric)
+gains-always calls s e = let sound-state = rw e at (sound calls) in state-gains s (sound-state .high) (sound-state .symmetric)

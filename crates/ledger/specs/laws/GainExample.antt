@@ -1,11 +1,13 @@
--- `Gains-always` speaks of more than the empty list: of the state after a load.
+-- `Gains-always` speaks of more than the empty list: of the state after a load, and of a sweep of either order.
 use mathlib.Core.Path.{_≡_, refl}
 use mathlib.Core.List.{List, [], _∷_}
 use lib.IntN.{ℤ, pos}
 use Rattle.integer.specs.Matrix.{matrixOf}
-use Rattle.ledger.specs.Call.{load}
-use Rattle.ledger.specs.Gain.{StateGains}
+use Rattle.ledger.specs.Call.{load, sweepIn}
+use Rattle.ledger.specs.Gain.{CallGains, StateGains, by-sweep}
 use Rattle.ledger.specs.Ledger.{loaded, loadedState, accepted, sizeOf, turnsOf, ledgerStepUnder, ledgerFromUnder, ledger}
+use Rattle.ledger.specs.Order.{pairsIn}
+use Rattle.ledger.specs.declared.Order.{Order}
 use Rattle.ledger.specs.Refusal.{equal, entriesWithin, refusalUnder, symmetric}
 use Rattle.ledger.specs.laws.Gain.{gains-always}
 
@@ -19,3 +21,8 @@ after-load = refl
 
 pub gains-after-load : StateGains (loadedState 2 numbers)
 gains-after-load = gains-always (load 2 numbers ∷ []) (loadedState 2 numbers) after-load
+
+-- a sweep of either order is among the calls that it speaks of
+pub sweeps-gain : (order : Order) → CallGains (loadedState 2 numbers) (sweepIn order) (pairsIn order 2)
+unfolding refusalUnder loadedState
+sweeps-gain order = gains-after-load .calls (sweepIn order) (pairsIn order 2) (by-sweep order) refl

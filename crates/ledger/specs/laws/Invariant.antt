@@ -13,13 +13,14 @@ use Rattle.choice.specs.Choice.{choose}
 use Rattle.choice.specs.declared.Choice.{Choice}
 use Rattle.choice.specs.declared.Choice.the-variants.{NoTurn, Turn}
 use Rattle.ledger.specs.laws.Accepted.{accepted-under, load-accepted, turn-accepted, sweep-accepted}
-use Rattle.ledger.specs.Call.{Call, load, turn, sweep, loosePair, axis}
-use Rattle.ledger.specs.laws.Cyclic.{Each, cyclic-pairs, cyclic-length}
+use Rattle.ledger.specs.Call.{Call, load, turn, sweepIn, loosePair, axis}
+use Rattle.ledger.specs.laws.Orders.{each-in, length-in}
 use Rattle.ledger.specs.Ledger.{State, Ledger, empty, loaded, take, turnPair, turnPairs, accepted, sizeOf, turnsOf}
 use Rattle.ledger.specs.Ledger.{ledgerStepUnder, ledgerFromUnder}
 use Rattle.ledger.specs.Ledger.{ledger}
 use Rattle.ledger.specs.laws.Loaded.{sound-load}
-use Rattle.ledger.specs.Pairs.{Pair, cyclic}
+use Rattle.ledger.specs.Order.{pairsIn}
+use Rattle.ledger.specs.Pairs.{Pair, Each}
 use Rattle.ledger.specs.Refusal.{refusalOf, refusalUnder}
 use Rattle.ledger.specs.laws.Sound.{Sound}
 use Rattle.ledger.specs.laws.Turned.{sound-turn}
@@ -69,10 +70,11 @@ sound-accepted empty (turn p q) h e = h
 sound-accepted (loaded s) (turn p q) h e =
     let turns = turn-accepted (s .n) (s .m) p q e in
     sound-turn s (record { p = p - 1; q = q - 1 }) h (record { ordered = omega arith; within = omega arith }) (turns .left)
-sound-accepted empty sweep h e = h
-sound-accepted (loaded s) sweep h e =
+sound-accepted empty (sweepIn order) h e = h
+sound-accepted (loaded s) (sweepIn order) h e =
     let some-channel : 1 ≤ s .n = omega (arith, h .low) in
-    sound-sweep s (cyclic (s .n)) h (cyclic-pairs (s .n)) (omega (arith, cyclic-length (s .n) some-channel, sweep-accepted (s .n) (s .m) e))
+    sound-sweep s (pairsIn order (s .n)) h (each-in order (s .n) (h .high))
+    (omega (arith, length-in order (s .n) some-channel (h .high), sweep-accepted (s .n) (s .m) order e))
 sound-accepted g (loosePair t) h e = h
 sound-accepted g (axis i) h e = h
 
