@@ -1,10 +1,11 @@
-//! Document 01's bench cards 1 to 12 and its printed example, the orders of its refusals, and document 02's loose pair.
+//! Document 01's bench cards 1 to 12 and its printed example, the orders of its refusals, and document 02's loose pair and tournament sweep.
 
 use crate::calls::play;
 use crate::choice::{choose, Choice};
 use crate::examples::{KEEPS_TURNING, PRINTED};
 use crate::job;
 use crate::matrix::Matrix;
+use crate::pairs;
 use crate::record::{Record, AXIS_ONE, REFUSED_LIMIT, TURN_LIMIT, UNITS};
 use crate::report::{axes_program, report_into, table_program, Denied, Outcome};
 use crate::rounding::rnd;
@@ -295,6 +296,7 @@ fn calls_are_refused_in_their_order() {
     let mut record = Record::fresh();
     assert_eq!(record.turn(0, 0), Err(10));
     assert_eq!(record.sweep(), Err(10));
+    assert_eq!(record.tournament_sweep(), Err(10));
     assert_eq!(record.loose_pair(-1), Err(10));
     assert_eq!(record.axis(0), Err(10));
     assert_eq!(record.load(1, &[]), Err(5));
@@ -302,7 +304,7 @@ fn calls_are_refused_in_their_order() {
     assert_eq!(record.load(2, &[0, 1, 2_000_000]), Err(6));
     assert_eq!(record.load(2, &[0, 1, 2, 2_097_153]), Err(8));
     assert_eq!(record.load(2, &[0, 1, 2, -2_097_152]), Err(7));
-    assert_eq!(record.refused(), 9);
+    assert_eq!(record.refused(), 10);
     assert_eq!(record.load(2, &[0, 1, 1, -2_097_152]), Ok(()));
     assert_eq!(
         record.kept().unwrap().v.numbers(),
@@ -316,7 +318,7 @@ fn calls_are_refused_in_their_order() {
     assert_eq!(record.loose_pair(1_048_577), Err(2));
     assert_eq!(record.loose_pair(-1), Err(2));
     assert_eq!(record.axis(3), Err(9));
-    assert_eq!((record.kept(), record.refused()), (before.as_ref(), 16));
+    assert_eq!((record.kept(), record.refused()), (before.as_ref(), 17));
     assert_eq!(record.loose_pair(1023), Ok(Some((1, 2))));
     assert_eq!(record.loose_pair(1024), Ok(None));
 }
@@ -383,6 +385,100 @@ fn turns_are_used_up_at_448() {
     assert_eq!(record.axis(1).unwrap().row.len(), 8);
 }
 
+/// Document 02, W10: "It is refused as the cyclic sweep is". Sweeps of both orders and single turns until just so many are made: with 28 left of
+/// 448 a sweep of 28 pairs is not refused, with 27 it is, and the record keeps its matrix.
+#[test]
+fn a_tournament_sweep_is_refused_11_as_the_cyclic_one() {
+    let m = |record: &Record| record.kept().unwrap().m;
+    for made in [420, 421] {
+        let mut record = Record::fresh();
+        record.load(8, &KEEPS_TURNING).unwrap();
+        while m(&record) + 56 <= made {
+            let before = m(&record);
+            let turns = record.sweep().unwrap() + record.tournament_sweep().unwrap();
+            assert_eq!(m(&record), before + turns);
+        }
+        let pairs = (1..=8).flat_map(|p| (p + 1..=8).map(move |q| (p, q)));
+        for (p, q) in pairs.cycle().take(2000) {
+            if m(&record) < made {
+                record.turn(p, q).unwrap();
+            }
+        }
+        assert_eq!(m(&record), made);
+        let before = record.clone();
+        if made == 420 {
+            let turns = record.tournament_sweep().unwrap();
+            assert_eq!(m(&record), 420 + turns);
+        } else {
+            assert_eq!(record.tournament_sweep(), Err(11));
+            assert_eq!(record.sweep(), Err(11));
+            assert_eq!((record.kept(), record.refused()), (before.kept(), 2));
+        }
+    }
+}
+
+/// By hand, over 7225 = 25 × 289, so that no entry is rounded. Three channels are turned in the order (1,2), (2,3), (1,3).
+/// (1,2): a_12 = 0, no turn. (2,3): equal diagonal, so l = 1, f = −1, c/N = 3/5, s/N = −4/5. With k = 289 it gives a_12 = −20k, a_13 = 15k,
+/// a_22 = −24k, a_23 = −7k, a_33 = 24k, from a_13 = a_23 = 25k. (1,3): y = 30k, g = 24k, so l = 2, f = −1, c/N = 15/17, s/N = −8/17. It gives
+/// a_12 = −244 × 17 = −4148, a_23 = −265 × 17 = −4505, a_11 = −2064, a_13 = −465, a_33 = 9000. Two turns add 7 units to each error.
+#[test]
+fn a_tournament_sweep_by_hand() {
+    let mut record = Record::fresh();
+    let rows = [[0, 0, 7225], [0, 0, 7225], [7225, 7225, 0]];
+    record.load(3, &rows.concat()).unwrap();
+    assert_eq!(record.tournament_sweep(), Ok(2));
+    let kept = record.kept().unwrap();
+    let entries = [
+        [-2064, -4148, -465],
+        [-4148, -6936, -4505],
+        [-465, -4505, 9000],
+    ];
+    assert_eq!(
+        kept.a.numbers(),
+        entries
+            .concat()
+            .iter()
+            .map(|entry| entry * UNITS)
+            .collect::<Vec<_>>()
+    );
+    // Rows of v: 3/5 and 4/5 of 2^30 are 644245094.4 and 858993459.2; then 15/17 and 8/17 of the rounded ones.
+    assert_eq!(
+        kept.v.numbers(),
+        [
+            [947_419_256, -404_232_216, -303_174_162],
+            [0, 644_245_094, -858_993_459],
+            [505_290_270, 757_935_405, 568_451_554],
+        ]
+        .concat()
+    );
+    assert_eq!(record.axis(1).unwrap().r_i, (4148 + 465) * UNITS + 7);
+    // The cyclic sweep takes (1,3) before (2,3), and comes to another matrix.
+    let mut other = Record::fresh();
+    other.load(3, &rows.concat()).unwrap();
+    other.sweep().unwrap();
+    assert_ne!(other.kept().unwrap().a, record.kept().unwrap().a);
+}
+
+/// A sweep is its pairs, each done as a turn, in its own order; for two channels both orders are the one pair.
+#[test]
+fn a_tournament_sweep_is_the_turns_of_its_pairs() {
+    for n in 2..=8 {
+        let rows = |i: usize, j: usize| KEEPS_TURNING[8 * (i - 1) + (j - 1)];
+        let matrix = Matrix::by_rule(n, rows);
+        let mut swept = Record::fresh();
+        swept.load(n as i128, matrix.numbers()).unwrap();
+        let mut turned = swept.clone();
+        for _ in 0..4 {
+            let made = pairs::tournament(n)
+                .into_iter()
+                .filter(|&(p, q)| turned.turn(p as i128, q as i128).unwrap())
+                .count();
+            assert_eq!(swept.tournament_sweep(), Ok(made as i128));
+            assert_eq!(swept, turned);
+        }
+    }
+}
+
 /// V A Vᵀ, in units, lies near the kept matrix after any calls.
 #[test]
 fn the_kept_axes_turn_the_loaded_matrix_into_the_kept_one() {
@@ -392,8 +488,13 @@ fn the_kept_axes_turn_the_loaded_matrix_into_the_kept_one() {
         let loaded = table(job.n, &job.samples).entries;
         let mut record = Record::fresh();
         record.load(job.n as i128, loaded.numbers()).unwrap();
-        for _ in 0..job.sweep_limit {
-            record.sweep().unwrap();
+        // Lists that mix the two orders.
+        for number in 0..job.sweep_limit {
+            if (seed >> (number % 8)) & 1 == 0 {
+                record.sweep().unwrap();
+            } else {
+                record.tournament_sweep().unwrap();
+            }
         }
         let kept = record.kept().unwrap();
         let product = |x: &Matrix, y: &Matrix| {
@@ -441,6 +542,10 @@ fn a_text_of_calls_is_played_to_its_first_line_that_is_no_call() {
         "W \n",
         "W 1\n",
         "w\n",
+        "O",
+        "O \n",
+        "O 1\n",
+        "o\n",
         "L\n",
         "L 2 -0\n",
         "L 2 01\n",
@@ -454,6 +559,15 @@ fn a_text_of_calls_is_played_to_its_first_line_that_is_no_call() {
     ] {
         assert_eq!(played(no_call), "? 1\n", "{no_call:?}");
     }
+}
+
+/// `O` has no numbers; it is answered by `O` and the number of turns, or refused as `X` number count.
+#[test]
+fn a_tournament_sweep_is_a_call() {
+    assert_eq!(
+        played("O\nL 2 50 25 25 50\nO\nA 1\nA 2\nO 0\n"),
+        "X 10 1\nL\nO 1\nA 26624 7172 644245094 -858993459\nA 75776 7172 858993459 644245094\n? 6\n"
+    );
 }
 
 /// "a number that is too long, or negative where the call's argument has a range, is a value out of that range"

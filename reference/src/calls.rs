@@ -11,12 +11,13 @@ pub const MOST_NUMBERS: usize = 4_096;
 const DIGITS: usize = 10;
 const BEYOND: i128 = 9_999_999_999;
 
-/// Document 01, "The record and its calls".
+/// Document 01, "The record and its calls", and document 02's tournament sweep.
 #[derive(Clone, Debug, PartialEq, Eq)]
 pub enum Call {
     Load(i128, Vec<i128>),
     Turn(i128, i128),
     Sweep,
+    TournamentSweep,
     LoosePair(i128),
     Axis(i128),
 }
@@ -58,6 +59,7 @@ fn call(fields: &[&[u8]]) -> Option<Call> {
         (b"L", [n, numbers @ ..]) => Some(Call::Load(*n, numbers.to_vec())),
         (b"T", [p, q]) => Some(Call::Turn(*p, *q)),
         (b"W", []) => Some(Call::Sweep),
+        (b"O", []) => Some(Call::TournamentSweep),
         (b"Q", [t]) => Some(Call::LoosePair(*t)),
         (b"A", [i]) => Some(Call::Axis(*i)),
         _ => None,
@@ -89,6 +91,7 @@ fn answer(record: &mut Record, call: &Call) -> Result<String, Number> {
         }
         Call::Turn(p, q) => tagged("T", &[i128::from(record.turn(*p, *q)?)]),
         Call::Sweep => tagged("W", &[record.sweep()?]),
+        Call::TournamentSweep => tagged("O", &[record.tournament_sweep()?]),
         Call::LoosePair(t) => match record.loose_pair(*t)? {
             Some((p, q)) => tagged("Q", &[p as i128, q as i128]),
             None => line(["Q", "none"]),

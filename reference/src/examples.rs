@@ -55,6 +55,7 @@ pub const CALLS: &[Example] = &[
         calls_of_length(calls::TEXT_LIMIT + 1)
     }),
     example("pairs", every_pair),
+    example("tournament", tournament),
 ];
 
 /// Document 01's printed example, blanks for tabs.
@@ -64,7 +65,8 @@ pub const PRINTED: &str = "P 2 1 0\nS 1 0 0\nS 5 1 0\nS 1 5 5\nE 3\n";
 const REFUSED: &str = "W\nT 1 2\nT 2 1\nQ 0\nQ 1048577\nA 1\nA 0\nL 1 5\nL 9\nL 0\nL 2 1 2 3\nL 2 1 2 3 4 5\nL 2\n\
 L 2 2097153 0 0 1\nL 2 -2097153 0 0 1\nL 2 1 2 3 1\nL 9 2097153\nL 2 2097153 2 3\nL 2 2097153 2 3 1\nL 9999999999 -9999999999\n\
 W\nL 2 50 25 25 50\nQ 25599\nQ 25600\nQ 1048576\nQ 1048577\nQ 9999999999\nT 1 1\nT 2 1\nT 0 1\nT 1 3\nT 0 0\n\
-T 9999999999 9999999999\nA 0\nA 3\nT 1 2\nL 2 1 2 3 1\nA 1\nA 2\nL 2 0 1 1 1048576\nT 1 2\nW\nQ 1023\nQ 1024\nL 2 2097152 1 1 -2097152\nW\nA 1\nA 2\n";
+T 9999999999 9999999999\nA 0\nA 3\nT 1 2\nL 2 1 2 3 1\nA 1\nA 2\nL 2 0 1 1 1048576\nT 1 2\nW\nQ 1023\nQ 1024\n\
+L 2 2097152 1 1 -2097152\nW\nA 1\nA 2\n";
 
 /// A matrix on which rounding keeps pairs turning.
 #[rustfmt::skip]
@@ -212,9 +214,55 @@ fn used_up() -> Vec<u8> {
     tabs(&(lines + "L 2 2 1 1 2\nT 1 2\nW\nA 1\n"))
 }
 
+/// Sweeps in tournament order of 2, 3, 5 and 8 channels, blanks for tabs: 10 before the load, the axes after each, then both orders in turn. The
+/// second matrix is the one of the hand-checked test.
+const TOURNAMENTS: &str = "O\nL 2 50 25 25 50\nO\nA 1\nA 2\nO\nL 3 0 0 7225 0 0 7225 7225 7225 0\nO\nA 1\nA 2\nA 3\n\
+L 3 0 0 7225 0 0 7225 7225 7225 0\nW\nA 1\nA 2\nA 3\nL 5 1 2 3 4 5 2 6 7 8 9 3 7 10 11 12 4 8 11 13 14 5 9 12 14 15\nO\nA 1\nA 2\nA 3\nA 4\nA 5\n\
+W\nO\nO\nW\nA 1\nA 2\nA 3\nA 4\nA 5\nQ 0\n";
+
+/// Those, then 8 channels at both sides of "11 .. sweep with m + n(n−1)/2 > 448": a tournament sweep with 28 turns left, and sweeps of both orders
+/// with 27 left.
+fn tournament() -> Vec<u8> {
+    let mut lines = TOURNAMENTS.to_string();
+    for left in [28, 27] {
+        let mut record = Record::fresh();
+        record.load(8, &KEEPS_TURNING).expect("small numbers");
+        lines += &text::tagged("L", &[&[8], &KEEPS_TURNING[..]].concat());
+        let m = |record: &Record| record.kept().expect("a matrix").m;
+        // Sweeps while another cannot pass the turns wanted, then single turns up to these.
+        let wanted = TURN_LIMIT - left;
+        for tag in ["O", "W", "O"].into_iter().cycle() {
+            if m(&record) + 28 > wanted {
+                break;
+            }
+            lines += &text::line([tag]);
+            match tag {
+                "W" => record.sweep(),
+                _ => record.tournament_sweep(),
+            }
+            .expect("turns enough");
+        }
+        let pairs = (1..=8).flat_map(|p| (p + 1..=8).map(move |q| (p, q)));
+        for (p, q) in pairs.cycle() {
+            if m(&record) == wanted {
+                break;
+            }
+            if record.turn(p, q).expect("turns enough") {
+                lines += &text::tagged("T", &[p, q]);
+            }
+        }
+        lines += if left == 28 { "O\n" } else { "O\nW\nO\n" };
+        for i in 1..=8 {
+            lines += &text::tagged("A", &[i]);
+        }
+    }
+    tabs(&lines)
+}
+
 /// As many bytes of calls as are read.
 pub fn longest_calls() -> Vec<u8> {
-    with_calls([tabs(REFUSED), used_up()].concat(), calls::TEXT_LIMIT, 1)
+    let text = [tabs(REFUSED), used_up(), tournament()].concat();
+    with_calls(text, calls::TEXT_LIMIT, 1)
 }
 
 /// A load of numbers beyond the limit.
@@ -360,7 +408,7 @@ mod tests {
         let lines = text.iter().filter(|&&byte| byte == b'\n').count();
         assert_eq!(answers.lines().count(), lines);
         let expected = [
-            "10", "11", "2", "5", "6", "7", "8", "9", "A", "L", "Q", "T 0", "T 1", "W", "none",
+            "10", "11", "2", "5", "6", "7", "8", "9", "A", "L", "O", "Q", "T 0", "T 1", "W", "none",
         ];
         assert!(kinds(&answers).iter().eq(expected), "{:?}", kinds(&answers));
     }
@@ -378,6 +426,10 @@ mod tests {
         let used_up = of("used_up");
         assert!(used_up.contains("\nX 11 1\nT 1\n") || used_up.contains("\nX 11 1\nT 0\n"));
         assert!(used_up.contains("\nX 11 2\nX 11 3\nX 9 4\nX 9 5\nX 9 6\nX 2 7\n"));
+        let tournament = of("tournament");
+        assert!(tournament.starts_with("X 10 1\nL\nO 1\n"));
+        assert!(tournament.contains("\nX 11 2\nX 11 3\nX 11 4\nA "));
+        assert_eq!(tournament.matches('X').count(), 4);
         assert_eq!(of("empty"), "");
         assert_eq!(of("no_call"), "L\nW 1\n? 3\n");
         assert_eq!(of("no_line_feed"), "L\nW 1\n? 3\n");

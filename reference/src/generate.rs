@@ -6,6 +6,9 @@ use crate::random::Random;
 use crate::record::{Record, ENTRY_LIMIT, TOLERANCE_LIMIT};
 use crate::samples::samples;
 
+/// The tags of both sweeps: cyclic and in tournament order.
+const SWEEPS: [&str; 2] = ["W", "O"];
+
 /// A text as its lines' fields.
 type Lines = Vec<Vec<String>>;
 
@@ -187,7 +190,7 @@ fn any_calls(random: &mut Random) -> Lines {
                 good_load(random, n)
             }
             1 if !careful => refused_load(random),
-            2..=5 => fields("W", &[]),
+            2..=5 => fields(random.pick(&SWEEPS), &[]),
             6..=8 => {
                 let t = if wild {
                     random.pick(&[1_048_576, 1_048_577, 9_999_999_999, 10_000_000_000, -1])
@@ -238,8 +241,13 @@ fn used_up(random: &mut Random) -> Lines {
     record.load(n, matrix.numbers()).expect("small numbers");
     let mut lines = vec![load_fields(n, matrix.numbers())];
     for _ in 0..400 {
-        lines.push(fields("W", &[]));
-        if record.sweep().is_err() {
+        let tag = random.pick(&SWEEPS);
+        lines.push(fields(tag, &[]));
+        let swept = match tag {
+            "W" => record.sweep(),
+            _ => record.tournament_sweep(),
+        };
+        if swept.is_err() {
             break;
         }
     }
@@ -258,6 +266,7 @@ fn used_up(random: &mut Random) -> Lines {
     }
     for tail in [
         &["W"][..],
+        &["O"],
         &["T", "2", "1"],
         &["A", "1"],
         &["A", "0"],
@@ -370,7 +379,9 @@ fn damage_line(random: &mut Random, lines: &mut Lines, line: usize, most_digits:
     match random.between(0, 13) {
         0 => {
             lines[line][0] = random
-                .pick(&["P", "S", "E", "L", "T", "W", "Q", "A", "X", "", "s", "SS"])
+                .pick(&[
+                    "P", "S", "E", "L", "T", "W", "O", "Q", "A", "X", "", "s", "SS",
+                ])
                 .to_string()
         }
         1 if !single => drop(lines[line].remove(place)),

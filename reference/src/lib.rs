@@ -8,6 +8,8 @@ pub mod generate;
 pub mod job;
 pub mod jobs;
 pub mod matrix;
+pub mod orders;
+pub mod pairs;
 mod random;
 pub mod record;
 pub mod report;

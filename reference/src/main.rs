@@ -1,6 +1,6 @@
 //! The reference implementation of Field Axes: its commands.
 
-use reference::{calls, check, generate, job, jobs, report, scatter_vectors, turn_vectors};
+use reference::{calls, check, generate, job, jobs, orders, report, scatter_vectors, turn_vectors};
 use std::env;
 use std::io::{self, Read, Write};
 use std::path::Path;
@@ -10,7 +10,7 @@ const USAGE: &str = "\
 reference axes | calls | table
 reference generate job SEED | generate calls SEED
 reference jobs | jobs names | vectors turns | vectors scatter | vectors jobs
-reference check DIR | store DIR";
+reference check DIR | store DIR | orders";
 
 fn main() -> ExitCode {
     let arguments: Vec<String> = env::args().skip(1).collect();
@@ -40,6 +40,7 @@ fn output(words: &[&str]) -> Option<(Vec<u8>, bool)> {
         ["vectors", "turns"] => turn_vectors::turns().into_bytes(),
         ["vectors", "scatter"] => scatter_vectors::scatter().into_bytes(),
         ["vectors", "jobs"] => jobs::outputs(),
+        ["orders"] => orders::figures().into_bytes(),
         ["check", root] => {
             let (text, same) = check::check(Path::new(root));
             return Some((text.into_bytes(), same));

@@ -1,15 +1,17 @@
-//! Document 01, "The record and its calls", with the refusals 2 and 5 to 11 of its last sections.
+//! Document 01, "The record and its calls", with the refusals 2 and 5 to 11 of its last sections, and document 02's tournament sweep.
 
 use crate::choice::choose;
 use crate::matrix::Matrix;
+use crate::pairs::{self, Pair};
 use crate::turn::turn;
 
 /// Units in one: kept entries are the loaded ones times this.
 pub const UNITS: i128 = 1024;
 /// The diagonal of fresh axes.
 pub const AXIS_ONE: i128 = 1 << 30;
-/// Loaded entries lie within ± this; a tolerance lies from 0 to this.
+/// Loaded entries lie within ± this.
 pub const ENTRY_LIMIT: i128 = 2_097_152;
+/// A tolerance lies from 0 to this.
 pub const TOLERANCE_LIMIT: i128 = 1_048_576;
 pub const TURN_LIMIT: i128 = 448;
 /// The count of refused calls stops here.
@@ -81,15 +83,25 @@ impl Record {
         Ok(made)
     }
 
-    /// **Sweep**. Refusals in the order 10, 11. The answer is how many turns it made.
+    /// **Sweep**, cyclic by row. Refusals in the order 10, 11. The answer is how many turns it made.
     pub fn sweep(&mut self) -> Result<i128, Number> {
+        self.sweep_over(pairs::by_row)
+    }
+
+    /// The tournament sweep (document 02, W10): "It is refused as the cyclic sweep is and answers how many turns it made."
+    pub fn tournament_sweep(&mut self) -> Result<i128, Number> {
+        self.sweep_over(pairs::tournament)
+    }
+
+    /// A sweep of all pairs in an order, each chosen on the matrix as it then stands.
+    fn sweep_over(&mut self, in_order: fn(usize) -> Vec<Pair>) -> Result<i128, Number> {
         let swept = self.loaded().and_then(|kept| {
             let n = kept.a.n() as i128;
             if kept.m + n * (n - 1) / 2 > TURN_LIMIT {
                 return Err(11);
             }
             let mut kept = kept.clone();
-            let made = pairs(kept.a.n())
+            let made = in_order(kept.a.n())
                 .into_iter()
                 .filter(|&(p, q)| kept.turn_if_chosen(p, q))
                 .count();
@@ -101,12 +113,12 @@ impl Record {
     }
 
     /// **Loose pair** t: the first in row order whose entry exceeds t in size (document 02, W2). Refusals in the order 10, 2.
-    pub fn loose_pair(&mut self, t: i128) -> Result<Option<(usize, usize)>, Number> {
+    pub fn loose_pair(&mut self, t: i128) -> Result<Option<Pair>, Number> {
         let found = self.loaded().and_then(|kept| {
             if !(0..=TOLERANCE_LIMIT).contains(&t) {
                 return Err(2);
             }
-            Ok(pairs(kept.a.n())
+            Ok(pairs::by_row(kept.a.n())
                 .into_iter()
                 .find(|&(p, q)| kept.a.at(p, q).abs() > t))
         });
@@ -191,18 +203,11 @@ fn loaded(n: i128, numbers: &[i128]) -> Result<Kept, Number> {
     })
 }
 
-/// The pairs of a sweep in its order: (1,2), (1,3) .. (1,n), (2,3) .. (n−1,n).
-fn pairs(n: usize) -> Vec<(usize, usize)> {
-    (1..=n)
-        .flat_map(|p| (p + 1..=n).map(move |q| (p, q)))
-        .collect()
-}
-
 fn index_within(i: i128, n: usize) -> Option<usize> {
     (1 <= i && i <= n as i128).then_some(i as usize)
 }
 
 /// 1 ≤ p < q ≤ n.
-fn pair_within(p: i128, q: i128, n: usize) -> Option<(usize, usize)> {
+fn pair_within(p: i128, q: i128, n: usize) -> Option<Pair> {
     (p < q).then_some((index_within(p, n)?, index_within(q, n)?))
 }
