@@ -11,6 +11,7 @@ use lib.Dec.{eqb}
 use lib.IntN.{ℤ}
 use borrow.Author.Tests.{eq-eqb, ne-eqb}
 use Rattle.ledger.specs.Call.{loosePair, sweep}
+use Rattle.ledger.specs.declared.Order.the-variants.{Cyclic}
 use Rattle.ledger.specs.laws.Cyclic.{cyclic-length, cyclic-pairs}
 use Rattle.ledger.specs.Pairs.{Pair, cyclic}
 use Rattle.ledger.specs.Refusal.{refusalOf}
@@ -138,7 +139,7 @@ module _ (refused n limit t : ℕ) (some : 1 ≤ n) (sixteen : limit ≤ mostSwe
             workAt a′ v′ made ≡ workPairs n (workAt a v m) (cyclic n) → Going refused n limit t z a′ v′ made (sweeps + 1) (eqb made m)
         sweeps-on i l made a′ v′ w =
             let goes = run-sweeps (limit - sweeps) sweeps t idle now loose i (limit - (sweeps + 1)) (omega (arith, g .within)) in
-            let taken = sweep-taken n m some (remains l) in
+            let taken = sweep-taken n m some Cyclic (remains l) in
             record {
               is = g .is ∙ goes ∙ rw (
                 swept-leaves refused n m a v (g .holds) taken made a′ v′ w,

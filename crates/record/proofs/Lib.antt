@@ -7,6 +7,8 @@ mod Handed
 mod LentCall
 mod LentContract
 pub mod Outcome
+pub mod Orders
+mod Rounds
 mod Parameters
 mod Steps
 pub mod Sweeping

@@ -6,8 +6,7 @@ use native.Mathlib.Omega.{arith}
 use lib.IntN.{natAbs}
 use borrow.Author.Tests.{lt-ltb, le-ltb}
 use Rattle.integer.specs.Matrix.{Matrix}
-use Rattle.ledger.specs.laws.Cyclic.{Each}
-use Rattle.ledger.specs.Pairs.{Pair}
+use Rattle.ledger.specs.Pairs.{Pair, Each}
 use Rattle.record.specs.Loose.{looseOf}
 use Rattle.record.specs.declared.query.Answer.the-variants.{Pair as PairIs}
 

@@ -6,16 +6,19 @@ use lib.Dec.{eqb, ltb}
 use lib.IntN.{ℤ, pos, _*ℤ_}
 use lib.ListN.{replicate}
 use Rattle.ledger.specs.Axis.{errorOf}
-use Rattle.ledger.specs.Call.{Call, load, turn, sweep, loosePair, axis}
+use Rattle.ledger.specs.Call.{Call, load, turn, sweepIn, loosePair, axis}
 use Rattle.limits.specs.Limits.{entryLimit, refusedLimit, units, whole}
+use Rattle.ledger.specs.Order.{pairsIn}
 use Rattle.ledger.specs.Pairs.{cyclic}
+use Rattle.ledger.specs.declared.Order.{Order}
+use Rattle.ledger.specs.declared.Order.the-variants.{Cyclic, Tournament}
 use Rattle.ledger.specs.Refusal.{refusalOf, refusalUnder}
 use Rattle.turn.specs.InUse.{inUse}
 use Rattle.turn.specs.Turn.{at}
 use Rattle.record.specs.Work.{Work, chosen, isTurn, workPair, workPairs}
 use Rattle.record.specs.Loose.{looseOf}
 use Rattle.record.specs.declared.query.Answer.{Answer}
-use Rattle.record.specs.declared.query.Answer.the-variants.{Loaded, Turned, Swept, Axis, Refused}
+use Rattle.record.specs.declared.query.Answer.the-variants.{Loaded, Turned, Swept, TournamentSwept, Axis, Refused}
 use Rattle.integer.specs.Matrix.{diagonal, matrixOf}
 use Rattle.record.specs.Flat.{keptEntry, entriesOf, rowsOf, flatOf}
 use Rattle.record.specs.declared.Record.{Record}
@@ -55,14 +58,14 @@ unfoldable pub turnedOf : Record → ℕ → ℕ → Record
 turnedOf r p q = workedOf r (workPair (r .n) (workOf r) (record { p = p - 1; q = q - 1 }))
 
 -- Sweep: the pairs in their order, each chosen on the matrix as it then stands
-unfoldable pub sweptOf : Record → Record
-sweptOf r = workedOf r (workPairs (r .n) (workOf r) (cyclic (r .n)))
+unfoldable pub sweptOf : Record → Order → Record
+sweptOf r order = workedOf r (workPairs (r .n) (workOf r) (pairsIn order (r .n)))
 
 -- the record after a call
 unfoldable pub acceptedOf : Record → Call → Record
 acceptedOf r (load n numbers) = loadedRecord r n numbers
 acceptedOf r (turn p q) = turnedOf r p q
-acceptedOf r sweep = sweptOf r
+acceptedOf r (sweepIn order) = sweptOf r order
 acceptedOf r (loosePair t) = r
 acceptedOf r (axis i) = r
 
@@ -74,11 +77,16 @@ afterOfUnder limit r call = cond (eqb (refusalUnder limit (r .n) (r .m) call) 0)
 abbrev pub afterOf : Record → Call → Record
 afterOf = afterOfUnder entryLimit
 
+-- how many turns a sweep made
+abbrev pub sweptIn : Order → ℕ → Answer
+sweptIn Cyclic made = Swept made
+sweptIn Tournament made = TournamentSwept made
+
 -- The answer: whether a turn was made, how many a sweep made, a pair or none, a_ii and its error r_i
 unfoldable pub valueOf : Record → Call → Answer
 valueOf r (load n numbers) = Loaded
 valueOf r (turn p q) = Turned (isTurn (chosen (workOf r) (record { p = p - 1; q = q - 1 })))
-valueOf r sweep = Swept (sweptOf r .m - r .m)
+valueOf r (sweepIn order) = sweptIn order (sweptOf r order .m - r .m)
 valueOf r (loosePair t) = looseOf (keptEntry (r .a)) t (cyclic (r .n))
 valueOf r (axis i) = Axis (keptEntry (r .a) (i - 1) (i - 1)) (errorOf (r .n) (keptEntry (r .a)) (r .m) (i - 1))
 

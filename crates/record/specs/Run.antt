@@ -10,13 +10,14 @@ use Rattle.record.specs.declared.run.Outcome.the-variants.{Settled, Stil
 use Rattle.record.specs.declared.Record.{Record}
 use Rattle.record.specs.declared.run.Run.{Run}
 use Rattle.record.specs.declared.query.Answer.{Answer}
-use Rattle.record.specs.declared.query.Answer.the-variants.{Loaded, Turned, Swept, Pair, NoPair, Axis, Refused}
+use Rattle.record.specs.declared.query.Answer.the-variants.{Loaded, Turned, Swept, TournamentSwept, Pair, NoPair, Axis, Refused}
 
 -- a loose-pair call answers none
 unfoldable pub noPair : Answer → Bool
 noPair Loaded = false
 noPair (Turned made) = false
 noPair (Swept made) = false
+noPair (TournamentSwept made) = false
 noPair (Pair p q) = false
 noPair NoPair = true
 noPair (Axis entry error) = false
@@ -27,6 +28,7 @@ unfoldable pub noTurn : Answer → Bool
 noTurn Loaded = false
 noTurn (Turned made) = false
 noTurn (Swept made) = eqb made 0
+noTurn (TournamentSwept made) = false
 noTurn (Pair p q) = false
 noTurn NoPair = false
 noTurn (Axis entry error) = false

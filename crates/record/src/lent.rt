@@ -1,6 +1,6 @@
-// Document 01, 'The bench keeps one record through the day': the five calls on a record lent by `&mut`. Each answers as the call by value does,
+// Document 01, 'The bench keeps one record through the day': the calls on a record lent by `&mut`. Each answers as the call by value does,
 // and leaves that call's record.
-ghost use Rattle.ledger.specs.Call.{load, sweep, turn};
+ghost use Rattle.ledger.specs.Call.{load, sweep, tournamentSweep, turn};
 ghost use Rattle.record.specs.Done.{AxisDone, Done, LooseDone};
 ghost use Rattle.record.specs.Kept.{Kept};
 use crate::Answer;
@@ -32,6 +32,16 @@ pub fn sweep(r: &mut Record) -> Answer
     ensures { λ z. ⌜ Done (now (r .entry)) sweep z (now (r .exit)) ⌝ }
 {
     let done = (*r).sweep();
+    let next = done.next;
+    *r = next;
+    done.answer
+}
+
+pub fn tournament_sweep(r: &mut Record) -> Answer
+    requires { ⌜ Kept (now r) ⌝ }
+    ensures { λ z. ⌜ Done (now (r .entry)) tournamentSweep z (now (r .exit)) ⌝ }
+{
+    let done = (*r).tournament_sweep();
     let next = done.next;
     *r = next;
     done.answer

@@ -1,5 +1,6 @@
 // The record and its calls: one matrix with its axes, the turns made of it, and the count of refused calls.
-ghost use Rattle.ledger.specs.Call.{axis, load, sweep, turn};
+use ledger::Order;
+ghost use Rattle.ledger.specs.Call.{axis, load, sweep, sweepIn, tournamentSweep, turn};
 ghost use Rattle.record.specs.declared.query.Answer.the-variants.{Refused};
 ghost use Rattle.record.specs.Worked.{workAt};
 ghost use Rattle.record.specs.Done.{AxisDone, Done, Fresh, LooseDone};
@@ -174,6 +175,21 @@ impl Record {
         requires { ⌜ Kept self ⌝ }
         ensures { λ z. ⌜ Done self sweep (z .answer) (z .next) ⌝ }
     {
+        self.sweep_in(Order::Cyclic)
+    }
+
+    // Document 02, W10: the sweep in tournament order.
+    pub fn tournament_sweep(self) -> Step
+        requires { ⌜ Kept self ⌝ }
+        ensures { λ z. ⌜ Done self tournamentSweep (z .answer) (z .next) ⌝ }
+    {
+        self.sweep_in(Order::Tournament)
+    }
+
+    fn sweep_in(self, order: Order) -> Step
+        requires { ⌜ Kept self ⌝ }
+        ensures { λ z. ⌜ Done self (sweepIn order) (z .answer) (z .next) ⌝ }
+    {
         let n = self.n;
         let m = self.m;
         let number = sweep::sweep_refusal(n, m);
@@ -182,9 +198,9 @@ impl Record {
         }
         let mut matrix = rows::unpacked(&self.a);
         let mut axes = rows::unpacked(&self.v);
-        let made = sweep::work_pairs(&mut matrix, &mut axes, n, m);
+        let made = sweep::work_pairs(&mut matrix, &mut axes, n, m, order);
         Step {
-            answer: Answer::Swept(made - m),
+            answer: sweep::swept(order, made - m),
             next: self.with_rows(matrix, axes, made),
         }
     }

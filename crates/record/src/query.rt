@@ -19,6 +19,7 @@ pub enum Answer {
     Loaded,
     Turned(bool),
     Swept(u64),
+    TournamentSwept(u64),
     Pair { p: usize, q: usize },
     NoPair,
     Axis { entry: i64, error: u64 },

@@ -10,6 +10,7 @@ use crate::Record;
 use crate::query;
 use crate::query::Answer;
 use crate::sweep;
+use ledger::Order;
 
 // How a run ends.
 pub enum Outcome {
@@ -82,7 +83,7 @@ pub(crate) fn run_rows(
             };
         }
         sweeps += 1;
-        let made = sweep::work_pairs(matrix, axes, n, m);
+        let made = sweep::work_pairs(matrix, axes, n, m, Order::Cyclic);
         idle = made == m;
         m = made;
     }

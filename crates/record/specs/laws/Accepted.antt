@@ -8,9 +8,10 @@ use lib.IntN.{ℤ}
 use lib.Ieee.Bits.{is-true}
 use borrow.Author.Tests.{eq-eqb, le-leb, lt-ltb}
 use Rattle.ledger.specs.laws.Accepted.{Loads, symmetric-of}
-use Rattle.ledger.specs.Call.{Call, load, loosePair, sweep}
+use Rattle.ledger.specs.Call.{Call, load, loosePair, sweepIn}
 use Rattle.limits.specs.laws.Channels.{pairs-twice}
 use Rattle.limits.specs.Limits.{toleranceLimit, turnLimit}
+use Rattle.ledger.specs.declared.Order.{Order}
 use Rattle.ledger.specs.Refusal.{refusalOf, refusalUnder, symmetric}
 use Rattle.integer.specs.Matrix.{matrixOf}
 use Rattle.record.specs.laws.Loading.{loads-within}
@@ -28,9 +29,9 @@ module _ (n m : ℕ) (h : 1 ≤ n) where
   unfolding refusalUnder
   loose-pair-taken t l = rw (lt-ltb 0 n h, le-leb t toleranceLimit l)
 
-  pub sweep-taken : m + n * (n - 1) / 2 ≤ turnLimit → refusalOf n m sweep ≡ 0
+  pub sweep-taken : (order : Order) → m + n * (n - 1) / 2 ≤ turnLimit → refusalOf n m (sweepIn order) ≡ 0
   unfolding refusalUnder
-  sweep-taken l = rw (lt-ltb 0 n h, le-leb (m + n * (n - 1) / 2) turnLimit l)
+  sweep-taken order l = rw (lt-ltb 0 n h, le-leb (m + n * (n - 1) / 2) turnLimit l)
 
 pub load-taken : (n m k : ℕ) (numbers : List ℤ) → Loads k numbers → refusalOf n m (load k numbers) ≡ 0
 unfolding refusalUnder

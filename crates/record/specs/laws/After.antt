@@ -15,11 +15,13 @@ use Rattle.integer.specs.Square.{sq}
 use Rattle.integer.specs.Sum.{sumℕ}
 use Rattle.integer.specs.laws.Sum.{sumℕ-cong}
 use Rattle.integer.specs.laws.Tabulate.{getD-repeated}
-use Rattle.ledger.specs.laws.Accepted.{accepted-under, turn-accepted, sweep-accepted}
-use Rattle.ledger.specs.Call.{Call, load, turn, sweep, loosePair, axis}
-use Rattle.ledger.specs.laws.Cyclic.{cyclic-length, cyclic-pairs}
+use Rattle.ledger.specs.laws.Accepted.{accepted-under, turn-accepted, sweep-accepted, sweep-held}
+use Rattle.ledger.specs.Call.{Call, load, turn, sweepIn, loosePair, axis}
+use Rattle.ledger.specs.laws.Orders.{each-in, length-in}
 use Rattle.limits.specs.Limits.{entryLimit, turnLimit}
-use Rattle.ledger.specs.Pairs.{Pair, cyclic, rowsFrom}
+use Rattle.ledger.specs.Order.{pairsIn}
+use Rattle.ledger.specs.Pairs.{Pair}
+use Rattle.ledger.specs.declared.Order.{Order}
 use Rattle.ledger.specs.Refusal.{refusalOf, refusalUnder}
 use Rattle.turn.specs.Turn.{at}
 use Rattle.record.specs.KeptWork.{KeptWork}
@@ -97,21 +99,21 @@ turned-kept r p q k e =
     }
 
 -- n(n−1)/2 is how many pairs a sweep has
-pub sweep-fits : (m n : ℕ) → m + n * (n - 1) / 2 ≤ turnLimit → m + length (cyclic n) ≤ turnLimit
-unfolding cyclic rowsFrom
-sweep-fits m zero h = omega (arith, h)
-sweep-fits m (suc n) h = omega (arith, h, cyclic-length (suc n) (omega arith))
+pub sweep-fits : (order : Order) (m n : ℕ) → 1 ≤ n → n ≤ 8 → m + n * (n - 1) / 2 ≤ turnLimit → m + length (pairsIn order n) ≤ turnLimit
+sweep-fits order m n some h l = omega (arith, l, length-in order n some h)
 
-swept-kept : (r : Record) → Kept r → refusalOf (r .n) (r .m) sweep ≡ 0 → Kept (sweptOf r)
+swept-kept : (r : Record) (order : Order) → Kept r → refusalOf (r .n) (r .m) (sweepIn order) ≡ 0 → Kept (sweptOf r order)
 unfolding sweptOf workedOf workOf
-swept-kept r k e =
+swept-kept r order k e =
     record {
       size = k .size;
       channels = k .channels;
-      turns = le-trans (works-grow (r .n) (workOf r) (cyclic (r .n))) (sweep-fits (r .m) (r .n) (sweep-accepted (r .n) (r .m) e));
+      turns =
+          le-trans (works-grow (r .n) (workOf r) (pairsIn order (r .n)))
+          (sweep-fits order (r .m) (r .n) (sweep-held (r .n) (r .m) order e) (k .size) (sweep-accepted (r .n) (r .m) order e));
       work =
-          worked-kept r (workPairs (r .n) (workOf r) (cyclic (r .n))) (k .size)
-          (works-keep (r .n) (workOf r) (cyclic (r .n)) (k .size) (k .work) (cyclic-pairs (r .n)));
+          worked-kept r (workPairs (r .n) (workOf r) (pairsIn order (r .n))) (k .size)
+          (works-keep (r .n) (workOf r) (pairsIn order (r .n)) (k .size) (k .work) (each-in order (r .n) (k .size)));
       matrix-length = length-flat _;
       axes-length = length-flat _;
     }
@@ -120,7 +122,7 @@ accepted-kept : (r : Record) (call : Call) → Kept r → refusalOf (r .n) (r .m
 unfolding acceptedOf
 accepted-kept r (load n numbers) k e = load-kept r n numbers e
 accepted-kept r (turn p q) k e = turned-kept r p q k e
-accepted-kept r sweep k e = swept-kept r k e
+accepted-kept r (sweepIn order) k e = swept-kept r order k e
 accepted-kept r (loosePair t) k e = k
 accepted-kept r (axis i) k e = k
 

@@ -10,12 +10,13 @@ use borrow.Author.Tests.{eqb-true}
 use Rattle.integer.specs.Matrix.{Same}
 use Rattle.ledger.specs.laws.Accepted.{accepted-under, load-accepted, turn-accepted}
 use Rattle.limits.specs.Limits.{entryLimit}
-use Rattle.ledger.specs.Call.{Call, load, turn, sweep, loosePair, axis}
-use Rattle.ledger.specs.laws.Cyclic.{Each, cyclic-pairs}
-use Rattle.ledger.specs.Pairs.{Ordered}
+use Rattle.ledger.specs.Call.{Call, load, turn, sweepIn, loosePair, axis}
+use Rattle.ledger.specs.laws.Orders.{each-in}
+use Rattle.ledger.specs.Pairs.{Ordered, Each}
 use Rattle.ledger.specs.Ledger as L
 use Rattle.ledger.specs.Ledger.{Ledger, State, empty, loaded, accepted, ledgerStepUnder, sizeOf, turnsOf, take, turnPair, turnPairs}
-use Rattle.ledger.specs.Pairs.{Pair, cyclic}
+use Rattle.ledger.specs.Order.{pairsIn}
+use Rattle.ledger.specs.Pairs.{Pair}
 use Rattle.ledger.specs.Refusal.{refusalOf, refusalUnder}
 use Rattle.turn.specs.laws.Congruence.{choose-same, turned-same, turnedAxes-same}
 use Rattle.turn.specs.Rotation.{rotationOf}
@@ -106,7 +107,7 @@ no-matrix : (limit m : ℕ) (call : Call) → refusalUnder limit 0 m call ≡ re
 unfolding refusalUnder
 no-matrix limit m (load n numbers) = refl
 no-matrix limit m (turn p q) = refl
-no-matrix limit m sweep = refl
+no-matrix limit m (sweepIn order) = refl
 no-matrix limit m (loosePair t) = refl
 no-matrix limit m (axis i) = refl
 
@@ -144,11 +145,11 @@ agree-accepted r (loaded s) (turn p q) k a e =
     from-work r _ _ (k .size)
     (agree-pair (r .n) (workOf r) s (record { p = p - 1; q = q - 1 }) (k .size) (k .work) (at-work r s (k .size) a)
     (record { ordered = omega (arith, t .first, t .ordered); within = omega (arith, t .first, t .ordered, t .last) }))
-agree-accepted r empty sweep k a e = absurd (ten-is-not-zero (rw a at e))
-agree-accepted r (loaded s) sweep k a e =
+agree-accepted r empty (sweepIn order) k a e = absurd (ten-is-not-zero (rw a at e))
+agree-accepted r (loaded s) (sweepIn order) k a e =
     from-work r _ _ (k .size)
-    (subst (λ n. AgreeWork (r .n) (workPairs (r .n) (workOf r) (cyclic (r .n))) (turnPairs s (cyclic n))) (a .size)
-    (agree-pairs (r .n) (workOf r) s (cyclic (r .n)) (k .size) (k .work) (at-work r s (k .size) a) (cyclic-pairs (r .n))))
+    (subst (λ n. AgreeWork (r .n) (workPairs (r .n) (workOf r) (pairsIn order (r .n))) (turnPairs s (pairsIn order n))) (a .size)
+    (agree-pairs (r .n) (workOf r) s (pairsIn order (r .n)) (k .size) (k .work) (at-work r s (k .size) a) (each-in order (r .n) (k .size))))
 agree-accepted r g (loosePair t) k a e = a
 agree-accepted r g (axis i) k a e = a
 

@@ -6,23 +6,31 @@ use native.Mathlib.Omega.{arith}
 use borrow.Author.Tests.{eq-eqb}
 use Rattle.choice.specs.declared.Choice.{Choice}
 use Rattle.choice.specs.declared.Choice.the-variants.{NoTurn, Turn}
-use Rattle.ledger.specs.Call.{sweep, turn}
-use Rattle.ledger.specs.Pairs.{Pair, cyclic}
+use Rattle.ledger.specs.Call.{sweepIn, turn}
+use Rattle.ledger.specs.Order.{pairsIn}
+use Rattle.ledger.specs.Pairs.{Pair}
+use Rattle.ledger.specs.declared.Order.{Order}
+use Rattle.ledger.specs.declared.Order.the-variants.{Cyclic, Tournament}
 use Rattle.ledger.specs.Refusal.{refusalOf}
-use Rattle.record.specs.Record.{acceptedOf, afterOf, answerOf, sweptOf, turnedOf, valueOf, workOf, workedOf}
+use Rattle.record.specs.Record.{acceptedOf, afterOf, answerOf, sweptIn, sweptOf, turnedOf, valueOf, workOf, workedOf}
 use Rattle.record.specs.Work.{Work, isTurn, workBy, workPair}
 use Rattle.record.specs.laws.Accepted.{after-accepted}
 use Rattle.record.specs.laws.Turning.{works-least}
 use Rattle.record.specs.declared.Record.{Record}
-use Rattle.record.specs.declared.query.Answer.the-variants.{Swept, Turned}
+use Rattle.record.specs.declared.query.Answer.the-variants.{Turned}
 
--- a sweep that is not refused
-pub sweep-counts : (r : Record) → refusalOf (r .n) (r .m) sweep ≡ 0 → (k : ℕ) → answerOf r sweep ≡ Swept k → afterOf r sweep .m ≡ r .m + k
+same-count : (order : Order) (j k : ℕ) → sweptIn order j ≡ sweptIn order k → j ≡ k
+same-count Cyclic j k e = cc
+same-count Tournament j k e = cc
+
+-- a sweep that is not refused, in either order
+pub sweep-counts : (r : Record) (order : Order) → refusalOf (r .n) (r .m) (sweepIn order) ≡ 0 → (k : ℕ) →
+    answerOf r (sweepIn order) ≡ sweptIn order k → afterOf r (sweepIn order) .m ≡ r .m + k
 unfolding answerOf valueOf acceptedOf sweptOf workedOf workOf
-sweep-counts r e k a =
-    let told = rw (eq-eqb (refusalOf (r .n) (r .m) sweep) 0 e) at a in
-    let counted : sweptOf r .m - r .m ≡ k = cc in
-    rw (after-accepted r sweep e) (omega (arith, counted, works-least (r .n) (workOf r) (cyclic (r .n))))
+sweep-counts r order e k a =
+    let told = rw (eq-eqb (refusalOf (r .n) (r .m) (sweepIn order)) 0 e) at a in
+    let counted = same-count order (sweptOf r order .m - r .m) k told in
+    rw (after-accepted r (sweepIn order) e) (omega (arith, counted, works-least (r .n) (workOf r) (pairsIn order (r .n))))
 
 -- 1 for a turn that was made
 unfoldable pub made : Bool → ℕ

@@ -11,8 +11,8 @@ use lib.IntN.{natAbs}
 use borrow.Author.Tests.{eq-eqb, ltb-true, ltb-false}
 use Rattle.integer.specs.Matrix.{Matrix}
 use Rattle.ledger.specs.Call.{loosePair}
-use Rattle.ledger.specs.laws.Cyclic.{Each, cyclic-pairs}
-use Rattle.ledger.specs.Pairs.{Pair, cyclic, Ordered}
+use Rattle.ledger.specs.laws.Cyclic.{cyclic-pairs}
+use Rattle.ledger.specs.Pairs.{Pair, cyclic, Ordered, Each}
 use Rattle.ledger.specs.Refusal.{refusalOf}
 use Rattle.record.specs.laws.Among.{Among, here, there, cyclic-among}
 use Rattle.record.specs.laws.RowOrder.{Precedes, Rising, compared, cyclic-rising, one-way}

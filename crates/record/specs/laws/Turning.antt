@@ -15,8 +15,7 @@ use Rattle.integer.specs.Square.{sq}
 use Rattle.integer.specs.laws.Square.{sq-pos, natAbs-≤}
 use Rattle.integer.specs.Sum.{sumℕ}
 use Rattle.integer.specs.laws.Sum.{sumℕ-cong, sumℕ-const, term-≤-sumℕ}
-use Rattle.ledger.specs.laws.Cyclic.{Each}
-use Rattle.ledger.specs.Pairs.{Pair}
+use Rattle.ledger.specs.Pairs.{Pair, Each}
 use Rattle.ledger.specs.Sound.{matrixBound, axesBound}
 use Rattle.turn.specs.laws.Exact.{rotationOf-whole}
 use Rattle.turn.specs.laws.Norm.{turned-squares, axes-column}

@@ -58,6 +58,7 @@ work-pairs-requires c κs =
     let l = spent .before .before .before .before .before in
     let given = l .before .pre in
     let h = l .loop .inv 0 .holds in (
+      given .loaded,
       h .keeps .size,
       remains 0 _ _ _ (given .loaded) (given .sweeps) (given .tolerated) _ _ _ _ _ _ (l .loop .inv 0) (spent .if3 .left),
       held-ready _ _ _ _ _ h,
