@@ -10,11 +10,13 @@ use lib.IntN.{ℤ, pos, negsuc, natAbs}
 use lib.ListN.{length, take, drop, getD}
 use lib.Seq.{length-take-le}
 use lib.Signed.{ltZ}
-use Rattle.ledger.specs.Call.{Call, load, turn, sweep, loosePair, axis}
+use Rattle.ledger.specs.Call.{Call, load, turn, loosePair, axis}
+use Rattle.ledger.specs.declared.Order.{Order}
+use Rattle.ledger.specs.declared.Order.the-variants.{Cyclic, Tournament}
 use Rattle.call_text.specs.Calls.{argument, callBy, loadBy, oneBy, sweepBy, turnBy}
 use Rattle.call_text.specs.Numbers.{beyond}
 use Rattle.call_text.specs.Requests.{askedFor, requested}
-use Rattle.call_text.specs.declared.request.Request.the-variants.{Load, Turn, Sweep, LoosePair, Axis, NoCall}
+use Rattle.call_text.specs.declared.request.Request.the-variants.{Load, Turn, Sweep, LoosePair, Axis, NoCall, TournamentSweep}
 
 -- an argument, by the test x < 0
 pub argument-low : (x : ℤ) → ltZ x (pos 0) ≡ true → beyond ≡ argument x
@@ -34,10 +36,10 @@ turn-other (x ∷ []) h = refl
 turn-other (x ∷ y ∷ []) h = absurd (h refl)
 turn-other (x ∷ y ∷ z ∷ xs) h = refl
 
-sweep-other : (ys : List ℤ) → (length ys ≡ 0 → ⊥) → sweepBy ys ≡ none
+sweep-other : (order : Order) (ys : List ℤ) → (length ys ≡ 0 → ⊥) → sweepBy order ys ≡ none
 unfolding sweepBy
-sweep-other [] h = absurd (h refl)
-sweep-other (x ∷ xs) h = refl
+sweep-other order [] h = absurd (h refl)
+sweep-other order (x ∷ xs) h = refl
 
 one-other : (call : ℕ → Call) (ys : List ℤ) → (length ys ≡ 1 → ⊥) → oneBy call ys ≡ none
 unfolding oneBy
@@ -72,17 +74,21 @@ module _ (xs : List ℤ) (count : ℕ) (h : count ≤ length xs) where
   unfolding askedFor
   no-turn e = rw (turn-other (take count xs) (λ p. e (sym size ∙ p)))
 
-  pub no-sweep : (count ≡ 0 → ⊥) → requested NoCall ≡ askedFor (sweepBy (take count xs))
+  pub no-sweep : (order : Order) → (count ≡ 0 → ⊥) → requested NoCall ≡ askedFor (sweepBy order (take count xs))
   unfolding askedFor
-  no-sweep e = rw (sweep-other (take count xs) (λ p. e (sym size ∙ p)))
+  no-sweep order e = rw (sweep-other order (take count xs) (λ p. e (sym size ∙ p)))
 
   pub no-one : (call : ℕ → Call) → (count ≡ 1 → ⊥) → requested NoCall ≡ askedFor (oneBy call (take count xs))
   unfolding askedFor
   no-one call e = rw (one-other call (take count xs) (λ p. e (sym size ∙ p)))
 
-  pub a-sweep : count ≡ 0 → requested Sweep ≡ askedFor (sweepBy (take count xs))
+  pub a-sweep : count ≡ 0 → requested Sweep ≡ askedFor (sweepBy Cyclic (take count xs))
   unfolding sweepBy askedFor
   a-sweep e = rw e
+
+  pub a-tournament-sweep : count ≡ 0 → requested TournamentSweep ≡ askedFor (sweepBy Tournament (take count xs))
+  unfolding sweepBy askedFor
+  a-tournament-sweep e = rw e
 
   module _ (n : ℕ) (q : n ≡ argument (getD xs 0 (pos 0))) where
     pub a-load : 1 ≤ count → record { request = Load n; from = 1; to = count } ≡ askedFor (loadBy (take count xs))
@@ -117,7 +123,7 @@ module _ (tag : ℕ) (ys : List ℤ) where
     of-turn e = simp (ne-eqb _ _ n₁, eq-eqb _ _ e)
 
     module _ (n₂ : tag ≡ 84 → ⊥) where
-      pub of-sweep : tag ≡ 87 → callBy tag ys ≡ sweepBy ys
+      pub of-sweep : tag ≡ 87 → callBy tag ys ≡ sweepBy Cyclic ys
       unfolding callBy
       of-sweep e = simp (ne-eqb _ _ n₁, ne-eqb _ _ n₂, eq-eqb _ _ e)
 
@@ -131,6 +137,11 @@ module _ (tag : ℕ) (ys : List ℤ) where
           unfolding callBy
           of-axis e = simp (ne-eqb _ _ n₁, ne-eqb _ _ n₂, ne-eqb _ _ n₃, ne-eqb _ _ n₄, eq-eqb _ _ e)
 
-          pub of-none : (tag ≡ 65 → ⊥) → callBy tag ys ≡ none
-          unfolding callBy
-          of-none n₅ = simp (ne-eqb _ _ n₁, ne-eqb _ _ n₂, ne-eqb _ _ n₃, ne-eqb _ _ n₄, ne-eqb _ _ n₅)
+          module _ (n₅ : tag ≡ 65 → ⊥) where
+            pub of-tournament-sweep : tag ≡ 79 → callBy tag ys ≡ sweepBy Tournament ys
+            unfolding callBy
+            of-tournament-sweep e = simp (ne-eqb _ _ n₁, ne-eqb _ _ n₂, ne-eqb _ _ n₃, ne-eqb _ _ n₄, ne-eqb _ _ n₅, eq-eqb _ _ e)
+
+            pub of-none : (tag ≡ 79 → ⊥) → callBy tag ys ≡ none
+            unfolding callBy
+            of-none n₆ = simp (ne-eqb _ _ n₁, ne-eqb _ _ n₂, ne-eqb _ _ n₃, ne-eqb _ _ n₄, ne-eqb _ _ n₅, ne-eqb _ _ n₆)

@@ -12,6 +12,8 @@ use lib.ListN.{length, take, drop, length-append}
 use lib.Seq.{take-all, take-append-seam}
 use Rattle.text.specs.Parts.{before, split}
 use Rattle.ledger.specs.Call.{Call, loosePair, axis}
+use Rattle.ledger.specs.declared.Order.{Order}
+use Rattle.ledger.specs.declared.Order.the-variants.{Cyclic, Tournament}
 use Rattle.call_text.specs.Calls.{argument, callBy, callOfFields, callWithin, loadBy, oneBy, sweepBy, turnBy, withNumbers}
 use Rattle.call_text.specs.Numbers.{eachNumber, signedOf}
 use Rattle.call_text.specs.Requests.{Asks, askedFor, leading, leftBy, leftIn, listOf, onward, requested}
@@ -105,10 +107,11 @@ module _ (rest : List ℤ) where
   turn-stands (x ∷ y ∷ []) = (refl, omega arith, omega arith)
   turn-stands (x ∷ y ∷ z ∷ ys) = none-stands (x ∷ y ∷ z ∷ ys)
 
-  sweep-stands : (ys : List ℤ) → Stands ys rest (sweepBy ys)
+  sweep-stands : (order : Order) (ys : List ℤ) → Stands ys rest (sweepBy order ys)
   unfolding askedFor listOf sweepBy requested
-  sweep-stands [] = (refl, omega arith, omega arith)
-  sweep-stands (x ∷ ys) = none-stands (x ∷ ys)
+  sweep-stands Cyclic [] = (refl, omega arith, omega arith)
+  sweep-stands Tournament [] = (refl, omega arith, omega arith)
+  sweep-stands order (x ∷ ys) = none-stands (x ∷ ys)
 
   one-stands : (call : ℕ → Call) → ((ys : List ℤ) (x : ℕ) → Stands ys rest (some (call x))) → (ys : List ℤ) → Stands ys rest (oneBy call ys)
   unfolding oneBy
@@ -131,9 +134,10 @@ module _ (rest : List ℤ) where
   pub stands : (tag : ℕ) (ys : List ℤ) → Stands ys rest (callBy tag ys)
   unfolding callBy
   stands tag ys =
-      either ys (eqb tag 76) _ _ (load-stands ys) (either ys (eqb tag 84) _ _ (turn-stands ys) (either ys (eqb tag 87) _ _ (sweep-stands ys)
+      either ys (eqb tag 76) _ _ (load-stands ys) (either ys (eqb tag 84) _ _ (turn-stands ys) (either ys (eqb tag 87) _ _ (sweep-stands Cyclic ys)
       (either ys (eqb tag 81) _ _ (one-stands loosePair pair-stands ys)
-      (either ys (eqb tag 65) _ _ (one-stands axis axis-stands ys) (none-stands ys)))))
+      (either ys (eqb tag 65) _ _ (one-stands axis axis-stands ys)
+      (either ys (eqb tag 79) _ _ (sweep-stands Tournament ys) (none-stands ys))))))
 
 -- the reader's answer, by what was read of the fields
 module _ (line : List ℕ) (entry exit : List ℤ) (z : Fields) (r : FieldsRead line entry exit z) where

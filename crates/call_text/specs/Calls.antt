@@ -7,7 +7,9 @@ use lib.Dec.{eqb, leb}
 use lib.IntN.{ℤ, pos, negsuc}
 use lib.ListN.{length}
 use Rattle.text.specs.Parts.{split}
-use Rattle.ledger.specs.Call.{Call, load, turn, sweep, loosePair, axis}
+use Rattle.ledger.specs.Call.{Call, load, turn, sweepIn, loosePair, axis}
+use Rattle.ledger.specs.declared.Order.{Order}
+use Rattle.ledger.specs.declared.Order.the-variants.{Cyclic, Tournament}
 use Rattle.call_text.specs.Numbers.{beyond, eachNumber}
 
 -- README: 'negative where the call's argument is a natural (n, p, q, t, i) is a value out of that argument's range'
@@ -27,10 +29,10 @@ turnBy (p ∷ []) = none
 turnBy (p ∷ q ∷ []) = some (turn (argument p) (argument q))
 turnBy (p ∷ q ∷ x ∷ xs) = none
 
--- `W`
-unfoldable pub sweepBy : List ℤ → Option Call
-sweepBy [] = some sweep
-sweepBy (x ∷ xs) = none
+-- `W`, and `O` for the tournament sweep
+unfoldable pub sweepBy : Order → List ℤ → Option Call
+sweepBy order [] = some (sweepIn order)
+sweepBy order (x ∷ xs) = none
 
 -- `Q` t, and `A` i
 unfoldable pub oneBy : (ℕ → Call) → List ℤ → Option Call
@@ -38,14 +40,15 @@ oneBy call [] = none
 oneBy call (x ∷ []) = some (call (argument x))
 oneBy call (x ∷ y ∷ xs) = none
 
--- The call of a tag and numbers: 76 is `L`, 84 `T`, 87 `W`, 81 `Q`, 65 `A`.
+-- The call of a tag and numbers: 76 is `L`, 84 `T`, 87 `W`, 81 `Q`, 65 `A`, 79 `O`.
 unfoldable pub callBy : ℕ → List ℤ → Option Call
 callBy tag numbers =
     cond (eqb tag 76) (loadBy numbers)
     (cond (eqb tag 84) (turnBy numbers)
-    (cond (eqb tag 87) (sweepBy numbers)
+    (cond (eqb tag 87) (sweepBy Cyclic numbers)
     (cond (eqb tag 81) (oneBy loosePair numbers)
-    (cond (eqb tag 65) (oneBy axis numbers) none))))
+    (cond (eqb tag 65) (oneBy axis numbers)
+    (cond (eqb tag 79) (sweepBy Tournament numbers) none)))))
 
 unfoldable pub withNumbers : ℕ → Option (List ℤ) → Option Call
 withNumbers tag none = none

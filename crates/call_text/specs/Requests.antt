@@ -6,12 +6,13 @@ use mathlib.Core.Option.{Option, none, some}
 use lib.IntN.{ℤ}
 use lib.ListN.{length, take, drop}
 use Rattle.text.specs.Parts.{split}
-use Rattle.ledger.specs.Call.{Call, load, turn, sweep, loosePair, axis}
+use Rattle.ledger.specs.Call.{Call, load, turn, sweepIn, loosePair, axis}
+use Rattle.ledger.specs.declared.Order.the-variants.{Cyclic, Tournament}
 use Rattle.call_text.specs.Calls.{callWithin}
 use Rattle.call_text.specs.Numbers.{signedOf}
 use Rattle.call_text.specs.declared.request.Asked.{Asked}
 use Rattle.call_text.specs.declared.request.Request.{Request}
-use Rattle.call_text.specs.declared.request.Request.the-variants.{Load, Turn, Sweep, LoosePair, Axis, NoCall}
+use Rattle.call_text.specs.declared.request.Request.the-variants.{Load, Turn, Sweep, LoosePair, Axis, NoCall, TournamentSweep}
 
 -- a request that has no list
 unfoldable pub requested : Request → Asked
@@ -22,7 +23,8 @@ unfoldable pub askedFor : Option Call → Asked
 askedFor none = requested NoCall
 askedFor (some (load n numbers)) = record { request = Load n; from = 1; to = suc (length numbers) }
 askedFor (some (turn p q)) = requested (Turn p q)
-askedFor (some sweep) = requested Sweep
+askedFor (some (sweepIn Cyclic)) = requested Sweep
+askedFor (some (sweepIn Tournament)) = requested TournamentSweep
 askedFor (some (loosePair t)) = requested (LoosePair t)
 askedFor (some (axis i)) = requested (Axis i)
 
@@ -30,7 +32,7 @@ unfoldable pub listOf : Option Call → List ℤ
 listOf none = []
 listOf (some (load n numbers)) = numbers
 listOf (some (turn p q)) = []
-listOf (some sweep) = []
+listOf (some (sweepIn order)) = []
 listOf (some (loosePair t)) = []
 listOf (some (axis i)) = []
 

@@ -125,6 +125,7 @@ pub fn answer_line(told: Told) -> Printed
             }
         }
         Answer::Swept(turns) => one_number(b'W', turns),
+        Answer::TournamentSwept(turns) => one_number(b'O', turns),
         Answer::Pair { p, q } => two_numbers(b'Q', p as u64, q as u64),
         Answer::NoPair => none_line(),
         Answer::Axis { entry, error } => axis_line(entry, error, row, told.n),

@@ -6,6 +6,7 @@ ghost use mathlib.Core.Path.{_≡_};
 ghost use Prim.Native.Nat.{_≤_};
 ghost use lib.ListN.{length, take};
 ghost use Rattle.ledger.specs.Call.{axis, loosePair};
+ghost use Rattle.ledger.specs.declared.Order.the-variants.{Cyclic, Tournament};
 ghost use Rattle.call_text.specs.Calls.{argument, callBy, loadBy, oneBy, sweepBy, turnBy};
 ghost use Rattle.call_text.specs.Requests.{Asks, askedFor, requested};
 
@@ -17,6 +18,7 @@ pub enum Request {
     LoosePair(u64),
     Axis(usize),
     NoCall,
+    TournamentSweep,
 }
 
 // A request, and which of the numbers that were read are its list: from `from` to before `to`.
@@ -39,7 +41,7 @@ fn bare(request: Request) -> Asked
     }
 }
 
-// An argument that has a range from 0 or 1 on: a negative one is out of it.
+// An argument whose range has no negative number: a negative one is out of it.
 fn argument(x: i64) -> u64
     ensures { λ r. ⌜ r ≡ argument x ⌝ }
 {
@@ -75,12 +77,22 @@ fn turn(numbers: &[i64], count: usize) -> Asked
 
 fn sweep(numbers: &[i64], count: usize) -> Asked
     requires { ⌜ count ≤ length (now numbers) ⌝ }
-    ensures { λ z. ⌜ z ≡ askedFor (sweepBy (take count (now (numbers .entry)))) ⌝ }
+    ensures { λ z. ⌜ z ≡ askedFor (sweepBy Cyclic (take count (now (numbers .entry)))) ⌝ }
 {
     if count != 0 {
         return bare(Request::NoCall);
     }
     bare(Request::Sweep)
+}
+
+fn tournament_sweep(numbers: &[i64], count: usize) -> Asked
+    requires { ⌜ count ≤ length (now numbers) ⌝ }
+    ensures { λ z. ⌜ z ≡ askedFor (sweepBy Tournament (take count (now (numbers .entry)))) ⌝ }
+{
+    if count != 0 {
+        return bare(Request::NoCall);
+    }
+    bare(Request::TournamentSweep)
 }
 
 fn loose_pair(numbers: &[i64], count: usize) -> Asked
@@ -121,6 +133,9 @@ fn by_tag(tag: u8, numbers: &[i64], count: usize) -> Asked
     }
     if tag == b'A' {
         return axis(numbers, count);
+    }
+    if tag == b'O' {
+        return tournament_sweep(numbers, count);
     }
     bare(Request::NoCall)
 }

@@ -8,7 +8,7 @@ use denote.Signature.{Slot, plain, typesAt}
 use denote.RattleType.{Denots}
 use denote.Triple.End.{Kepts}
 use contract.Lifetimes.{Lfts}
-use Rattle.ledger.specs.Call.{load, loosePair, sweep, turn}
+use Rattle.ledger.specs.Call.{load, loosePair, sweep, tournamentSweep, turn}
 use Rattle.record.specs.Done.{AxisDone, Done, LooseDone}
 use Rattle.record.specs.Kept.{Kept}
 use Rattle.record.specs.declared.AxisAnswer.{AxisAnswer}
@@ -48,6 +48,9 @@ sweep-slots = []
 
 abbrev pub sweep-done : (κs : Lfts 1) → Denots (typesAt sweep-slots κs) → Record → Answer → Record → Type 0
 sweep-done κs a r z next = Done r sweep z next
+
+abbrev pub tournament-done : (κs : Lfts 1) → Denots (typesAt sweep-slots κs) → Record → Answer → Record → Type 0
+tournament-done κs a r z next = Done r tournamentSweep z next
 
 abbrev pub one-slots : List (Slot 1)
 one-slots = word ∷ []

@@ -10,7 +10,8 @@ use lib.Dec.{eqb, ltb}
 use lib.IntN.{ℤ}
 use lib.ListN.{length, take, drop}
 use Rattle.text.specs.Parts.{split}
-use Rattle.ledger.specs.Call.{Call, load, turn, sweep, loosePair, axis}
+use Rattle.ledger.specs.Call.{Call, load, turn, sweepIn, loosePair, axis}
+use Rattle.ledger.specs.declared.Order.the-variants.{Cyclic, Tournament}
 use Rattle.record.specs.Kept.{Kept}
 use Rattle.record.specs.Record.{afterOf}
 use Rattle.record.specs.laws.After.{after-kept, fresh-kept}
@@ -36,7 +37,8 @@ unfolding requestCall askedFor listOf requested
 call-again none = refl
 call-again (some (load n numbers)) = refl
 call-again (some (turn p q)) = refl
-call-again (some sweep) = refl
+call-again (some (sweepIn Cyclic)) = refl
+call-again (some (sweepIn Tournament)) = refl
 call-again (some (loosePair t)) = refl
 call-again (some (axis i)) = refl
 
@@ -44,7 +46,8 @@ is-call : (call : Call) → isCall (askedFor (some call) .request) ≡ true
 unfolding isCall askedFor requested
 is-call (load n numbers) = refl
 is-call (turn p q) = refl
-is-call sweep = refl
+is-call (sweepIn Cyclic) = refl
+is-call (sweepIn Tournament) = refl
 is-call (loosePair t) = refl
 is-call (axis i) = refl
 

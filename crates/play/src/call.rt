@@ -28,5 +28,6 @@ pub(crate) fn call(r: &mut Record, request: Request, numbers: &[i64]) -> AxisAns
         Request::LoosePair(t) => plain(lent::loose_pair(r, t)),
         Request::Axis(i) => lent::axis(r, i),
         Request::NoCall => plain(Answer::Loaded),
+        Request::TournamentSweep => plain(lent::tournament_sweep(r)),
     }
 }

@@ -58,6 +58,7 @@ fn is_call(request: Request) -> bool
         Request::LoosePair(_) => true,
         Request::Axis(_) => true,
         Request::NoCall => false,
+        Request::TournamentSweep => true,
     }
 }
 

@@ -4,7 +4,7 @@ use mathlib.Core.List.{List}
 use mathlib.Core.Option.{Option, none, some}
 use lib.IntN.{ℤ, pos}
 use lib.ListN.{replicate}
-use Rattle.ledger.specs.Call.{Call, load, turn, sweep, loosePair, axis}
+use Rattle.ledger.specs.Call.{Call, load, turn, sweep, tournamentSweep, loosePair, axis}
 use Rattle.record.specs.Kept.{Kept}
 use Rattle.record.specs.Record.{answerOf}
 use Rattle.record.specs.declared.AxisAnswer.{AxisAnswer}
@@ -13,7 +13,7 @@ use Rattle.record.specs.declared.query.Answer.{Answer}
 use Rattle.record.specs.declared.query.Answer.the-variants.{Loaded}
 use Rattle.call_text.specs.Answers.{rowFor}
 use Rattle.call_text.specs.declared.request.Request.{Request}
-use Rattle.call_text.specs.declared.request.Request.the-variants.{Load, Turn, Sweep, LoosePair, Axis, NoCall}
+use Rattle.call_text.specs.declared.request.Request.the-variants.{Load, Turn, Sweep, LoosePair, Axis, NoCall, TournamentSweep}
 use Rattle.play.specs.Steps.{afterCall}
 
 unfoldable pub plainOf : Answer → AxisAnswer
@@ -27,6 +27,7 @@ requestCall Sweep numbers = some sweep
 requestCall (LoosePair t) numbers = some (loosePair t)
 requestCall (Axis i) numbers = some (axis i)
 requestCall NoCall numbers = none
+requestCall TournamentSweep numbers = some tournamentSweep
 
 unfoldable pub answerFor : Record → Option Call → AxisAnswer
 answerFor r none = plainOf Loaded

@@ -14,7 +14,7 @@ use Rattle.call_text.specs.Requests.{askedFor, listOf}
 use Rattle.call_text.specs.declared.answer.Told.{Told}
 use Rattle.call_text.specs.declared.request.Asked.{Asked}
 use Rattle.call_text.specs.declared.request.Request.{Request}
-use Rattle.call_text.specs.declared.request.Request.the-variants.{Load, Turn, Sweep, LoosePair, Axis, NoCall}
+use Rattle.call_text.specs.declared.request.Request.the-variants.{Load, Turn, Sweep, LoosePair, Axis, NoCall, TournamentSweep}
 use Rattle.play.specs.Steps.{firstCall, linesFrom, pastLine, stoppedAt}
 use Rattle.play.specs.Text.{unknownLine}
 use Rattle.play.specs.declared.cursor.Cursor.{Cursor}
@@ -52,6 +52,7 @@ isCall Sweep = true
 isCall (LoosePair t) = true
 isCall (Axis i) = true
 isCall NoCall = false
+isCall TournamentSweep = true
 
 unfoldable pub toldWith : AxisAnswer → Record → Told
 toldWith answer r = record { answer = answer .value; row = answer .row; n = r .n; refused = r .refused }

@@ -21,7 +21,7 @@ use Rattle.ledger.specs.Refusal.{refusalOf}
 use Rattle.turn.specs.laws.Eight.{getD-eight, length-eight}
 use Rattle.record.specs.laws.Turning.{matrix-small}
 use Rattle.record.specs.declared.query.Answer.{Answer}
-use Rattle.record.specs.declared.query.Answer.the-variants.{Loaded, Turned, Swept, Pair, NoPair, Axis, Refused}
+use Rattle.record.specs.declared.query.Answer.the-variants.{Loaded, Turned, Swept, TournamentSwept, Pair, NoPair, Axis, Refused}
 use Rattle.choice.specs.Widest.{widest}
 use Rattle.record.specs.laws.Fill.{at-rowsOf}
 use Rattle.record.specs.Flat.{entriesOf, keptEntry}
@@ -36,6 +36,7 @@ unfolding axisValues
 length-values Loaded = refl
 length-values (Turned made) = refl
 length-values (Swept made) = refl
+length-values (TournamentSwept made) = refl
 length-values (Pair p q) = refl
 length-values NoPair = refl
 length-values (Axis entry error) = refl

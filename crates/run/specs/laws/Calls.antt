@@ -8,6 +8,7 @@ use native.Mathlib.Omega.{arith}
 use lib.IntN.{ℤ}
 use lib.ListN.{length}
 use Rattle.ledger.specs.laws.Accepted as given
+use Rattle.ledger.specs.declared.Order.the-variants.{Cyclic}
 use Rattle.ledger.specs.Call.{Call, axis, load, loosePair, sweep}
 use Rattle.ledger.specs.laws.Cyclic.{cyclic-length}
 use Rattle.limits.specs.Limits.{toleranceLimit, mostSweeps}
@@ -85,7 +86,7 @@ module _ (n t : ℕ) (low : 1 ≤ n) (high : n ≤ 8) (h : t ≤ toleranceLimit)
   sweep-leaves sweeps r s l = (a, rw (after-accepted r sweep a) (record { channels = s .channels; turns = grown }))
     where
       a : refusalOf (r .n) (r .m) sweep ≡ 0
-      a = sweep-taken (r .n) (r .m) (omega (arith, s .channels)) (rw (s .channels) (turns-suffice n (r .m) sweeps high l (s .turns)))
+      a = sweep-taken (r .n) (r .m) (omega (arith, s .channels)) Cyclic (rw (s .channels) (turns-suffice n (r .m) sweeps high l (s .turns)))
 
       counted : length (cyclic (r .n)) ≡ n * (n - 1) / 2
       counted = rw (s .channels) (cyclic-length n low)

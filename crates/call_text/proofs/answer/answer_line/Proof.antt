@@ -23,24 +23,28 @@ swept : tie.Need-returns-4
 unfolding shown shownAs
 swept c = rw (c .before .before .answer2 .given .1) (c .one-number3 .ensures)
 
-pair : tie.Need-returns-5
+tournament-swept : tie.Need-returns-5
 unfolding shown shownAs
-pair c = rw (c .before .before .answer3 .given .1) (c .two-numbers .ensures)
+tournament-swept c = rw (c .before .before .answer3 .given .1) (c .one-number4 .ensures)
 
-no-pair : tie.Need-returns-6
+pair : tie.Need-returns-6
+unfolding shown shownAs
+pair c = rw (c .before .before .answer4 .given .1) (c .two-numbers .ensures)
+
+no-pair : tie.Need-returns-7
 unfolding shown shownAs
 no-pair c = rw (c .before .enum-told2 .given .1) (c .none-line .ensures)
 
-axis : tie.Need-returns-7
+axis : tie.Need-returns-8
 unfolding shown shownAs
 axis c =
     let a = c .before .before in
-    let f : SFits w64 (a .answer4 .given .0 .0) = search needs in
-    rw (a .answer4 .given .1) (rw (toZ-ofZ f) at (c .axis-line .ensures))
+    let f : SFits w64 (a .answer5 .given .0 .0) = search needs in
+    rw (a .answer5 .given .1) (rw (toZ-ofZ f) at (c .axis-line .ensures))
 
-refused : tie.Need-returns-8
+refused : tie.Need-returns-9
 unfolding shown shownAs
-refused c = rw (c .before .before .before .answer5 .given .1) (c .two-numbers2 .ensures)
+refused c = rw (c .before .before .before .answer6 .given .1) (c .two-numbers2 .ensures)
 
 pub answer-line-spec : {M : Type 1} → statement M
 answer-line-spec =
@@ -60,6 +64,8 @@ answer-line-spec =
     (λ c. search needs)
     (λ c κs. search needs)
     (λ c. search needs)
+    (λ c κs. search needs)
+    (λ c. search needs)
     (λ c. search needs)
     (λ c. search needs)
     (λ c κs. search needs)
@@ -67,6 +73,7 @@ answer-line-spec =
     turned
     not-turned
     swept
+    tournament-swept
     pair
     no-pair
     axis

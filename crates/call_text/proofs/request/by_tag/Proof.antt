@@ -1,7 +1,7 @@
 -- `request::by_tag` meets its contract: the tag decides.
 use borrow.Author.Needs.{needs}
 use Rattle.call_text.specs.Requests.{askedFor}
-use Rattle.call_text.proofs.Asking.{of-axis, of-load, of-none, of-pair, of-sweep, of-turn}
+use Rattle.call_text.proofs.Asking.{of-axis, of-load, of-none, of-pair, of-sweep, of-tournament-sweep, of-turn}
 use Rattle.call_text.proofs.request.by_tag.Statement.{statement}
 use Rattle.call_text.proofs.request.by_tag.Tie as tie
 
@@ -30,12 +30,18 @@ axis c =
     rw (of-axis _ _ (t .before .before .before .before .if1 .left) (t .before .before .before .if2 .left) (t .before .before .if3 .left)
     (t .before .if4 .left) (t .if5 .taken)) (c .axis .ensures)
 
-other : tie.Need-returns-6
+tournament-sweep : tie.Need-returns-6
+tournament-sweep c =
+    let t = c .before in
+    rw (of-tournament-sweep _ _ (t .before .before .before .before .before .if1 .left) (t .before .before .before .before .if2 .left)
+    (t .before .before .before .if3 .left) (t .before .before .if4 .left) (t .before .if5 .left) (t .if6 .taken)) (c .tournament-sweep .ensures)
+
+other : tie.Need-returns-7
 unfolding askedFor
 other c =
     let t = c .before in
-    rw (of-none _ _ (t .before .before .before .before .if1 .left) (t .before .before .before .if2 .left) (t .before .before .if3 .left)
-    (t .before .if4 .left) (t .if5 .left)) (c .bare .ensures)
+    rw (of-none _ _ (t .before .before .before .before .before .if1 .left) (t .before .before .before .before .if2 .left)
+    (t .before .before .before .if3 .left) (t .before .before .if4 .left) (t .before .if5 .left) (t .if6 .left)) (c .bare .ensures)
 
 pub by-tag-spec : {M : Type 1} → statement M
 by-tag-spec =
@@ -51,5 +57,7 @@ by-tag-spec =
     loose-pair
     (λ c κs. search needs)
     axis
+    (λ c κs. search needs)
+    tournament-sweep
     (λ c κs. search needs)
     other)

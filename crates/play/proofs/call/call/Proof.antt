@@ -50,7 +50,7 @@ use denote.Triple.Statement.{Contract, Triple}
 use denote.Triple.Table.{entered, cited}
 use denote.Triple.Walked.{says, needs, Stays, stay-ref, stay-none, stay-dropped, walkOf, goes-ref, goes-none, goes-dropped, Walks, ends-at, walked}
 use denote.Triple.Walked.{walk-meets}
-use Rattle.ledger.specs.Call.{loosePair, sweep, turn}
+use Rattle.ledger.specs.Call.{loosePair, sweep, tournamentSweep, turn}
 use Rattle.ledger.specs.Call.{load as load-call}
 use Rattle.record.specs.Kept.{Kept}
 use Rattle.record.specs.declared.AxisAnswer.{AxisAnswer}
@@ -72,6 +72,9 @@ use Rattle.record.proofs.lent.turn.Met as turn-thm
 use Rattle.record.proofs.lent.sweep.Symbol as sweep-def
 use Rattle.record.proofs.lent.sweep.Symbol.{name as #record·lent·sweep}
 use Rattle.record.proofs.lent.sweep.Met as sweep-thm
+use Rattle.record.proofs.lent.tournament_sweep.Symbol as tournament-def
+use Rattle.record.proofs.lent.tournament_sweep.Symbol.{name as #record·lent·tournament-sweep}
+use Rattle.record.proofs.lent.tournament_sweep.Met as tournament-thm
 use Rattle.record.proofs.lent.loose_pair.Symbol as loose-pair-def
 use Rattle.record.proofs.lent.loose_pair.Symbol.{name as #record·lent·loose-pair}
 use Rattle.record.proofs.lent.loose_pair.Met as loose-pair-thm
@@ -79,7 +82,7 @@ use Rattle.record.proofs.lent.axis.Symbol as axis-def
 use Rattle.record.proofs.lent.axis.Symbol.{name as #record·lent·axis}
 use Rattle.record.proofs.lent.axis.Met as axis-thm
 use Rattle.call_text.specs.declared.request.Request.{Request}
-use Rattle.call_text.specs.declared.request.Request.the-variants.{Load, Turn, Sweep, LoosePair, Axis, NoCall}
+use Rattle.call_text.specs.declared.request.Request.the-variants.{Load, Turn, Sweep, LoosePair, Axis, NoCall, TournamentSweep}
 use Rattle.call_text.proofs.request.Request as Req
 use Rattle.call_text.proofs.request.Request.Laws as Req′
 use Rattle.call_text.specs.Answers.{rowFor}
@@ -87,7 +90,7 @@ use Rattle.play.specs.inner.Calls.{Answers, plainOf, requestCall}
 use Rattle.play.proofs.Frame.{At, Blocks, Slot as Local, env, frame, fresh, holds, room, with-held, allocates, releases, here, within, fills}
 use Rattle.play.proofs.Frame.{clears, next}
 use Rattle.play.proofs.Contracts.{axis-done, call-done, call-slots, integers, keeping, load-done, load-slots, one-slots, pair-done, sweep-done}
-use Rattle.play.proofs.Contracts.{sweep-slots, turn-done, turn-slots}
+use Rattle.play.proofs.Contracts.{sweep-slots, tournament-done, turn-done, turn-slots}
 use Rattle.play.proofs.Lending.{Lent, clauses, ended, lent-call, lent-call-last}
 use Rattle.play.proofs.Switching.{switches-to}
 use Rattle.play.proofs.LentCalls.{answers-axis, answers-none, answers-plain}
@@ -114,6 +117,9 @@ module _ {M : Type 1} (𝓤 : URA M) (H : Heap 𝓤) (A : Atoms 𝓤) where
 
   abbrev SweepCall : Contract 𝓤
   SweepCall = Lent Answer.the-row sweep-slots tt (keeping sweep-slots) sweep-done 𝓤 H A
+
+  abbrev TournamentCall : Contract 𝓤
+  TournamentCall = Lent Answer.the-row sweep-slots tt (keeping sweep-slots) tournament-done 𝓤 H A
 
   abbrev PairCall : Contract 𝓤
   PairCall = Lent Answer.the-row one-slots (yes, tt) (keeping one-slots) pair-done 𝓤 H A
@@ -155,6 +161,9 @@ turn-arm = reads-field 5 1 1 (reads-field 6 1 2 (plain-arm 13 #record·lent·tur
 
 abbrev sweep-arm : Body
 sweep-arm = plain-arm 15 #record·lent·sweep [] 14
+
+abbrev tournament-arm : Body
+tournament-arm = plain-arm 21 #record·lent·tournament-sweep [] 20
 
 abbrev pair-arm : Body
 pair-arm = reads-field 7 3 1 (plain-arm 17 #record·lent·loose-pair (copy (place 7 []) ∷ []) 16)
@@ -343,6 +352,21 @@ module _ {M : Type 1} (𝓤 : URA M) (H : Heap 𝓤) (A : Atoms 𝓤) (W : Given
           plainly Sweep 14 v (λ j Γ. and-then ! (load ! (from ! (stop !)) (next ! _ 14 refl)) (no-more !)) (λ w Γ wt. fills ! _ 9 refl wt)
           (λ w Γ G. clears _ 14 _ _ _ refl) y g (λ z e. answers-plain h sweep y g z refl so e)))
 
+      -- `O`
+      tournament-matched : Triple 𝓤 (C #record·lent·tournament-sweep) (TournamentCall 𝓤 H A) →
+          Sq W (Before TournamentSweep) (runs C Λ E pieces.s-1 (Then TournamentSweep))
+      unfolding requestCall rowFor
+      tournament-matched known =
+          switches-to ! (load ! (from ! (vrt ! refl (fld ! refl (stop !)))) (within ! _ 2 refl (λ Δ. look-tag ! 0 (whole !)))) tournament-arm refl $
+          assigns ! (addr ! (from ! (hop ! (here ! _ 1 refl) (stop !)))) (from ! (stop !)) (fills ! _ 21 refl (tt, tt)) $
+          use0 W (raw (emp 𝓤)) (id⊢ 𝓤 (emp 𝓤)) $ move ! (1 ∷ 2 ∷ 3 ∷ 0 ∷ []) $
+          lent-call Answer.the-row sweep-slots tt (keeping sweep-slots) tournament-done 𝓤 H A W tt tt b o h (λ α. tt) (λ α. tt)
+          (λ α. kept) (emp 𝓤) (λ α. brings-none) fm known κ q γ (λ α δ. and-then ! (load ! (from ! (stop !)) (next ! _ 21 refl)) (no-more !))
+          (λ α v y g so. move ! (1 ∷ []) $ peeks ! Answer.the-row (Is Answer.the-row) (shows 𝓤 H A Answer.the-row) y (v ∷ []) (λ is.
+          keep ! (1 ∷ 2 ∷ 3 ∷ 5 ∷ 0 ∷ []) $ land ! (from ! (stop !)) (fills ! _ 20 refl (answer-typed y v is)) $ clears _ 21 _ _ _ refl $
+          plainly TournamentSweep 20 v (λ j Γ. and-then ! (load ! (from ! (stop !)) (next ! _ 20 refl)) (no-more !)) (λ w Γ wt. fills ! _ 9 refl wt)
+          (λ w Γ G. clears _ 20 _ _ _ refl) y g (λ z e. answers-plain h tournamentSweep y g z refl so e)))
+
       -- `Q` t
       pair-matched : Triple 𝓤 (C #record·lent·loose-pair) (PairCall 𝓤 H A) → (t : ℕ) → t < 2 ^ 64 →
           Sq W (Before (LoosePair t)) (runs C Λ E pieces.s-1 (Then (LoosePair t)))
@@ -425,7 +449,8 @@ module _ {M : Type 1} (𝓤 : URA M) (H : Heap 𝓤) (A : Atoms 𝓤) (W : Given
 
       module _ (known-load : Triple 𝓤 (C #record·lent·load) (LoadCall 𝓤 H A)) (known-turn : Triple 𝓤 (C #record·lent·turn) (TurnCall 𝓤 H A))
           (known-sweep : Triple 𝓤 (C #record·lent·sweep) (SweepCall 𝓤 H A)) (known-pair : Triple 𝓤 (C #record·lent·loose-pair) (PairCall 𝓤 H A))
-          (known-axis : Triple 𝓤 (C #record·lent·axis) (AxisCall 𝓤 H A)) where
+          (known-axis : Triple 𝓤 (C #record·lent·axis) (AxisCall 𝓤 H A))
+          (known-tournament : Triple 𝓤 (C #record·lent·tournament-sweep) (TournamentCall 𝓤 H A)) where
         matched : (request : Request) → Is Req.the-row request (req request ∷ []) → Sq W (Before request) (runs C Λ E pieces.s-1 (Then request))
         matched (Load n) is = load-matched known-load n (EL.owed Req.the-type Req′.the-laws (Load n) _ is .0 .1)
         matched (Turn i j) is = let o = EL.owed Req.the-type Req′.the-laws (Turn i j) _ is in turn-matched known-turn i j (o .0 .1) (o .1 .0 .1)
@@ -433,12 +458,15 @@ module _ {M : Type 1} (𝓤 : URA M) (H : Heap 𝓤) (A : Atoms 𝓤) (W : Given
         matched (LoosePair t) is = pair-matched known-pair t (EL.owed Req.the-type Req′.the-laws (LoosePair t) _ is .0 .1)
         matched (Axis i) is = axis-matched known-axis i (EL.owed Req.the-type Req′.the-laws (Axis i) _ is .0 .1)
         matched NoCall is = none-matched
+        matched TournamentSweep is = tournament-matched known-tournament
 
   -- ---- from the entry to the `switch`
   module _ (C : Calls 𝓤 H) (Λ : Loops 𝓤 H) (fm : FmC 𝓤 H (W .laws) C) (known-plain : Triple 𝓤 (C #play·call·plain) Plain)
       (known-load : Triple 𝓤 (C #record·lent·load) (LoadCall 𝓤 H A)) (known-turn : Triple 𝓤 (C #record·lent·turn) (TurnCall 𝓤 H A))
       (known-sweep : Triple 𝓤 (C #record·lent·sweep) (SweepCall 𝓤 H A)) (known-pair : Triple 𝓤 (C #record·lent·loose-pair) (PairCall 𝓤 H A))
-      (known-axis : Triple 𝓤 (C #record·lent·axis) (AxisCall 𝓤 H A)) (request : Request) (is : Is Req.the-row request (req request ∷ []))
+      (known-axis : Triple 𝓤 (C #record·lent·axis) (AxisCall 𝓤 H A))
+      (known-tournament : Triple 𝓤 (C #record·lent·tournament-sweep) (TournamentCall 𝓤 H A)) (request : Request)
+      (is : Is Req.the-row request (req request ∷ []))
       (numbers-are : Is (ShrSlice (named 1) κ₁ i64) numbers (slice-vals numbers)) where
     walk : ent 𝓤 (onEntry 𝓤 H A (T .signature) (κ, (κ₁, tt)) (q, (q₁, tt)) (x h, (request, (numbers, tt)))
         (vptr b o ∷ [], (req request ∷ [], (slice-vals numbers, tt))))
@@ -452,19 +480,21 @@ module _ {M : Type 1} (𝓤 : URA M) (H : Heap 𝓤) (A : Atoms 𝓤) (W : Given
         -- the locals; the tokens; what the parameters own
         move ! (2 ∷ []) $ fsplit ! $ move ! (1 ∷ []) $ fsplit ! $ drop ! $ fsplit ! $ move ! (4 ∷ []) $ split ! $ move ! (1 ∷ []) $ split ! $
         keep ! (6 ∷ 5 ∷ 2 ∷ 0 ∷ 3 ∷ []) $ first ! $
-        matched C Λ fm D known-plain known-load known-turn known-sweep known-pair known-axis request is)
+        matched C Λ fm D known-plain known-load known-turn known-sweep known-pair known-axis known-tournament request is)
 
 module _ {M : Type 1} (𝓤 : URA M) (H : Heap 𝓤) (A : Atoms 𝓤) (W : Given 𝓤 H A) (mem : Memory → SProp 𝓤) (run : Routine → Fun 𝓤) (𝓣 : Tables 𝓤 H)
     (known-plain : Triple 𝓤 (𝓣 .C #play·call·plain) (PlainCall 𝓤 H A mem run)) (known-load : Triple 𝓤 (𝓣 .C #record·lent·load) (LoadCall 𝓤 H A))
     (known-turn : Triple 𝓤 (𝓣 .C #record·lent·turn) (TurnCall 𝓤 H A)) (known-sweep : Triple 𝓤 (𝓣 .C #record·lent·sweep) (SweepCall 𝓤 H A))
-    (known-pair : Triple 𝓤 (𝓣 .C #record·lent·loose-pair) (PairCall 𝓤 H A)) (known-axis : Triple 𝓤 (𝓣 .C #record·lent·axis) (AxisCall 𝓤 H A)) where
+    (known-pair : Triple 𝓤 (𝓣 .C #record·lent·loose-pair) (PairCall 𝓤 H A)) (known-axis : Triple 𝓤 (𝓣 .C #record·lent·axis) (AxisCall 𝓤 H A))
+    (known-tournament : Triple 𝓤 (𝓣 .C #record·lent·tournament-sweep) (TournamentCall 𝓤 H A)) where
   call-walks : Walks 𝓤 H A T stayed (WpFn 𝓤 H (𝓣 .C) (𝓣 .Λ) code.function) (C₀ 𝓤)
   call-walks = walked 𝓤 H A T stayed (C₀ 𝓤) (WpFn 𝓤 H (𝓣 .C) (𝓣 .Λ) code.function)
       (λ κs. (ptr-vals, (EL.vals Req.the-type Req′.the-laws, (slice-vals, tt))))
       (λ κs. (mut-tells (named 0) (κs .0) Rec.the-row, (EL.tells Req.the-type Req′.the-laws, (shr-slice-tells (named 1) (κs .1 .0) i64, tt))))
       (λ κs qs bounds a g are. needs 𝓤 (Kept (now (a .0))) _ (λ kept.
       walk 𝓤 H A W (κs .0) (κs .1 .0) (qs .0) (qs .1 .0) (ptr (a .0) .0) (ptr (a .0) .1) (name (a .0)) (now (a .0)) kept (a .1 .1 .0) mem run
-      (𝓣 .C) (𝓣 .Λ) (fmOf 𝓤 H (W .laws) 𝓣) known-plain known-load known-turn known-sweep known-pair known-axis (a .1 .0) (are .1 .0) (are .1 .1 .0)))
+      (𝓣 .C) (𝓣 .Λ) (fmOf 𝓤 H (W .laws) 𝓣) known-plain known-load known-turn known-sweep known-pair known-axis known-tournament
+      (a .1 .0) (are .1 .0) (are .1 .1 .0)))
 
   call-meets : Meets 𝓤 H A (T .signature) (WpFn 𝓤 H (𝓣 .C) (𝓣 .Λ) code.function) (closing 𝓤 H A T (C₀ 𝓤))
   call-meets = walk-meets 𝓤 H A T stayed W (
@@ -486,4 +516,6 @@ call-spec 𝓤 H 𝓜 𝓖 𝓡 =
     (cited 𝓤 H (SweepCall 𝓤 H (𝓖 .A)) 𝓜 𝓡 code.env #record·lent·sweep sweep-def.routine code.calls-record·lent·sweep (sweep-thm.met 𝓤 H 𝓜 𝓖 𝓡))
     (cited 𝓤 H (PairCall 𝓤 H (𝓖 .A)) 𝓜 𝓡 code.env #record·lent·loose-pair loose-pair-def.routine code.calls-record·lent·loose-pair
     (loose-pair-thm.met 𝓤 H 𝓜 𝓖 𝓡))
-    (cited 𝓤 H (AxisCall 𝓤 H (𝓖 .A)) 𝓜 𝓡 code.env #record·lent·axis axis-def.routine code.calls-record·lent·axis (axis-thm.met 𝓤 H 𝓜 𝓖 𝓡)))
+    (cited 𝓤 H (AxisCall 𝓤 H (𝓖 .A)) 𝓜 𝓡 code.env #record·lent·axis axis-def.routine code.calls-record·lent·axis (axis-thm.met 𝓤 H 𝓜 𝓖 𝓡))
+    (cited 𝓤 H (TournamentCall 𝓤 H (𝓖 .A)) 𝓜 𝓡 code.env #record·lent·tournament-sweep tournament-def.routine code.calls-record·lent·tournament-sweep
+    (tournament-thm.met 𝓤 H 𝓜 𝓖 𝓡)))

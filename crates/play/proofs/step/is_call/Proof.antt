@@ -28,10 +28,15 @@ none : tie.Need-returns-6
 unfolding isCall
 none c = rw (c .enum-told6 .given .1)
 
+tournament-sweep : tie.Need-returns-7
+unfolding isCall
+tournament-sweep c = rw (c .enum-told7 .given .1)
+
 pub is-call-spec : {M : Type 1} → statement M
 is-call-spec =
     tie.close
     (tie.spec
+    (λ c. search needs)
     (λ c. search needs)
     (λ c. search needs)
     (λ c. search needs)
@@ -43,4 +48,5 @@ is-call-spec =
     sweep
     loose-pair
     axis
-    none)
+    none
+    tournament-sweep)
