@@ -12,7 +12,7 @@ use Rattle.turn.specs.laws.Symmetry.{turned-symmetric}
 use Rattle.turn.specs.laws.Gain.{gains}
 use Rattle.ledger.specs.laws.Accepted.{turn-accepted}
 use Rattle.ledger.specs.Call.{Call}
-use Rattle.ledger.specs.laws.Orders.{each-in}
+use Rattle.ledger.specs.laws.Orders.{once-in}
 use Rattle.ledger.specs.Pairs.{Ordered, Each}
 use Rattle.ledger.specs.Gain.{PairGains, Turning, by-turn, by-sweep, StateGains, Gains-always}
 use Rattle.ledger.specs.laws.Invariant.{turnPair-continues, SoundLedger, sound}
@@ -50,7 +50,7 @@ unfolding Each
 turning-each s call pairs b (by-turn p q) e =
     let turns = turn-accepted (s .n) (s .m) p q e in
     (record { ordered = omega arith; within = omega arith }, tt)
-turning-each s call pairs b (by-sweep order) e = each-in order (s .n) b
+turning-each s call pairs b (by-sweep order) e = once-in order (s .n) b .ordered
 
 turning-done : (s : State) (call : Call) (pairs : List Pair) → Turning (s .n) call pairs → refusalOf (s .n) (s .m) call ≡ 0 →
     ledgerStep (loaded s) call ≡ loaded (turnPairs s pairs)

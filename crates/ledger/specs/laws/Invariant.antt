@@ -14,7 +14,7 @@ use Rattle.choice.specs.declared.Choice.{Choice}
 use Rattle.choice.specs.declared.Choice.the-variants.{NoTurn, Turn}
 use Rattle.ledger.specs.laws.Accepted.{accepted-under, load-accepted, turn-accepted, sweep-accepted}
 use Rattle.ledger.specs.Call.{Call, load, turn, sweepIn, loosePair, axis}
-use Rattle.ledger.specs.laws.Orders.{each-in, length-in}
+use Rattle.ledger.specs.laws.Orders.{once-in}
 use Rattle.ledger.specs.Ledger.{State, Ledger, empty, loaded, take, turnPair, turnPairs, accepted, sizeOf, turnsOf}
 use Rattle.ledger.specs.Ledger.{ledgerStepUnder, ledgerFromUnder}
 use Rattle.ledger.specs.Ledger.{ledger}
@@ -72,9 +72,8 @@ sound-accepted (loaded s) (turn p q) h e =
     sound-turn s (record { p = p - 1; q = q - 1 }) h (record { ordered = omega arith; within = omega arith }) (turns .left)
 sound-accepted empty (sweepIn order) h e = h
 sound-accepted (loaded s) (sweepIn order) h e =
-    let some-channel : 1 ≤ s .n = omega (arith, h .low) in
-    sound-sweep s (pairsIn order (s .n)) h (each-in order (s .n) (h .high))
-    (omega (arith, length-in order (s .n) some-channel (h .high), sweep-accepted (s .n) (s .m) order e))
+    sound-sweep s (pairsIn order (s .n)) h (once-in order (s .n) (h .high) .ordered)
+    (omega (arith, once-in order (s .n) (h .high) .count, sweep-accepted (s .n) (s .m) order e))
 sound-accepted g (loosePair t) h e = h
 sound-accepted g (axis i) h e = h
 

@@ -5,7 +5,7 @@ use mathlib.Core.List.{List, [], _∷_}
 use Prim.Native.Nat.{ℕ, _-_, _*_, _/_, _<_, _≤_}
 use native.Mathlib.Omega.{arith}
 use lib.Dec.{T, ltb, eqb, ltb→lt, eqb→eq}
-use lib.ListN.{length, take}
+use lib.ListN.{length}
 use mir.Facts.{and-yes}
 use Rattle.integer.specs.Range.{all}
 use Rattle.integer.specs.laws.Range.{below}
@@ -63,24 +63,14 @@ exact-once n pairs t = record { ordered = each-in n pairs (both .0); once = once
 once-to-8 : (order : ℕ → List Pair) → T (all (λ n. exact n (order n)) 9) → (n : ℕ) → n ≤ 8 → ExactlyOnce n (order n)
 once-to-8 order t n h = exact-once n (order n) (below (λ n. exact n (order n)) 9 t n (omega arith))
 
-once-in-tournament : (n : ℕ) → n ≤ 8 → ExactlyOnce n (tournament n)
-unfolding occurrences tournament among allRounds round moved lastOf beforeLast firstLines everySecond
-once-in-tournament = once-to-8 tournament tt
-
 -- 'Each pair comes exactly once in a sweep.'
-pub tournament-once : (n : ℕ) → 2 ≤ n → n ≤ 8 → ExactlyOnce n (tournament n)
-tournament-once n h = once-in-tournament n
+pub tournament-once : (n : ℕ) → n ≤ 8 → ExactlyOnce n (tournament n)
+unfolding occurrences tournament among allRounds round moved lastOf beforeLast firstLines everySecond
+tournament-once = once-to-8 tournament tt
 
-pub cyclic-once : (n : ℕ) → 2 ≤ n → n ≤ 8 → ExactlyOnce n (cyclic n)
+pub cyclic-once : (n : ℕ) → n ≤ 8 → ExactlyOnce n (cyclic n)
 unfolding occurrences cyclic rowsFrom row
-cyclic-once n h = once-to-8 cyclic tt n
-
--- What `cyclic-pairs` and `cyclic-length` say of the cyclic sweep
-pub tournament-pairs : (n : ℕ) → n ≤ 8 → Each n (tournament n)
-tournament-pairs n h = once-in-tournament n h .ordered
-
-pub tournament-length : (n : ℕ) → 1 ≤ n → n ≤ 8 → length (tournament n) ≡ n * (n - 1) / 2
-tournament-length n h k = once-in-tournament n k .count
+cyclic-once = once-to-8 cyclic tt
 
 -- Source document 000, Table 3.1, n = 8: the lines at first, and after one move
 pub table-left : firstLines 4 ≡ record { upper = 1 ∷ 3 ∷ 5 ∷ 7 ∷ []; lower = 2 ∷ 4 ∷ 6 ∷ 8 ∷ [] }
@@ -95,18 +85,13 @@ table-right = refl
 abbrev pub named : ℕ → ℕ → Pair
 named p q = record { p = p - 1; q = q - 1 }
 
--- 'Within a round pairs are turned left to right': the columns of Table 3.1, left and then right
-pub first-rounds : take 8 (tournament 8) ≡
-    named 1 2 ∷ named 3 4 ∷ named 5 6 ∷ named 7 8 ∷ named 1 4 ∷ named 2 6 ∷ named 3 8 ∷ named 5 7 ∷ []
-unfolding tournament among allRounds round moved lastOf beforeLast firstLines everySecond
-first-rounds = refl
-
 -- 'An odd n is played as n + 1, and pairs that name n + 1 are skipped': 4 meets 3, then 1, then 2.
 pub tournament-of-3 : tournament 3 ≡ named 1 2 ∷ named 2 3 ∷ named 1 3 ∷ []
 unfolding tournament among allRounds round moved lastOf beforeLast firstLines everySecond
 tournament-of-3 = refl
 
--- Each n has rounds of its own: those of 4, 6 and 8, a round a line, of 5, played as 6, and of 7.
+-- Each n has rounds of its own: those of 4, 6 and 8, a round a line, of 5, played as 6, and of 7. 'Within a round pairs are turned left to right':
+-- the first two lines of 8 are the columns of Table 3.1, left and then right.
 pub tournament-of-4 : tournament 4 ≡
     named 1 2 ∷ named 3 4 ∷
     named 1 4 ∷ named 2 3 ∷

@@ -15,9 +15,9 @@ use Rattle.integer.specs.Square.{sq}
 use Rattle.integer.specs.Sum.{sumℕ}
 use Rattle.integer.specs.laws.Sum.{sumℕ-cong}
 use Rattle.integer.specs.laws.Tabulate.{getD-repeated}
-use Rattle.ledger.specs.laws.Accepted.{accepted-under, turn-accepted, sweep-accepted, sweep-held}
+use Rattle.ledger.specs.laws.Accepted.{accepted-under, turn-accepted, sweep-accepted}
 use Rattle.ledger.specs.Call.{Call, load, turn, sweepIn, loosePair, axis}
-use Rattle.ledger.specs.laws.Orders.{each-in, length-in}
+use Rattle.ledger.specs.laws.Orders.{once-in}
 use Rattle.limits.specs.Limits.{entryLimit, turnLimit}
 use Rattle.ledger.specs.Order.{pairsIn}
 use Rattle.ledger.specs.Pairs.{Pair}
@@ -99,8 +99,8 @@ turned-kept r p q k e =
     }
 
 -- n(n−1)/2 is how many pairs a sweep has
-pub sweep-fits : (order : Order) (m n : ℕ) → 1 ≤ n → n ≤ 8 → m + n * (n - 1) / 2 ≤ turnLimit → m + length (pairsIn order n) ≤ turnLimit
-sweep-fits order m n some h l = omega (arith, l, length-in order n some h)
+pub sweep-fits : (order : Order) (m n : ℕ) → n ≤ 8 → m + n * (n - 1) / 2 ≤ turnLimit → m + length (pairsIn order n) ≤ turnLimit
+sweep-fits order m n h l = omega (arith, l, once-in order n h .count)
 
 swept-kept : (r : Record) (order : Order) → Kept r → refusalOf (r .n) (r .m) (sweepIn order) ≡ 0 → Kept (sweptOf r order)
 unfolding sweptOf workedOf workOf
@@ -110,10 +110,10 @@ swept-kept r order k e =
       channels = k .channels;
       turns =
           le-trans (works-grow (r .n) (workOf r) (pairsIn order (r .n)))
-          (sweep-fits order (r .m) (r .n) (sweep-held (r .n) (r .m) order e) (k .size) (sweep-accepted (r .n) (r .m) order e));
+          (sweep-fits order (r .m) (r .n) (k .size) (sweep-accepted (r .n) (r .m) order e));
       work =
           worked-kept r (workPairs (r .n) (workOf r) (pairsIn order (r .n))) (k .size)
-          (works-keep (r .n) (workOf r) (pairsIn order (r .n)) (k .size) (k .work) (each-in order (r .n) (k .size)));
+          (works-keep (r .n) (workOf r) (pairsIn order (r .n)) (k .size) (k .work) (once-in order (r .n) (k .size) .ordered));
       matrix-length = length-flat _;
       axes-length = length-flat _;
     }

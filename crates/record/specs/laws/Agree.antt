@@ -11,7 +11,7 @@ use Rattle.integer.specs.Matrix.{Same}
 use Rattle.ledger.specs.laws.Accepted.{accepted-under, load-accepted, turn-accepted}
 use Rattle.limits.specs.Limits.{entryLimit}
 use Rattle.ledger.specs.Call.{Call, load, turn, sweepIn, loosePair, axis}
-use Rattle.ledger.specs.laws.Orders.{each-in}
+use Rattle.ledger.specs.laws.Orders.{once-in}
 use Rattle.ledger.specs.Pairs.{Ordered, Each}
 use Rattle.ledger.specs.Ledger as L
 use Rattle.ledger.specs.Ledger.{Ledger, State, empty, loaded, accepted, ledgerStepUnder, sizeOf, turnsOf, take, turnPair, turnPairs}
@@ -149,7 +149,7 @@ agree-accepted r empty (sweepIn order) k a e = absurd (ten-is-not-zero (rw a at 
 agree-accepted r (loaded s) (sweepIn order) k a e =
     from-work r _ _ (k .size)
     (subst (λ n. AgreeWork (r .n) (workPairs (r .n) (workOf r) (pairsIn order (r .n))) (turnPairs s (pairsIn order n))) (a .size)
-    (agree-pairs (r .n) (workOf r) s (pairsIn order (r .n)) (k .size) (k .work) (at-work r s (k .size) a) (each-in order (r .n) (k .size))))
+    (agree-pairs (r .n) (workOf r) s (pairsIn order (r .n)) (k .size) (k .work) (at-work r s (k .size) a) (once-in order (r .n) (k .size) .ordered)))
 agree-accepted r g (loosePair t) k a e = a
 agree-accepted r g (axis i) k a e = a
 

@@ -1,10 +1,10 @@
 -- `record::Record::sweep_in` meets its contract.
-use mathlib.Core.Path.{_≡_, refl, sym, ap, _∙_}
-use Prim.Native.Nat.{ℕ, _-_}
+use mathlib.Core.Path.{_≡_, sym, ap, _∙_}
+use Prim.Native.Nat.{_-_}
 use borrow.Author.Needs.{needs}
 use Rattle.ledger.specs.Call.{sweep, sweepIn}
 use Rattle.ledger.specs.Order.{pairsIn}
-use Rattle.ledger.specs.Refusal.{refusalOf, refusalUnder}
+use Rattle.ledger.specs.laws.Orders.{refused-alike}
 use Rattle.ledger.specs.declared.Order.{Order}
 use Rattle.ledger.specs.declared.Order.the-variants.{Cyclic}
 use Rattle.ledger.specs.laws.Accepted.{sweep-accepted, sweep-held}
@@ -17,18 +17,13 @@ use Rattle.record.proofs.Outcome.{accepted, at-work, kept-ready, refuse
 use Rattle.record.proofs.Record.sweep_in.Statement.{statement}
 use Rattle.record.proofs.Record.sweep_in.Tie as tie
 
--- a sweep's refusal does not depend on its order
-either : (order : Order) (n m : ℕ) → refusalOf n m sweep ≡ refusalOf n m (sweepIn order)
-unfolding refusalUnder
-either order n m = refl
-
 sweep-refusal-requires : tie.Need-sweep-refusal-requires
 sweep-refusal-requires c κs = (c .pre .size, c .pre .turns)
 
 returns : tie.Need-returns
 returns c =
     let s = c .before .before .before in
-    refuses (s .args .t1) (sweepIn (s .args .order)) (s .pre) _ (c .before .before .sweep-refusal .ensures ∙ either (s .args .order) _ _) _
+    refuses (s .args .t1) (sweepIn (s .args .order)) (s .pre) _ (c .before .before .sweep-refusal .ensures ∙ sym (refused-alike (s .args .order) _ _)) _
     (c .before .if1 .taken) (c .refuse .ensures)
 
 -- the rows of the record, unpacked
@@ -73,7 +68,7 @@ unfolding valueOf acceptedOf sweptOf workedOf
 returns-2 c =
     let u = c .before .before .before .before .before in
     let swept = c .before .before .work-pairs .ensures ∙ ap (λ w. workPairs (r u .n) w (pairsIn (order u) (r u .n))) (rows u) in
-    accepted (r u) (sweepIn (order u)) (start u .pre) _ (checked u .before .sweep-refusal .ensures ∙ either (order u) _ _) _ _
+    accepted (r u) (sweepIn (order u)) (start u .pre) _ (checked u .before .sweep-refusal .ensures ∙ sym (refused-alike (order u) _ _)) _ _
     (checked u .if1 .left)
     (c .before .swept .ensures ∙ ap (λ (w : Work). sweptIn (order u) (w .m - r u .m)) swept)
     (c .with-rows .ensures ∙ ap (workedOf (r u)) swept)

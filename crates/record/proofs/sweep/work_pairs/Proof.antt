@@ -102,7 +102,7 @@ work-place-requires c κs =
           inner .few,
           outer .few,
           ap length (begins r),
-          sweep-fits (order r) (s .args .m) (n r) (s .pre .0) (s .pre .1) (s .pre .2),
+          sweep-fits (order r) (s .args .m) (n r) (s .pre .1) (s .pre .2),
         );
         matrix = inner .matrix;
         axes = inner .axes;
