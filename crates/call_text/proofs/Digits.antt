@@ -14,8 +14,8 @@ use lib.ListN.{length, drop, getD, drop-of-length-le}
 use lib.Seq.{drop-cons}
 use Rattle.integer.specs.Signed.{signed}
 use Rattle.text.specs.Numeral.{leadingZero, valueFrom}
-use Rattle.text.specs.Range.{allWithin, within}
-use Rattle.text.specs.laws.Range.{both, is-within}
+use Rattle.integer.specs.Within.{allWithin, within}
+use Rattle.integer.specs.laws.Within.{both, is-within}
 use Rattle.call_text.specs.Numbers.{beyond, digitLimit, numeral, signedOf, standsFor, unsignedOf, withMinus, withoutMinus}
 use Rattle.call_text.specs.inner.Read.{unsignedIs, signedIs}
 use Rattle.call_text.specs.declared.field.Unsigned.{Unsigned}

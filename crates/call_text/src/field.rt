@@ -5,7 +5,7 @@ ghost use mathlib.Core.Path.{_≡_};
 ghost use Prim.Native.Nat.{_≤_};
 ghost use lib.ListN.{length};
 ghost use Rattle.text.specs.Numeral.{leadingZero, valueFrom};
-ghost use Rattle.text.specs.Range.{allWithin};
+ghost use Rattle.integer.specs.Within.{allWithin};
 ghost use Rattle.call_text.specs.Numbers.{digitLimit, numeral, signedOf, unsignedOf};
 ghost use Rattle.call_text.specs.inner.Read.{signedIs, unsignedIs};
 

@@ -18,7 +18,7 @@ use Rattle.run.specs.Run.{runOf}
 use Rattle.record.specs.declared.run.Outcome.the-variants.{Settled, Still}
 use Rattle.scatter.specs.Table.{S, scatter, largest, tableOf}
 use Rattle.scatter.specs.declared.table.Table.{Table}
-use Rattle.sums.specs.Samples.{Sample, sample}
+use Rattle.readings.specs.Samples.{Sample, sample}
 use Rattle.text.specs.Ascii.{ascii}
 use Rattle.turn.specs.InUse.{inUse}
 use Rattle.turn.specs.Rotation.{rotationOf}

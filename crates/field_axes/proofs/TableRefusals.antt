@@ -7,7 +7,7 @@ use native.Mathlib.Omega.{arith}
 use native.Mathlib.Nat.{add-zero, div-add-mod, mul-div-right, mul-mod-right}
 use lib.ListN.{length}
 use borrow.Author.Tests.{eq-eqb, le-leb, lt-leb, ne-eqb}
-use Rattle.text.specs.Range.{allWithin}
+use Rattle.integer.specs.Within.{allWithin}
 use Rattle.field_axes.specs.Table.{tableRefusal, valuesWithin}
 
 module _ (n : ℕ) (dilutions counts : List ℕ) (size : ℕ) where

@@ -8,7 +8,7 @@ use lib.Dec.{leb}
 use lib.ListN.{length, getD, drop}
 use lib.Seq.{drop-cons}
 use borrow.Author.Tests.{le-leb, lt-leb}
-use Rattle.text.specs.Range.{allWithin, within}
+use Rattle.integer.specs.Within.{allWithin, within}
 
 module _ (low high : ℕ) (values : List ℕ) (i : ℕ) (h : i < length values) where
   here : allWithin low high (drop i values) ≡ ((leb low (getD values i 0) && leb (getD values i 0) high) && allWithin low high (drop (i + 1) values))

@@ -6,7 +6,8 @@ use lib.Dec.{eqb, leb}
 use lib.IntN.{ℤ, pos}
 use lib.ListN.{take}
 use Rattle.ledger.specs.Call.{axis, load}
-use Rattle.ledger.specs.Refusal.{refusalOf, unless}
+use Rattle.ledger.specs.Refusal.{refusalOf}
+use Rattle.limits.specs.Unless.{unless}
 use Rattle.limits.specs.Limits.{leastSweeps, mostSweeps, toleranceLimit}
 use Rattle.report.specs.AxisNumbers.{axisValues}
 use Rattle.record.specs.Record.{answerOf, axisOf}

@@ -5,11 +5,11 @@ use mathlib.Core.List.{List, [], _∷_, _++_}
 use lib.Dec.{eqb, leb}
 use lib.IntN.{ℤ, pos}
 use lib.ListN.{length, take}
-use Rattle.ledger.specs.Refusal.{unless}
-use Rattle.sums.specs.Samples.{samples}
+use Rattle.limits.specs.Unless.{unless}
+use Rattle.readings.specs.Samples.{samples}
 use Rattle.scatter.specs.Table.{tableOf}
 use Rattle.scatter.specs.declared.table.Table.{Table}
-use Rattle.text.specs.Range.{allWithin}
+use Rattle.integer.specs.Within.{allWithin}
 use Rattle.limits.specs.Limits.{leastChannels, mostChannels, leastDilution, mostDilution, mostCount, leastSamples, mostSamples}
 
 -- n from 2 to 8, dilutions from 1 to 100, counts up to 65,535

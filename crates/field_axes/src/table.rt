@@ -2,7 +2,7 @@
 ghost use mathlib.Core.Path.{_≡_};
 ghost use lib.ListN.{length};
 ghost use Rattle.text.specs.Put.{Put};
-ghost use Rattle.text.specs.Range.{allWithin};
+ghost use Rattle.integer.specs.Within.{allWithin};
 ghost use Rattle.field_axes.specs.inner.Readable.{Readable};
 ghost use Rattle.field_axes.specs.Table.{tableNumbersOf, tableRefusal};
 

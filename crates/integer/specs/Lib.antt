@@ -3,6 +3,7 @@ pub mod Sum
 pub mod Dot
 pub mod Matrix
 pub mod Range
+pub mod Within
 pub mod Tabulate
 pub mod RoundedUp
 pub mod Signed

@@ -8,6 +8,7 @@ pub mod Dot
 pub mod Matrix
 pub mod RowMajor
 pub mod Range
+pub mod Within
 pub mod Tests
 pub mod Tabulate
 pub mod RoundedUp

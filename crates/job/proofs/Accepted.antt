@@ -10,8 +10,8 @@ use borrow.Author.Tests.{ltb-true, ltb-false, le-leb}
 use lib.Dec.{eqb, ltb, lit≤}
 use lib.ListN.{length, getD, drop, length-append, length-drop}
 use Rattle.text.specs.Parts.{split, before}
-use Rattle.text.specs.Range.{within, allWithin}
-use Rattle.text.specs.laws.Range.{both}
+use Rattle.integer.specs.Within.{within, allWithin}
+use Rattle.integer.specs.laws.Within.{both}
 use Rattle.job.specs.Range.{parametersInRange, sampleInRange}
 use Rattle.job.specs.Text.{numberOf, numbersOf, isTag, recordOf, lineOf}
 use Rattle.job.specs.Job.{Job, Answer, refused, accepted, withSample, nextLine, nothing, ended, judged, jobAfter, begun, jobOfLines, jobOf}

@@ -9,7 +9,7 @@ use lib.Dec.{ltb}
 use lib.ListN.{length, getD, drop-of-length-le}
 use lib.Seq.{drop-cons}
 use Rattle.text.specs.inner.Numeral.{isDigit}
-use Rattle.text.specs.laws.Range.{is-within}
+use Rattle.integer.specs.laws.Within.{is-within}
 use Rattle.job.specs.inner.FieldScan.{mayFollow, digitsFrom, digitsAt, fieldFrom, fieldAt}
 use Rattle.job.specs.declared.field.Field.{Field}
 use Rattle.job.specs.declared.field.Field.the-variants.{Inner, Last, Bad}

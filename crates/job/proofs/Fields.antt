@@ -10,7 +10,7 @@ use lib.Dec.{eqb}
 use lib.ListN.{length, drop}
 use Rattle.text.specs.inner.Numeral.{isDigit}
 use Rattle.text.specs.Parts.{onto, split}
-use Rattle.text.specs.Range.{within}
+use Rattle.integer.specs.Within.{within}
 use Rattle.job.specs.inner.FieldScan.{mayFollow, digitsFrom, fieldFrom}
 use Rattle.job.specs.declared.field.Field.{Field}
 use Rattle.job.specs.declared.field.Field.the-variants.{Inner, Last, Bad}

@@ -8,7 +8,7 @@ use native.Mathlib.Omega.{arith}
 use mathlib.Core.Logic.{_⊎_, ⊎-elim}
 use lib.ListN.{length, getD, set}
 use lib.Seq.{slice, slice-cons, slice-empty}
-use Rattle.text.specs.Range.{within, allWithin}
+use Rattle.integer.specs.Within.{within, allWithin}
 use Rattle.job.specs.inner.FieldScan.{fieldAt}
 use Rattle.job.specs.declared.field.Field.{Field}
 use Rattle.job.specs.declared.field.Field.the-variants.{Inner, Last, Bad}

@@ -11,8 +11,8 @@ use lib.Dec.{leb, ltb, eqb, leb·zero, leb·suc-zero, leb·suc-suc, lit<}
 use lib.ListN.{length}
 use Rattle.text.specs.Numeral.{leadingZero, valueFrom}
 use Rattle.text.specs.inner.Numeral.{isDigit}
-use Rattle.text.specs.Range.{allWithin}
-use Rattle.text.specs.laws.Range.{is-within}
+use Rattle.integer.specs.Within.{allWithin}
+use Rattle.integer.specs.laws.Within.{is-within}
 use Rattle.job.specs.inner.FieldScan.{mayFollow}
 use Rattle.job.specs.Text.{numberOf}
 

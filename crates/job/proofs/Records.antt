@@ -12,7 +12,7 @@ use lib.ListN.{length, drop, set, replicate}
 use lib.Seq.{sets, drop-drop}
 use Rattle.integer.specs.laws.Tests.{cond-same}
 use Rattle.text.specs.Parts.{onto, split, before}
-use Rattle.text.specs.laws.Range.{both}
+use Rattle.integer.specs.laws.Within.{both}
 use Rattle.job.specs.inner.FieldScan.{fieldAt, taggedFrom, taggedAt}
 use Rattle.job.specs.Text.{numberOf, numbersOf, isTag, recordOf, lineOf}
 use Rattle.job.specs.inner.LineScan.{malformedLine, lastNumber, innerNumber, numbersAt, lineAt}

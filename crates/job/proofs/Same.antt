@@ -11,8 +11,8 @@ use native.Mathlib.Nat.{zero-mul}
 use lib.ListN.{length, getD, drop, set, replicate, length-drop, length-append, List·getD-append}
 use lib.Seq.{sets, sets-eq, slice, take-at}
 use Rattle.text.specs.Parts.{onto, split}
-use Rattle.text.specs.Range.{within}
-use Rattle.text.specs.laws.Range.{both, is-within}
+use Rattle.integer.specs.Within.{within}
+use Rattle.integer.specs.laws.Within.{both, is-within}
 use Rattle.job.specs.Range.{parametersInRange, sampleInRange}
 use Rattle.job.specs.inner.LineScan.{lineAt, sampleWithin, parametersOf, parametersAt, endingOf, endingAt}
 use Rattle.job.specs.declared.sample.Line.{Line}

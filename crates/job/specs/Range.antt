@@ -3,7 +3,7 @@ use Prim.Native.Nat.{ℕ}
 use mathlib.Core.Bool.{Bool, _&&_}
 use mathlib.Core.List.{List}
 use lib.ListN.{getD, drop}
-use Rattle.text.specs.Range.{allWithin, within}
+use Rattle.integer.specs.Within.{allWithin, within}
 use Rattle.limits.specs.Limits.{leastChannels, mostChannels, leastSweeps, mostSweeps, toleranceLimit, leastDilution, mostDilution, mostCount}
 
 -- "`P` n (2..8), sweep limit (1..16), tolerance t in units (0..1,048,576)."

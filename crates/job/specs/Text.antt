@@ -7,7 +7,7 @@ use lib.Dec.{leb, ltb, eqb}
 use lib.ListN.{length}
 use Rattle.text.specs.Numeral.{leadingZero, valueFrom}
 use Rattle.text.specs.Parts.{before, split}
-use Rattle.text.specs.Range.{allWithin}
+use Rattle.integer.specs.Within.{allWithin}
 use Rattle.limits.specs.Limits.{mostDigits}
 
 -- "A number is 1 to 7 decimal digits without a sign, and without a leading zero unless it is 0."

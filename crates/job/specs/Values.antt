@@ -3,7 +3,7 @@ use Prim.Native.Nat.{_*_}
 use mathlib.Core.Path.{_≡_}
 use mathlib.Core.Bool.{Bool, true, _&&_}
 use lib.ListN.{length}
-use Rattle.text.specs.Range.{within, allWithin}
+use Rattle.integer.specs.Within.{within, allWithin}
 use Rattle.job.specs.Range.{parametersInRange}
 use Rattle.job.specs.Job.{Job}
 use Rattle.limits.specs.Limits.{leastDilution, mostDilution, mostCount, leastSamples, mostSamples}

@@ -1,6 +1,6 @@
 // A field of a line of job text: a tag, or a number and what ends it. Document 01, "Job text and report".
 ghost use mathlib.Core.Path.{_≡_};
-ghost use Rattle.text.specs.Range.{within};
+ghost use Rattle.integer.specs.Within.{within};
 ghost use Rattle.job.specs.inner.FieldScan.{taggedAt, mayFollow, digitsAt, fieldAt};
 
 pub(crate) fn is_within(low: u32, high: u32, x: u32) -> bool

@@ -3,7 +3,7 @@ use crate::field::is_within;
 ghost use mathlib.Core.Path.{_≡_};
 ghost use Prim.Native.Nat.{_+_, _≤_};
 ghost use lib.Seq.{slice};
-ghost use Rattle.text.specs.Range.{allWithin};
+ghost use Rattle.integer.specs.Within.{allWithin};
 ghost use Rattle.job.specs.Range.{parametersInRange};
 ghost use Rattle.job.specs.inner.LineScan.{sampleWithin};
 ghost use Rattle.limits.specs.Limits.{mostCount};

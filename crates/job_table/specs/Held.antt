@@ -5,7 +5,7 @@ use lib.ListN.{length, take}
 use Rattle.job.specs.Job.{Job}
 use Rattle.job.specs.Values.{Proper}
 use Rattle.job.specs.declared.Job as arrays
-use Rattle.sums.specs.Samples.{Sample, samples}
+use Rattle.readings.specs.Samples.{Sample, samples}
 use Rattle.scatter.specs.Table.{tableOf}
 use Rattle.scatter.specs.declared.table.Table.{Table}
 

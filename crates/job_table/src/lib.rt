@@ -7,7 +7,7 @@ use scatter::table::Table;
 ghost use mathlib.Core.Path.{_≡_};
 ghost use lib.ListN.{take};
 ghost use Prim.Native.Nat.{_*_};
-ghost use Rattle.sums.specs.Samples.{samples};
+ghost use Rattle.readings.specs.Samples.{samples};
 ghost use Rattle.scatter.specs.Table.{tableOf};
 ghost use Rattle.job_table.specs.Held.{Held, jobIn, tableFor};
 ghost use Rattle.job_table.specs.inner.Held.{ReadingsIn};

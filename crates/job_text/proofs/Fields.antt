@@ -13,8 +13,8 @@ use Rattle.text.specs.Decimal.{digits, number}
 use Rattle.text.specs.laws.Digits.{length-digits, value-digits}
 use Rattle.text.specs.Numeral.{leadingZero, valueFrom}
 use Rattle.text.specs.Parts.{split, before}
-use Rattle.text.specs.Range.{allWithin}
-use Rattle.text.specs.laws.Range.{both}
+use Rattle.integer.specs.Within.{allWithin}
+use Rattle.integer.specs.laws.Within.{both}
 use Rattle.text.specs.laws.ReadBack.{decimal-digits, some-digit, no-leading-zero, digits-value}
 use Rattle.text.specs.laws.Split.{Free, EachFree, followed, joined, followed-free, split-part, split-joined, joined-split}
 use Rattle.text.specs.laws.Within.{all-free}

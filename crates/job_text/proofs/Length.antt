@@ -8,12 +8,12 @@ use lib.IntN.{pos}
 use lib.ListN.{length, getD, take, drop, replicate, length-append}
 use Rattle.text.specs.Decimal.{digits, digitsBy, number}
 use Rattle.text.specs.laws.Digits.{length-digits}
-use Rattle.text.specs.laws.Range.{all-at}
-use Rattle.text.specs.Range.{allWithin, within}
+use Rattle.integer.specs.laws.Within.{all-at}
+use Rattle.integer.specs.Within.{allWithin, within}
 use Rattle.text.specs.Line.{further, line, numberLine, numbers}
 use Rattle.text.specs.Lines.{lines}
 use Rattle.text.specs.laws.Numbers.{length-number-line}
-use Rattle.sums.specs.Samples.{sampleAt}
+use Rattle.readings.specs.Samples.{sampleAt}
 use Rattle.job.specs.Range.{parametersInRange}
 use Rattle.job.specs.Job.{Job}
 use Rattle.job.specs.Values.{Proper, inRange}

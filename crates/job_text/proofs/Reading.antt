@@ -13,7 +13,7 @@ use Rattle.text.specs.Parts.{split}
 use Rattle.text.specs.Lines.{lines}
 use Rattle.job.specs.Range.{sampleInRange}
 use Rattle.job.specs.Text.{lineOf}
-use Rattle.sums.specs.Samples.{sampleAt}
+use Rattle.readings.specs.Samples.{sampleAt}
 use Rattle.job.specs.Job.{Job, accepted, jobAfter, begun, ended, jobOf, jobOfLines, judged, nothing, withSample}
 use Rattle.job.specs.Values.{Proper}
 use Rattle.job.specs.laws.Proper.{channels, limit-most, number, ranges, tolerance-most}

@@ -6,11 +6,10 @@ use native.Mathlib.Nat.{mul-le-mul-left, mul-comm}
 use native.Mathlib.Omega.{arith}
 use lib.ListN.{length, take, drop, length-drop}
 use lib.Seq.{length-take-le}
-use Rattle.text.specs.Range.{allWithin}
-use Rattle.text.specs.laws.Range.{all-at}
-use Rattle.text.specs.laws.Within.{all-take, all-drop, within-at}
+use Rattle.integer.specs.Within.{allWithin}
+use Rattle.integer.specs.laws.Within.{all-at, all-take, all-drop, within-at}
 use Rattle.job.specs.Range.{sampleInRange}
-use Rattle.sums.specs.Samples.{sampleAt}
+use Rattle.readings.specs.Samples.{sampleAt}
 use Rattle.job.specs.Job.{Job}
 use Rattle.job.specs.Values.{Proper}
 use Rattle.job.specs.laws.Proper.{ranges}

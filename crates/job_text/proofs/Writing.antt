@@ -12,14 +12,14 @@ use lib.IntN.{pos}
 use lib.ListN.{length, getD, drop, length-append, length-drop, List·getD-append}
 use lib.Seq.{drop-append-le, drop-at, getD-at, take-all, take-append-le}
 use Rattle.text.specs.Parts.{split}
-use Rattle.text.specs.laws.Range.{both}
+use Rattle.integer.specs.laws.Within.{both}
 use Rattle.text.specs.laws.Split.{joined, joined-split}
 use Rattle.text.specs.Line.{numberLine}
 use Rattle.text.specs.Lines.{lines}
 use Rattle.text.specs.laws.Lines.{lines-more, lines-same}
 use Rattle.job.specs.Range.{parametersInRange, sampleInRange}
 use Rattle.job.specs.Text.{lineOf}
-use Rattle.sums.specs.Samples.{sampleAt}
+use Rattle.readings.specs.Samples.{sampleAt}
 use Rattle.job.specs.Job.{Answer, Job, accepted, jobAfter, begun, ended, jobOf, jobOfLines, judged, nextLine, nothing, refused, withSample}
 use Rattle.job.proofs.Accepted.{accepted-proper}
 use Rattle.job_text.specs.JobText.{ReadIsProper, WritesBack, jobTextOf, jobLineE, jobLineP, jobLineS, sampleNumbers}

@@ -6,7 +6,7 @@ use lib.IntN.{pos}
 use lib.ListN.{length}
 use Rattle.text.specs.Line.{numberLine}
 use Rattle.text.specs.Lines.{lines}
-use Rattle.sums.specs.Samples.{sampleAt}
+use Rattle.readings.specs.Samples.{sampleAt}
 use Rattle.job.specs.Job.{Job, accepted, jobOf}
 use Rattle.job.specs.Values.{Proper}
 

@@ -1,6 +1,6 @@
 -- Document 01, 'Caused by the input' and 'Caused by the state': every refusal of a call, and their order.
 use Prim.Native.Nat.{ℕ, _+_, _-_, _*_, _/_}
-use mathlib.Core.Bool.{Bool, true, false, cond, _&&_}
+use mathlib.Core.Bool.{Bool, true, false, _&&_}
 use mathlib.Core.List.{List, [], _∷_}
 use lib.Dec.{eqb, leb, ltb}
 use lib.IntN.{ℤ, pos, negsuc, natAbs}
@@ -9,6 +9,7 @@ use Rattle.integer.specs.Matrix.{Matrix, matrixOf}
 use Rattle.integer.specs.Range.{all}
 use Rattle.ledger.specs.Call.{Call, load, turn, sweepIn, loosePair, axis}
 use Rattle.limits.specs.Limits.{entryLimit, leastChannels, mostChannels, toleranceLimit, turnLimit}
+use Rattle.limits.specs.Unless.{unless}
 
 unfoldable pub equal : ℤ → ℤ → Bool
 equal (pos x) (pos y) = eqb x y
@@ -23,10 +24,6 @@ symmetric n a = all (λ i. all (λ j. equal (a i j) (a j i)) n) n
 unfoldable pub entriesWithin : ℕ → List ℤ → Bool
 entriesWithin limit [] = true
 entriesWithin limit (x ∷ xs) = leb (natAbs x) limit && entriesWithin limit xs
-
--- refused with this number unless the test holds; else what the later tests say
-abbrev pub unless : Bool → ℕ → ℕ → ℕ
-unless test number later = cond test later number
 
 -- The refusal's number, or 0 for a call that is accepted, under a limit of the entries, on a state with n channels (0: no matrix) and m turns made.
 -- Load: 5, 6, 8, 7. Other calls: 10, then 2 or 9, then 11

@@ -1,2 +1,3 @@
 pub mod Channels
 pub mod Values
+pub mod Unless

@@ -17,7 +17,8 @@ use Rattle.integer.specs.laws.Range.{below, from-each}
 use Rattle.ledger.specs.laws.Accepted.{equal-of, equal-same}
 use Rattle.ledger.specs.Call.{load}
 use Rattle.limits.specs.Limits.{entryLimit}
-use Rattle.ledger.specs.Refusal.{equal, refusalOf, refusalUnder, symmetric, unless, entriesWithin}
+use Rattle.limits.specs.Unless.{unless}
+use Rattle.ledger.specs.Refusal.{equal, refusalOf, refusalUnder, symmetric, entriesWithin}
 use Rattle.integer.specs.Matrix.{Matrix, matrixOf}
 
 -- tests that imply one another are equal

@@ -9,7 +9,7 @@ use Rattle.integer.specs.Matrix.{Matrix, rowMajor}
 use Rattle.integer.specs.Padded.{padded}
 use Rattle.limits.specs.Limits.{entryLimit}
 use Rattle.rounding.specs.Rounding.{rnd}
-use Rattle.sums.specs.Samples.{Sample, z, total}
+use Rattle.readings.specs.Samples.{Sample, z, total}
 use Rattle.scatter.specs.declared.table.Table.{Table}
 
 -- 'For k samples S_ij = k × (sum of z_i×z_j) − (sum of z_i)×(sum of z_j).'

@@ -8,12 +8,12 @@ use native.Mathlib.Omega.{arith}
 use lib.ListN.{length, getD, take, drop}
 use Rattle.integer.specs.Tabulate.{tabulate}
 use Rattle.integer.specs.laws.Tabulate.{length-tabulate, tabulate-suc}
-use Rattle.sums.specs.Samples.{Sample, sample, sampleAt, samples, z}
+use Rattle.readings.specs.Samples.{Sample, sample, sampleAt, samples, z}
 use Rattle.sums.specs.Sums.{products, totals, sumsOf}
 use Rattle.sums.specs.inner.Raised.{raised}
 use Rattle.sums.specs.declared.Sums.{Sums}
 use Rattle.sums.specs.laws.Sums.{totals-more}
-use Rattle.sums.specs.Ranges.{Readings}
+use Rattle.readings.specs.Ranges.{Readings}
 use Rattle.sums.specs.inner.Ranges.{InRange, Room}
 use Rattle.sums.specs.laws.Bounds.{sample-in-range, all-in-range, totals-bound}
 use Rattle.limits.specs.Limits.{mostSamples}

@@ -11,7 +11,7 @@ use native.Mathlib.Omega.{arith}
 use lib.ListN.{length, getD, set, List·getD-eq-default}
 use Rattle.integer.specs.laws.Tabulate.{length-tabulate, getD-tabulate}
 use Rattle.integer.specs.laws.Filled.{Filled, filled-more, filled-skip, filled-all}
-use Rattle.sums.specs.Samples.{Sample, z}
+use Rattle.readings.specs.Samples.{Sample, z}
 use Rattle.sums.specs.Sums.{products}
 use Rattle.sums.specs.inner.Raised.{raised}
 use Rattle.sums.specs.laws.Sums.{products-at}

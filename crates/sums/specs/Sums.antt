@@ -5,7 +5,7 @@ use Prim.Native.Nat.{ℕ, _*_, _/_, _%_}
 use lib.Dec.{leb}
 use lib.ListN.{length}
 use Rattle.integer.specs.Tabulate.{tabulate}
-use Rattle.sums.specs.Samples.{Sample, z, total}
+use Rattle.readings.specs.Samples.{Sample, z, total}
 use Rattle.sums.specs.declared.Sums.{Sums}
 
 -- A sample's products z_i×z_j, for i ≤ j at the place 8 × i + j; any other place has 0

@@ -1,9 +1,9 @@
 // The sums of samples: their number, channel sums and cross sums, in one pass over the samples.
 ghost use mathlib.Core.Path.{_≡_};
 ghost use Prim.Native.Nat.{_*_};
-ghost use Rattle.sums.specs.Samples.{sample, samples, z};
+ghost use Rattle.readings.specs.Samples.{sample, samples, z};
 ghost use Rattle.sums.specs.Sums.{products, sumsOf};
-ghost use Rattle.sums.specs.Ranges.{Readings};
+ghost use Rattle.readings.specs.Ranges.{Readings};
 ghost use Rattle.sums.specs.inner.Raised.{raised};
 ghost use Rattle.sums.specs.inner.Ranges.{InRange, Room, zLimit};
 ghost use Rattle.limits.specs.Limits.{mostSamples};

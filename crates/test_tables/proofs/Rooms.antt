@@ -8,7 +8,7 @@ use lib.ListN.{getD, set, take, replicate, length-replicate, length-set}
 use lib.Seq.{length-take-le, getD-set-same, getD-set-other}
 use Rattle.integer.specs.laws.Tabulate.{getD-repeated}
 use Rattle.limits.specs.Limits.{mostChannels, mostSamples, mostDilution, mostCount}
-use Rattle.sums.specs.Ranges.{Readings}
+use Rattle.readings.specs.Ranges.{Readings}
 use Rattle.sums.specs.inner.Ranges.{Room}
 use Rattle.sums.specs.laws.Bounds.{take-bound}
 

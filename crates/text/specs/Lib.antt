@@ -1,4 +1,3 @@
-pub mod Range
 pub mod Ascii
 pub mod Parts
 pub mod Numeral

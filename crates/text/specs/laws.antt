@@ -1,4 +1,3 @@
-pub mod Range
 pub mod Put
 pub mod Digits
 pub mod Examples

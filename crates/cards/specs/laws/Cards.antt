@@ -8,7 +8,7 @@ use Rattle.integer.specs.Padded.{padded}
 use Rattle.integer.specs.Tabulate.{tabulate}
 use Rattle.rounding.specs.Rounding.{rnd}
 use Rattle.scatter.specs.Table.{S, scatter, largest, smallestShift, shiftUnder, entriesUnder, tableFromUnder, tableUnder}
-use Rattle.sums.specs.Samples.{total, z}
+use Rattle.readings.specs.Samples.{total, z}
 use Rattle.turn.specs.InUse.{inUse}
 use Rattle.turn.specs.Rotation.{rotationOf, first, second}
 use Rattle.integer.specs.Signed.{signed}

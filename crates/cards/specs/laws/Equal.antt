@@ -25,7 +25,7 @@ use Rattle.record.specs.Record.{acceptedOf, afterOf, answerOf, fresh, loadedRec
 use Rattle.ledger.specs.Pairs.{cyclic}
 use Rattle.rounding.specs.laws.Nearest.{rnd-zero}
 use Rattle.record.specs.laws.Accepted.{after-accepted, load-taken, loose-pair-taken}
-use Rattle.sums.specs.Samples.{Sample, z, total}
+use Rattle.readings.specs.Samples.{Sample, z, total}
 use Rattle.scatter.specs.Table.{S, scatter, smallestShift, shift, shiftUnder, entries, tableFrom, tableFromUnder, tableOf, tableUnder}
 use Rattle.scatter.specs.laws.Entries.{entry-at, largest-zeros, length-entries, length-scatter, table-entries}
 use Rattle.turn.specs.laws.InUse.{inUse-inside}

@@ -18,7 +18,7 @@ use Rattle.record.specs.Record.{acceptedOf, afterFrom, afterFromUnder, afterOfU
 use Rattle.record.specs.laws.Demand3proof.{goes-on}
 use Rattle.rounding.specs.Rounding.{rnd}
 use Rattle.scatter.specs.Table.{S, scatter, largest, smallestShift, shiftUnder, entriesUnder, tableFromUnder, tableUnder}
-use Rattle.sums.specs.Samples.{total, z}
+use Rattle.readings.specs.Samples.{total, z}
 use Rattle.cards.specs.Cards.{twoByTwo, twoSamples}
 
 -- 'every S is 42,948,362,250,000, e = 26, entry 639,980'

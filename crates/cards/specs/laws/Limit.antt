@@ -11,7 +11,7 @@ use Rattle.limits.specs.Limits.{entryLimit}
 use Rattle.rounding.specs.Rounding.{rnd}
 use Rattle.scatter.specs.Table.{S, scatter, largest, smallestShift, shift, shiftUnder, entries, tableFromUnder, tableOf, tableUnder}
 use Rattle.scatter.specs.laws.Entries.{entries-at}
-use Rattle.sums.specs.Samples.{Sample, sample, total, z}
+use Rattle.readings.specs.Samples.{Sample, sample, total, z}
 use Rattle.cards.specs.Cards.{neg, Halved}
 
 module _ (n : ℕ) (ss : List Sample) where

@@ -16,14 +16,14 @@ use Rattle.report.specs.Report.{headOf, runFor, lineR, lineA, reportOf}
 use Rattle.report.specs.Text.{outcomeWord}
 use Rattle.rounding.specs.Rounding.{rnd}
 use Rattle.scatter.specs.Table.{S, scatter, largest, smallestShift, shiftUnder, entriesUnder, tableFromUnder, tableUnder}
-use Rattle.sums.specs.Samples.{samples, sampleAt, total, z}
+use Rattle.readings.specs.Samples.{samples, sampleAt, total, z}
 use Rattle.text.specs.Ascii.{ascii}
 use Rattle.text.specs.Decimal.{digits, digitsBy, number}
 use Rattle.text.specs.Line.{line, further, numberLine, wordLine}
 use Rattle.text.specs.Lines.{lines}
 use Rattle.text.specs.Numeral.{leadingZero, valueFrom}
 use Rattle.text.specs.Parts.{onto, split, before}
-use Rattle.text.specs.Range.{within, allWithin}
+use Rattle.integer.specs.Within.{within, allWithin}
 use Rattle.cards.specs.Cards.{twoByTwo, jobText, reportText}
 use Rattle.cards.specs.laws.Runs.{threeRun, spends}
 

@@ -9,14 +9,14 @@ use lib.Ieee.Bits.{is-true}
 use lib.ListN.{length, take, length-append}
 use lib.Seq.{length-take-le}
 use mir.Facts.{and-yes}
-use Rattle.ledger.specs.laws.Accepted.{passed}
+use Rattle.limits.specs.laws.Unless.{passed}
 use Rattle.limits.specs.laws.Channels.{places}
 use Rattle.limits.specs.laws.Values.{some-entry}
 use Rattle.scatter.specs.laws.Table.{table-is}
-use Rattle.sums.specs.Samples.{Sample, samples}
+use Rattle.readings.specs.Samples.{Sample, samples}
 use Rattle.scatter.specs.Table.{tableOf}
-use Rattle.text.specs.Range.{allWithin}
-use Rattle.text.specs.laws.Range.{all-at}
+use Rattle.integer.specs.Within.{allWithin}
+use Rattle.integer.specs.laws.Within.{all-at}
 use Rattle.field_axes.specs.Table.{tableNumbers, tableNumbersOf, tableRefusal, valuesWithin}
 use Rattle.field_axes.specs.inner.Readable.{Readable}
 

@@ -11,7 +11,8 @@ use lib.ListN.{length, length-append}
 use lib.Seq.{length-take-le}
 use mir.Facts.{and-yes}
 use borrow.Author.Tests.{eqb-true, eqb-false}
-use Rattle.ledger.specs.laws.Accepted.{load-accepted, passed}
+use Rattle.ledger.specs.laws.Accepted.{load-accepted}
+use Rattle.limits.specs.laws.Unless.{passed}
 use Rattle.ledger.specs.Call.{load}
 use Rattle.ledger.specs.Refusal.{refusalOf}
 use Rattle.limits.specs.Limits.{toleranceLimit, leastSweeps, mostSweeps}

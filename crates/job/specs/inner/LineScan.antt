@@ -5,7 +5,7 @@ use mathlib.Core.List.{List}
 use lib.Dec.{leb, ltb, eqb}
 use lib.ListN.{length, getD, set, replicate}
 use lib.Seq.{slice}
-use Rattle.text.specs.Range.{within, allWithin}
+use Rattle.integer.specs.Within.{within, allWithin}
 use Rattle.job.specs.inner.FieldScan.{fieldAt, taggedAt}
 use Rattle.job.specs.declared.field.Field.{Field}
 use Rattle.job.specs.declared.field.Field.the-variants.{Inner, Last, Bad}

@@ -3,8 +3,8 @@ use Prim.Native.Nat.{_≤_}
 use mathlib.Core.Path.{_≡_}
 use mathlib.Core.Bool.{true}
 use lib.ListN.{length}
-use Rattle.text.specs.Range.{within, allWithin}
-use Rattle.text.specs.laws.Range.{both, is-within}
+use Rattle.integer.specs.Within.{within, allWithin}
+use Rattle.integer.specs.laws.Within.{both, is-within}
 use Rattle.job.specs.Range.{parametersInRange}
 use Rattle.job.specs.Job.{Job}
 use Rattle.job.specs.Values.{Proper, inRange}

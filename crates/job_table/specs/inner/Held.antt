@@ -2,7 +2,7 @@
 use Prim.Native.Nat.{ℕ, _*_, _≤_}
 use mathlib.Core.List.{List}
 use lib.ListN.{length, take}
-use Rattle.sums.specs.Ranges.{Readings}
+use Rattle.readings.specs.Ranges.{Readings}
 
 -- k samples of n counts in two arrays, within the ranges
 pub record ReadingsIn (n k : ℕ) (dilutions counts : List ℕ) : Type 0 where

@@ -8,8 +8,8 @@ use native.Mathlib.Omega.{arith}
 use lib.ListN.{length}
 use lib.Seq.{length-take-le}
 use Rattle.job.specs.Job.{Job, Answer, refused, accepted, jobOf}
-use Rattle.text.specs.Range.{within, allWithin}
-use Rattle.text.specs.laws.Range.{all-at, both, is-within}
+use Rattle.integer.specs.Within.{within, allWithin}
+use Rattle.integer.specs.laws.Within.{all-at, both, is-within}
 use Rattle.integer.specs.laws.Padded.{padded-size, padded-take}
 use Rattle.job.specs.Reading.{inArrays, readingOf}
 use Rattle.job.specs.Values.{Proper, inRange}
@@ -17,7 +17,7 @@ use Rattle.job.specs.declared.Job as arrays
 use Rattle.job.specs.declared.Outcome.the-variants.{Accepted}
 use Rattle.job.proofs.Accepted.{accepted-proper}
 use Rattle.scatter.specs.laws.Bounds.{readings-shift}
-use Rattle.sums.specs.Ranges.{Readings}
+use Rattle.readings.specs.Ranges.{Readings}
 use Rattle.job.specs.Range.{parametersInRange}
 use Rattle.job_table.specs.Held.{Held, jobIn, samplesOf, tableFor}
 use Rattle.limits.specs.Limits.{leastDilution, mostDilution, mostCount, leastSamples, mostSamples, leastChannels, mostChannels, leastSweeps}

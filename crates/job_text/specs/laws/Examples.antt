@@ -4,7 +4,7 @@ use mathlib.Core.List.{[], _∷_}
 use Rattle.text.specs.Decimal.{digits, digitsBy, number}
 use Rattle.text.specs.Line.{further, line, numberLine}
 use Rattle.text.specs.Lines.{lines}
-use Rattle.sums.specs.Samples.{sampleAt}
+use Rattle.readings.specs.Samples.{sampleAt}
 use Rattle.job_text.specs.JobText.{jobTextOf, jobLineE, jobLineP, jobLineS, sampleNumbers}
 
 -- `P 2 1 0`, `S 1 0 0`, `S 5 1 0`, `S 1 5 5`, `E 3`, with tabs for blanks

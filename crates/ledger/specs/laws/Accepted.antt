@@ -16,7 +16,9 @@ use Rattle.integer.specs.Matrix.{Matrix, matrixOf}
 use Rattle.integer.specs.Matrix.{Symmetric}
 use Rattle.ledger.specs.Call.{Call, load, turn, sweepIn, loosePair, axis}
 use Rattle.ledger.specs.declared.Order.{Order}
-use Rattle.ledger.specs.Refusal.{equal, symmetric, entriesWithin, unless, refusalOf, refusalUnder}
+use Rattle.limits.specs.Unless.{unless}
+use Rattle.limits.specs.laws.Unless.{passed}
+use Rattle.ledger.specs.Refusal.{equal, symmetric, entriesWithin, refusalOf, refusalUnder}
 
 -- 'Load: 5, 6, 8, 7': none of them
 pub record Loads (n : ℕ) (numbers : List ℤ) : Type 0 where
@@ -32,11 +34,6 @@ pub record TurnGiven (n m p q : ℕ) : Type 0 where
   pub ordered : p < q
   pub last : q ≤ n
   pub left : m < turnLimit
-
--- a test that was passed: the number is not given, so the later tests speak
-pub passed : (test : Bool) (number later : ℕ) → unless test number later ≡ 0 → 0 < number → T test × (later ≡ 0)
-passed true number later e l = (tt, e)
-passed false number later e l = absurd (omega arith)
 
 pub equal-same : (x y : ℤ) → T (equal x y) → x ≡ y
 unfolding equal

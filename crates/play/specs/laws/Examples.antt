@@ -6,7 +6,7 @@ use mathlib.Core.List.{List, [], _∷_, _++_}
 use Rattle.integer.specs.Matrix.{matrixOf}
 use Rattle.text.specs.Numeral.{leadingZero, valueFrom}
 use Rattle.text.specs.Parts.{before, onto, split}
-use Rattle.text.specs.Range.{allWithin, within}
+use Rattle.integer.specs.Within.{allWithin, within}
 use Rattle.ledger.specs.Refusal.{equal, refusalUnder, symmetric}
 use Rattle.ledger.specs.Refusal.{entriesWithin}
 use Rattle.record.specs.Record.{acceptedOf, afterOfUnder, answerOf, counted, fresh, loadedRecord, refusedOf, valueOf}

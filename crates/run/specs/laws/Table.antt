@@ -10,7 +10,7 @@ use Rattle.limits.specs.laws.Values.{some-entry}
 use Rattle.ledger.specs.Refusal.{refusalOf}
 use Rattle.scatter.specs.laws.Entries.{entries-symmetric, entries-within, length-entries, length-scatter, table-entries}
 use Rattle.scatter.specs.Table.{entries, scatter, tableOf}
-use Rattle.sums.specs.Samples.{Sample}
+use Rattle.readings.specs.Samples.{Sample}
 use Rattle.record.specs.laws.Accepted.{load-taken}
 use Rattle.run.specs.Run.{Allowed}
 

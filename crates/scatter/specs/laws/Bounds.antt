@@ -9,8 +9,8 @@ use Rattle.integer.specs.Padded.{padded}
 use Rattle.integer.specs.laws.Laws.{natAbs--ℤ}
 use Rattle.integer.specs.laws.Padded.{length-padded, padded-at}
 use Rattle.integer.specs.laws.RowMajor.{rowMajor-all}
-use Rattle.sums.specs.Ranges.{Readings}
-use Rattle.sums.specs.Samples.{samples}
+use Rattle.readings.specs.Ranges.{Readings}
+use Rattle.readings.specs.Samples.{samples}
 use Rattle.sums.specs.declared.Sums.{Sums}
 use Rattle.sums.specs.inner.Ranges.{zLimit, Bounded}
 use Rattle.sums.specs.laws.Bounds.{readings-bounded}

@@ -4,7 +4,7 @@ use mathlib.Core.List.{List}
 use Prim.Native.Nat.{ℕ, _<_, _≤_}
 use native.Mathlib.Omega.{arith}
 use Rattle.integer.specs.laws.RowMajor.{rowMajor-same}
-use Rattle.sums.specs.Samples.{Sample}
+use Rattle.readings.specs.Samples.{Sample}
 use Rattle.sums.specs.Sums.{sumsOf}
 use Rattle.sums.specs.laws.Sums.{number-of, cross-of, channel-of}
 use Rattle.scatter.specs.Table.{S, scatter, tableFrom, tableOf, tableUnder}

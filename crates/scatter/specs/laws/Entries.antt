@@ -13,8 +13,8 @@ use Rattle.integer.specs.laws.Padded.{padded-take}
 use Rattle.integer.specs.laws.RowMajor.{length-rowMajor, rowMajor-at}
 use Rattle.rounding.specs.Rounding.{rnd}
 use Rattle.rounding.specs.laws.Nearest.{rnd-bound, rnd-zero}
-use Rattle.sums.specs.Samples.{Sample, z, total}
-use Rattle.sums.specs.laws.Samples.{total-ext}
+use Rattle.readings.specs.Samples.{Sample, z, total}
+use Rattle.readings.specs.laws.Samples.{total-ext}
 use Rattle.scatter.specs.Table.{S, scatter, largest, shiftUnder, entriesUnder, tableFromUnder, tableUnder}
 use Rattle.scatter.specs.laws.Shift.{shift-smallest}
 

@@ -11,7 +11,7 @@ use Rattle.integer.specs.laws.Padded.{length-padded, padded-at}
 use Rattle.integer.specs.laws.RowMajor.{rowMajor-all, same-numbers}
 use Rattle.limits.specs.laws.Channels.{places}
 use Rattle.rounding.specs.Rounding.{rnd}
-use Rattle.sums.specs.Samples.{Sample}
+use Rattle.readings.specs.Samples.{Sample}
 use Rattle.scatter.specs.declared.table.Table.{Table}
 use Rattle.scatter.specs.Table.{S, scatter, entriesUnder, tableFromUnder, tableUnder}
 use Rattle.scatter.specs.laws.Entries.{entries-at, length-entries, length-scatter, scatter-at}

@@ -8,7 +8,7 @@ use borrow.Author.Needs.{needs}
 use lib.ListN.{length, getD}
 use Rattle.integer.specs.laws.Filled.{Filled, filled-none}
 use Rattle.limits.specs.Limits.{mostDilution}
-use Rattle.sums.specs.Samples.{sample}
+use Rattle.readings.specs.Samples.{sample}
 use Rattle.sums.specs.Sums.{products}
 use Rattle.sums.specs.inner.Raised.{raised}
 use Rattle.sums.specs.inner.Ranges.{zLimit}

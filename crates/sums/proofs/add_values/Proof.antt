@@ -6,7 +6,7 @@ use native.Mathlib.Omega.{arith}
 use borrow.Author.Needs.{needs}
 use lib.ListN.{length}
 use Rattle.integer.specs.laws.Filled.{Filled, filled-none}
-use Rattle.sums.specs.Samples.{sample, z}
+use Rattle.readings.specs.Samples.{sample, z}
 use Rattle.sums.specs.inner.Raised.{raised}
 use Rattle.sums.proofs.Raised.{raised-more, raised-skip, raised-all, no-value}
 use Rattle.sums.proofs.add_values.Statement.{statement}

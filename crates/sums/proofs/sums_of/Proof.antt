@@ -6,7 +6,7 @@ use native.Mathlib.Omega.{arith}
 use borrow.Author.Needs.{needs}
 use lib.ListN.{length}
 use Rattle.integer.specs.Tabulate.{tabulate}
-use Rattle.sums.specs.Samples.{sampleAt, total, z}
+use Rattle.readings.specs.Samples.{sampleAt, total, z}
 use Rattle.sums.specs.Sums.{products, totals}
 use Rattle.sums.specs.inner.Ranges.{zLimit}
 use Rattle.sums.specs.laws.Bounds.{z-bound, products-bound}

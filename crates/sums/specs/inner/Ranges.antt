@@ -4,7 +4,7 @@ use mathlib.Core.List.{List}
 use Prim.Native.Nat.{ℕ, _*_, _≤_}
 use lib.ListN.{length, getD}
 use Rattle.limits.specs.Limits.{mostChannels, mostSamples, mostDilution, mostCount}
-use Rattle.sums.specs.Samples.{Sample}
+use Rattle.readings.specs.Samples.{Sample}
 use Rattle.sums.specs.declared.Sums.{Sums}
 
 -- One sample of readings within the ranges

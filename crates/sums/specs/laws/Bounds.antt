@@ -9,11 +9,11 @@ use lib.ListN.{length, getD, take, drop, length-take}
 use lib.Seq.{getD-drop}
 use Rattle.integer.specs.Tabulate.{tabulate}
 use Rattle.integer.specs.laws.Tabulate.{length-tabulate, tabulate-all}
-use Rattle.sums.specs.Samples.{Sample, z, sampleAt, samples, total}
+use Rattle.readings.specs.Samples.{Sample, z, sampleAt, samples, total}
 use Rattle.sums.specs.Sums.{products, totals, sumsOf}
-use Rattle.sums.specs.Ranges.{Readings}
+use Rattle.readings.specs.Ranges.{Readings}
 use Rattle.sums.specs.inner.Ranges.{InRange, zLimit, Bounded}
-use Rattle.sums.specs.laws.Samples.{noSample}
+use Rattle.readings.specs.laws.Samples.{noSample}
 use Rattle.limits.specs.Limits.{mostCount, mostSamples}
 
 -- every sample of a list is in range

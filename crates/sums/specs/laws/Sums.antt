@@ -9,10 +9,10 @@ use borrow.Author.Tests.{le-leb, lt-leb}
 use lib.Arith.{digits-div, digits-mod}
 use lib.ListN.{length, getD}
 use Rattle.integer.specs.laws.Tabulate.{getD-tabulate, length-tabulate, tabulate-ext}
-use Rattle.sums.specs.Samples.{Sample, z, total}
+use Rattle.readings.specs.Samples.{Sample, z, total}
 use Rattle.sums.specs.Sums.{products, totals, sumsOf}
 use Rattle.sums.specs.inner.Raised.{raised}
-use Rattle.sums.specs.laws.Samples.{total-append, total-ext}
+use Rattle.readings.specs.laws.Samples.{total-append, total-ext}
 
 -- One sample more at the end
 pub totals-more : (m : ℕ) (v : Sample → ℕ → ℕ) (ss : List Sample) (s : Sample) → raised m (v s) (totals m v ss) ≡ totals m v (ss ++ (s ∷ []))

@@ -11,9 +11,8 @@ use Rattle.text.specs.Decimal.{digits}
 use Rattle.text.specs.laws.Digits.{one-digit, more-digits}
 use Rattle.text.specs.inner.Numeral.{isDigit}
 use Rattle.text.specs.Numeral.{leadingZero, valueFrom}
-use Rattle.text.specs.Range.{within, allWithin}
-use Rattle.text.specs.laws.Range.{both, is-within}
-use Rattle.text.specs.laws.Within.{all-append}
+use Rattle.integer.specs.Within.{within, allWithin}
+use Rattle.integer.specs.laws.Within.{both, is-within, all-append}
 
 -- ---- what is written
 

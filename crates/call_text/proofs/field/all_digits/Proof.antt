@@ -3,7 +3,7 @@ use Prim.Native.Nat.{_-_, _≤_}
 use mathlib.Core.Path.{_≡_}
 use lib.ListN.{length, drop}
 use borrow.Author.Needs.{needs}
-use Rattle.text.specs.Range.{allWithin}
+use Rattle.integer.specs.Within.{allWithin}
 use Rattle.call_text.proofs.Digits.{digits-end, digits-low, digits-high, digits-more}
 use Rattle.call_text.proofs.field.all_digits.Statement.{statement}
 use Rattle.call_text.proofs.field.all_digits.Tie as tie

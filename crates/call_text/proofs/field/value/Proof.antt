@@ -7,7 +7,7 @@ use lib.ListN.{length, drop}
 use borrow.Author.Needs.{needs}
 use native.Mathlib.Omega.{arith}
 use Rattle.text.specs.Numeral.{valueFrom}
-use Rattle.text.specs.Range.{allWithin}
+use Rattle.integer.specs.Within.{allWithin}
 use Rattle.call_text.proofs.Digits.{a-digit, later-digits, nine-digits, one-more, value-end, value-more}
 use Rattle.call_text.proofs.field.value.Statement.{statement}
 use Rattle.call_text.proofs.field.value.Tie as tie

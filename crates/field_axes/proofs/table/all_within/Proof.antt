@@ -4,7 +4,7 @@ use Prim.Native.Nat.{_-_, _≤_}
 use native.Mathlib.Omega.{arith}
 use lib.ListN.{length, drop, drop-of-length-le}
 use borrow.Author.Needs.{needs}
-use Rattle.text.specs.Range.{allWithin}
+use Rattle.integer.specs.Within.{allWithin}
 use Rattle.field_axes.proofs.Within.{in-range, too-high, too-low}
 use Rattle.field_axes.proofs.table.all_within.Statement.{statement}
 use Rattle.field_axes.proofs.table.all_within.Tie as tie

@@ -6,7 +6,7 @@ use native.Mathlib.Omega.{arith}
 use borrow.Author.Needs.{needs}
 use borrow.Author.Tests.{not-false, not-true}
 use Rattle.limits.specs.laws.Channels.{places}
-use Rattle.text.specs.Range.{allWithin}
+use Rattle.integer.specs.Within.{allWithin}
 use Rattle.field_axes.specs.Table.{valuesWithin}
 use Rattle.field_axes.proofs.TableRefusals.{buffer-short, count-off, dilution-off, few-samples, left-over, many-samples, n-high, n-low}
 use Rattle.field_axes.proofs.TableRefusals.{none-refused, other-number, values-good}

@@ -1,6 +1,6 @@
 -- `job_field::is_within` meets its contract: the first test tells the first half of `within`.
 use borrow.Author.Tests.{le-leb, lt-leb}
-use Rattle.text.specs.Range.{within}
+use Rattle.integer.specs.Within.{within}
 use Rattle.job.proofs.field.is_within.Statement.{statement}
 use Rattle.job.proofs.field.is_within.Tie as tie
 

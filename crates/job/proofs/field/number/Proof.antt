@@ -2,7 +2,7 @@
 use mathlib.Core.Path.{_∙_}
 use borrow.Author.Needs.{needs}
 use native.Mathlib.Omega.{arith}
-use Rattle.text.specs.laws.Range.{is-within}
+use Rattle.integer.specs.laws.Within.{is-within}
 use Rattle.job.proofs.Bytes.{field-end, field-bad, field-more}
 use Rattle.job.proofs.Flags.{denied, granted}
 use Rattle.job.proofs.field.number.Statement.{statement}

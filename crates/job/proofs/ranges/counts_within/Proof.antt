@@ -3,7 +3,7 @@ use Prim.Native.Nat.{_+_, _-_, _≤_}
 use mathlib.Core.Path.{_≡_}
 use lib.Seq.{slice}
 use borrow.Author.Needs.{needs}
-use Rattle.text.specs.Range.{allWithin}
+use Rattle.integer.specs.Within.{allWithin}
 use Rattle.job.proofs.Flags.{denied, granted}
 use Rattle.job.proofs.Lines.{all-end, all-over, all-more}
 use Rattle.job.proofs.ranges.counts_within.Statement.{statement}

@@ -7,7 +7,7 @@ use native.Mathlib.Omega.{arith}
 use lib.ListN.{length, getD, drop, length-drop}
 use lib.Seq.{length-take-le, getD-take, getD-drop}
 use Rattle.integer.specs.laws.Tabulate.{length-tabulate, getD-tabulate}
-use Rattle.sums.specs.Samples.{Sample, sampleAt, samples, total}
+use Rattle.readings.specs.Samples.{Sample, sampleAt, samples, total}
 
 unfoldable pub noSample : Sample
 noSample = record { dilution = 0; counts = [] }
