@@ -17,7 +17,6 @@ use Rattle.ledger.specs.Pairs.{Pair, cyclic}
 use Rattle.ledger.specs.Refusal.{refusalOf}
 use Rattle.turn.specs.laws.Eight.{square-cong, square-of}
 use Rattle.turn.specs.Shape.{Shaped}
-use Rattle.turn.specs.Size.{Small}
 use Rattle.turn.specs.Turn.{at}
 use Rattle.limits.specs.Limits.{toleranceLimit, mostSweeps, turnLimit}
 use Rattle.record.specs.laws.Accepted.{loose-pair-taken, sweep-taken, turns-suffice}

@@ -1,5 +1,5 @@
 -- The pairs of a sweep in either order, as its loops meet them: row after row, column after column.
-use mathlib.Core.Path.{_≡_, refl, sym, ap, _∙_}
+use mathlib.Core.Path.{_≡_, refl, ap}
 use mathlib.Core.Bool.{Bool, true, false, cond}
 use mathlib.Core.List.{List, [], _∷_, _++_}
 use Prim.Native.Nat.{ℕ, suc, _+_, _-_, _*_, _/_, _%_, _≤_, _<_}
@@ -7,7 +7,7 @@ use native.Mathlib.Numerals.{add-one}
 use native.Mathlib.Omega.{arith}
 use borrow.Author.Tests.{lt-ltb, ltb-true}
 use lib.Dec.{eqb, eqb→eq, ltb, ltb→lt}
-use lib.ListN.{length, drop, drop-of-length-le, getD}
+use lib.ListN.{length, drop-of-length-le, getD}
 use lib.Seq.{drop-cons}
 use Rattle.integer.specs.Range.{all}
 use Rattle.integer.specs.laws.Range.{below}

@@ -23,7 +23,7 @@ noPair NoPair = true
 noPair (Axis entry error) = false
 noPair (Refused number) = false
 
--- a sweep answers that it made no turn
+-- a cyclic sweep answers that it made no turn; a run sweeps in cyclic order
 unfoldable pub noTurn : Answer → Bool
 noTurn Loaded = false
 noTurn (Turned made) = false

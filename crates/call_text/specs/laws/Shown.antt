@@ -1,22 +1,21 @@
 -- The line of each answer, and of the two sweeps, as README has them.
 use mathlib.Core.Path.{_≡_, refl}
 use mathlib.Core.Bool.{true, false}
-use mathlib.Core.List.{[], _∷_, map}
+use mathlib.Core.List.{[], _∷_}
 use lib.IntN.{pos, negℤ}
-use lib.ListN.{take}
-use mathlib.Core.Option.{some}
+use mathlib.Core.Option.{none, some}
 use Rattle.ledger.specs.Call.{sweep, tournamentSweep}
-use Rattle.ledger.specs.declared.Order.the-variants.{Cyclic, Tournament}
-use Rattle.record.specs.Record.{sweptIn}
 use Rattle.record.specs.declared.query.Answer.{Answer}
 use Rattle.record.specs.declared.query.Answer.the-variants.{Loaded, Turned, Swept, TournamentSwept, Pair, NoPair, Axis, Refused}
 use Rattle.text.specs.Ascii.{ascii}
 use Rattle.text.specs.Decimal.{digits, digitsBy, number}
 use Rattle.text.specs.Line.{line, further}
-use Rattle.text.specs.Parts.{onto, split}
+use Rattle.integer.specs.Within.{allWithin, within}
+use Rattle.text.specs.Numeral.{leadingZero}
+use Rattle.text.specs.Parts.{before, onto, split}
 use Rattle.call_text.specs.Answers.{shown, shownAs}
 use Rattle.call_text.specs.Calls.{callBy, callOf, callOfFields, callWithin, numberLimit, sweepBy, withNumbers}
-use Rattle.call_text.specs.Numbers.{eachNumber}
+use Rattle.call_text.specs.Numbers.{eachNumber, numeral, signedOf, unsignedOf, withoutMinus}
 use Rattle.call_text.specs.declared.answer.Told.{Told}
 
 -- an answer on two channels, after 3 refused calls
@@ -38,8 +37,9 @@ lines : (shown (told Loaded) ≡ ascii "L\n") × (shown (told (Turned true)) ≡
 unfolding ascii shown shownAs line further number digits digitsBy
 lines = (refl, refl, refl, refl, refl, refl, refl, refl, refl)
 
--- `W` is the cyclic sweep, and `O` the tournament sweep, with the answer that is shown as `O`
-sweeps : (callOf (ascii "W") ≡ some sweep) × (callOf (ascii "O") ≡ some tournamentSweep) × (sweptIn Cyclic 28 ≡ Swept 28) ×
-    (sweptIn Tournament 27 ≡ TournamentSwept 27)
-unfolding ascii callOf callWithin callOfFields withNumbers callBy sweepBy eachNumber numberLimit split onto
+-- `W` is the cyclic sweep, and `O` the tournament sweep; neither has a number
+sweeps : (callOf (ascii "W") ≡ some sweep) × (callOf (ascii "O") ≡ some tournamentSweep) × (callOf (ascii "W\t1") ≡ none) ×
+    (callOf (ascii "O\t1") ≡ none)
+unfolding ascii callOf callWithin callOfFields withNumbers callBy sweepBy eachNumber signedOf withoutMinus unsignedOf numeral numberLimit split onto
+    before leadingZero allWithin within
 sweeps = (refl, refl, refl, refl)

@@ -1,4 +1,4 @@
--- The pairs of a sweep: each is p < q < n, and there are n(n − 1)/2 of them.
+-- The pairs of the cyclic sweep, for every n: each is p < q < n, and there are n(n − 1)/2 of them.
 use mathlib.Core.Path.{_≡_, sym, _∙_, ap}
 use mathlib.Core.List.{List, [], _∷_, _++_}
 use Prim.Native.Nat.{ℕ, zero, suc, _+_, _-_, _*_, _/_, _<_, _≤_}
@@ -7,7 +7,7 @@ use native.Mathlib.Omega.{arith}
 use lib.ListN.{length, length-append}
 use Rattle.ledger.specs.Pairs.{Pair, row, rowsFrom, cyclic, Each}
 
-pub each-++ : (n : ℕ) (xs ys : List Pair) → Each n xs → Each n ys → Each n (xs ++ ys)
+each-++ : (n : ℕ) (xs ys : List Pair) → Each n xs → Each n ys → Each n (xs ++ ys)
 unfolding Each
 each-++ n [] ys h g = g
 each-++ n (x ∷ xs) ys h g = (h .0, each-++ n xs ys (h .1) g)

@@ -1,4 +1,4 @@
--- The pairs of a sweep as two nested loops meet them: row p from q on, and the rows after it.
+-- The pairs of the cyclic sweep as two nested loops meet them: row p from q on, and the rows after it.
 use mathlib.Core.Path.{_≡_, refl, ap}
 use mathlib.Core.List.{List, [], _∷_, _++_}
 use Prim.Native.Nat.{ℕ, zero, suc, _+_, _-_, _≤_, _<_}

@@ -27,11 +27,11 @@ onceIn pairs q p = eqb (occurrences (record { p = p; q = q }) pairs) 1
 abbrev eachOnce : ℕ → List Pair → Bool
 eachOnce n pairs = all (λ q. all (onceIn pairs q) q) n
 
-abbrev counted : ℕ → List Pair → Bool
-counted n pairs = eqb (length pairs) (n * (n - 1) / 2)
+abbrev rightly-many : ℕ → List Pair → Bool
+rightly-many n pairs = eqb (length pairs) (n * (n - 1) / 2)
 
-abbrev exact : ℕ → List Pair → Bool
-exact n pairs = eachIn n pairs && (eachOnce n pairs && counted n pairs)
+abbrev onceTest : ℕ → List Pair → Bool
+onceTest n pairs = eachIn n pairs && (eachOnce n pairs && rightly-many n pairs)
 
 ordered-in : (n : ℕ) (pair : Pair) → T (orderedIn n pair) → Ordered n pair
 ordered-in n pair t = record { ordered = ltb→lt _ _ (both .0); within = ltb→lt _ _ (both .1) }
@@ -47,21 +47,21 @@ each-in n (pair ∷ pairs) t = (ordered-in n pair (both .0), each-in n pairs (bo
     both : T (orderedIn n pair) × T (eachIn n pairs)
     both = and-yes (orderedIn n pair) (eachIn n pairs) t
 
-once-in : (n : ℕ) (pairs : List Pair) → T (eachOnce n pairs) → (p q : ℕ) → p < q → q < n → occurrences (record { p = p; q = q }) pairs ≡ 1
-once-in n pairs t p q l h = eqb→eq _ _ (below (onceIn pairs q) q (below (λ q. all (onceIn pairs q) q) n t q h) p l)
+pairs-once : (n : ℕ) (pairs : List Pair) → T (eachOnce n pairs) → (p q : ℕ) → p < q → q < n → occurrences (record { p = p; q = q }) pairs ≡ 1
+pairs-once n pairs t p q l h = eqb→eq _ _ (below (onceIn pairs q) q (below (λ q. all (onceIn pairs q) q) n t q h) p l)
 
-exact-once : (n : ℕ) (pairs : List Pair) → T (exact n pairs) → ExactlyOnce n pairs
-exact-once n pairs t = record { ordered = each-in n pairs (both .0); once = once-in n pairs (rest .0); count = eqb→eq _ _ (rest .1) }
+onceTest-once : (n : ℕ) (pairs : List Pair) → T (onceTest n pairs) → ExactlyOnce n pairs
+onceTest-once n pairs t = record { ordered = each-in n pairs (both .0); once = pairs-once n pairs (rest .0); count = eqb→eq _ _ (rest .1) }
   where
-    both : T (eachIn n pairs) × T (eachOnce n pairs && counted n pairs)
-    both = and-yes (eachIn n pairs) (eachOnce n pairs && counted n pairs) t
+    both : T (eachIn n pairs) × T (eachOnce n pairs && rightly-many n pairs)
+    both = and-yes (eachIn n pairs) (eachOnce n pairs && rightly-many n pairs) t
 
-    rest : T (eachOnce n pairs) × T (counted n pairs)
-    rest = and-yes (eachOnce n pairs) (counted n pairs) (both .1)
+    rest : T (eachOnce n pairs) × T (rightly-many n pairs)
+    rest = and-yes (eachOnce n pairs) (rightly-many n pairs) (both .1)
 
 -- One test of an order settles every n up to 8; 0 and 1, which have no pairs, pass it too.
-once-to-8 : (order : ℕ → List Pair) → T (all (λ n. exact n (order n)) 9) → (n : ℕ) → n ≤ 8 → ExactlyOnce n (order n)
-once-to-8 order t n h = exact-once n (order n) (below (λ n. exact n (order n)) 9 t n (omega arith))
+once-to-8 : (order : ℕ → List Pair) → T (all (λ n. onceTest n (order n)) 9) → (n : ℕ) → n ≤ 8 → ExactlyOnce n (order n)
+once-to-8 order t n h = onceTest-once n (order n) (below (λ n. onceTest n (order n)) 9 t n (omega arith))
 
 -- 'Each pair comes exactly once in a sweep.'
 pub tournament-once : (n : ℕ) → n ≤ 8 → ExactlyOnce n (tournament n)
@@ -80,6 +80,11 @@ table-left = refl
 pub table-right : moved (firstLines 4 .upper) (firstLines 4 .lower) ≡ record { upper = 1 ∷ 2 ∷ 3 ∷ 5 ∷ []; lower = 4 ∷ 6 ∷ 8 ∷ 7 ∷ [] }
 unfolding firstLines everySecond moved beforeLast lastOf
 table-right = refl
+
+-- 'with n = 2 nothing moves'
+pub nothing-moves : (first last : ℕ) → moved (first ∷ []) (last ∷ []) ≡ record { upper = first ∷ []; lower = last ∷ [] }
+unfolding moved
+nothing-moves first last = refl
 
 -- a pair by its numbers as the documents count them, from 1
 abbrev pub named : ℕ → ℕ → Pair
@@ -129,6 +134,13 @@ unfolding tournament among allRounds round moved lastOf beforeLast firstLines ev
 tournament-of-8 = refl
 
 -- played as 8: the same without those that name 8
-pub tournament-of-7 : tournament 7 ≡ among 7 (tournament 8)
+pub tournament-of-7 : tournament 7 ≡
+    named 1 2 ∷ named 3 4 ∷ named 5 6 ∷
+    named 1 4 ∷ named 2 6 ∷ named 5 7 ∷
+    named 1 6 ∷ named 2 7 ∷ named 3 5 ∷
+    named 6 7 ∷ named 4 5 ∷ named 2 3 ∷
+    named 1 7 ∷ named 3 6 ∷ named 2 4 ∷
+    named 1 5 ∷ named 3 7 ∷ named 4 6 ∷
+    named 1 3 ∷ named 2 5 ∷ named 4 7 ∷ []
 unfolding tournament among allRounds round moved lastOf beforeLast firstLines everySecond
 tournament-of-7 = refl

@@ -1,7 +1,7 @@
 -- What a turn and a sweep answer is what they add to m: 'm counts turns made', 'The answer is how many turns it made'.
-use mathlib.Core.Path.{_≡_}
+use mathlib.Core.Path.{_≡_, refl}
 use mathlib.Core.Bool.{Bool, true, false}
-use Prim.Native.Nat.{ℕ, suc, _+_, _-_}
+use Prim.Native.Nat.{ℕ, _+_, _-_}
 use native.Mathlib.Omega.{arith}
 use borrow.Author.Tests.{eq-eqb}
 use Rattle.choice.specs.declared.Choice.{Choice}
@@ -17,11 +17,15 @@ use Rattle.record.specs.Work.{Work, isTurn, workBy, workPair}
 use Rattle.record.specs.laws.Accepted.{after-accepted}
 use Rattle.record.specs.laws.Turning.{works-least}
 use Rattle.record.specs.declared.Record.{Record}
-use Rattle.record.specs.declared.query.Answer.the-variants.{Turned}
+use Rattle.record.specs.declared.query.Answer.the-variants.{Swept, TournamentSwept, Turned}
 
 same-count : (order : Order) (j k : ℕ) → sweptIn order j ≡ sweptIn order k → j ≡ k
 same-count Cyclic j k e = cc
 same-count Tournament j k e = cc
+
+-- the answer of each order
+pub swept-as : (k : ℕ) → (sweptIn Cyclic k ≡ Swept k) × (sweptIn Tournament k ≡ TournamentSwept k)
+swept-as k = (refl, refl)
 
 -- a sweep that is not refused, in either order
 pub sweep-counts : (r : Record) (order : Order) → refusalOf (r .n) (r .m) (sweepIn order) ≡ 0 → (k : ℕ) →

@@ -2,7 +2,7 @@
 use mathlib.Core.Path.{_≡_, sym, ap, _∙_}
 use Prim.Native.Nat.{_-_}
 use borrow.Author.Needs.{needs}
-use Rattle.ledger.specs.Call.{sweep, sweepIn}
+use Rattle.ledger.specs.Call.{sweepIn}
 use Rattle.ledger.specs.Order.{pairsIn}
 use Rattle.ledger.specs.laws.Orders.{refused-alike}
 use Rattle.ledger.specs.declared.Order.{Order}
@@ -23,8 +23,8 @@ sweep-refusal-requires c κs = (c .pre .size, c .pre .turns)
 returns : tie.Need-returns
 returns c =
     let s = c .before .before .before in
-    refuses (s .args .t1) (sweepIn (s .args .order)) (s .pre) _ (c .before .before .sweep-refusal .ensures ∙ sym (refused-alike (s .args .order) _ _)) _
-    (c .before .if1 .taken) (c .refuse .ensures)
+    refuses (s .args .t1) (sweepIn (s .args .order)) (s .pre) _
+    (c .before .before .sweep-refusal .ensures ∙ sym (refused-alike (s .args .order) _ _)) _ (c .before .if1 .taken) (c .refuse .ensures)
 
 -- the rows of the record, unpacked
 module _ (c : tie.After-unpacked2) where

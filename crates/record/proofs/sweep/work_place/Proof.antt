@@ -4,7 +4,6 @@ use mathlib.Core.Bool.{true, false}
 use lib.Dec.{ltb}
 use Rattle.record.specs.Worked.{workAt}
 use native.Mathlib.Omega.{arith}
-use borrow.Author.Needs.{needs}
 use borrow.Author.Tests.{le-ltb, lt-ltb}
 use Rattle.record.specs.inner.Orders.{pairIn, workPlace}
 use Rattle.record.specs.Work.{workPair}
