@@ -1,4 +1,4 @@
--- The answer and the buffer, of a refusal and of numbers that are written.
+-- The answer of a refusal, and of numbers or bytes that are written.
 use Prim.Native.Nat.{ℕ}
 use mathlib.Core.Path.{_≡_, ap}
 use mathlib.Core.List.{List}
@@ -6,22 +6,13 @@ use lib.IntN.{ℤ, pos, negℤ}
 use borrow.Author.Tests.{eq-eqb, ne-eqb}
 use Rattle.text.specs.Put.{Put}
 use Rattle.text.specs.laws.Put.{front-length}
-use Rattle.field_axes.specs.Answer.{countOrRefusal, lent}
+use Rattle.field_axes.specs.Answer.{countOrRefusal}
 
-module _ (refusal : ℕ) (numbers entry : List ℤ) where
-  pub refused-answer : (number : ℕ) → number ≡ refusal → (number ≡ 0 → ⊥) → negℤ (pos number) ≡ countOrRefusal refusal numbers
+module _ {X : Type 0} (refusal : ℕ) (written entry : List X) where
+  pub refused-answer : (number : ℕ) → number ≡ refusal → (number ≡ 0 → ⊥) → negℤ (pos number) ≡ countOrRefusal refusal written
   unfolding countOrRefusal
   refused-answer number e f = rw (← e, ne-eqb number 0 f)
 
-  pub refused-buffer : (number : ℕ) → number ≡ refusal → (number ≡ 0 → ⊥) → entry ≡ lent refusal numbers entry
-  unfolding lent
-  refused-buffer number e f = rw (← e, ne-eqb number 0 f)
-
-  module _ {exit : List ℤ} {r : ℕ} (e : refusal ≡ 0) (p : Put numbers 0 entry exit r) where
-    pub written-answer : pos r ≡ countOrRefusal refusal numbers
-    unfolding countOrRefusal
-    written-answer = rw (eq-eqb refusal 0 e) (ap pos (front-length p))
-
-    pub written-buffer : exit ≡ lent refusal numbers entry
-    unfolding lent
-    written-buffer = rw (eq-eqb refusal 0 e) (p .leaves)
+  pub written-answer : refusal ≡ 0 → {exit : List X} {r : ℕ} → Put written 0 entry exit r → pos r ≡ countOrRefusal refusal written
+  unfolding countOrRefusal
+  written-answer e p = rw (eq-eqb refusal 0 e) (ap pos (front-length p))

@@ -3,5 +3,3 @@ mod Reporting
 mod Playing
 mod RunRefusals
 mod Following
-mod Within
-mod TableRefusals

@@ -7,7 +7,8 @@ use lib.ListN.{length}
 use Rattle.play.specs.Buffer.{outputOf, playedInto}
 use Rattle.job.specs.Reply.{bufferOf, replyOf}
 use Rattle.report.specs.Report.{reportOf}
-use Rattle.field_axes.specs.Answer.{countOrRefusal, lent}
+use Rattle.text.specs.Written.{lentAfter}
+use Rattle.field_axes.specs.Answer.{countOrRefusal}
 use Rattle.field_axes.specs.Calls.{lengthOrShort}
 use Rattle.field_axes.specs.Report.{lengthOrNumber, refusedLine}
 use Rattle.field_axes.specs.Solution.{solutionOf, solveRefusal}
@@ -15,11 +16,11 @@ use Rattle.field_axes.specs.Table.{tableNumbersOf, tableRefusal}
 
 pub record Solves (n : ℕ) (numbers : List ℤ) (limit t : ℕ) (entry exit : List ℤ) (r : ℤ) : Type 0 where
   pub answer : r ≡ countOrRefusal (solveRefusal n numbers limit t (length entry)) (solutionOf n numbers limit t)
-  pub buffer : exit ≡ lent (solveRefusal n numbers limit t (length entry)) (solutionOf n numbers limit t) entry
+  pub buffer : exit ≡ lentAfter (solveRefusal n numbers limit t (length entry)) (solutionOf n numbers limit t) entry
 
 pub record Tabulates (n : ℕ) (dilutions counts : List ℕ) (entry exit : List ℤ) (r : ℤ) : Type 0 where
   pub answer : r ≡ countOrRefusal (tableRefusal n dilutions counts (length entry)) (tableNumbersOf n dilutions counts)
-  pub buffer : exit ≡ lent (tableRefusal n dilutions counts (length entry)) (tableNumbersOf n dilutions counts) entry
+  pub buffer : exit ≡ lentAfter (tableRefusal n dilutions counts (length entry)) (tableNumbersOf n dilutions counts) entry
 
 pub record ReportsText (text entry exit : List ℕ) (at : ℕ) (r : ℤ) : Type 0 where
   pub answer : r ≡ lengthOrNumber (replyOf reportOf text (length entry))

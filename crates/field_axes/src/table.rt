@@ -2,54 +2,16 @@
 ghost use mathlib.Core.Path.{_≡_};
 ghost use lib.ListN.{length};
 ghost use Rattle.text.specs.Put.{Put};
-ghost use Rattle.integer.specs.Within.{allWithin};
 ghost use Rattle.field_axes.specs.inner.Readable.{Readable};
 ghost use Rattle.field_axes.specs.Table.{tableNumbersOf, tableRefusal};
-
-// Whether each value is from low to high.
-fn all_within(low: u32, high: u32, values: &[u32]) -> bool
-    ensures { λ r. ⌜ r ≡ allWithin low high (now (values .entry)) ⌝ }
-{
-    let mut i = 0;
-    while i < values.len() {
-        if values[i] < low {
-            return false;
-        }
-        if high < values[i] {
-            return false;
-        }
-        i += 1;
-    }
-    true
-}
 
 // The refusal's number, or 0.
 pub(crate) fn table_refusal(n: usize, dilutions: &[u32], counts: &[u32], size: usize) -> u32
     ensures { λ r. ⌜ r ≡ tableRefusal n (now (dilutions .entry)) (now (counts .entry)) size ⌝ }
 {
-    if n < limits::LEAST_CHANNELS {
-        return 2;
-    }
-    if limits::MOST_CHANNELS < n {
-        return 2;
-    }
-    if !all_within(limits::LEAST_DILUTION, limits::MOST_DILUTION, dilutions) {
-        return 2;
-    }
-    if !all_within(0, limits::MOST_COUNT, counts) {
-        return 2;
-    }
-    if counts.len() % n != 0 {
-        return 6;
-    }
-    if counts.len() / n != dilutions.len() {
-        return 6;
-    }
-    if dilutions.len() < limits::LEAST_SAMPLES {
-        return 3;
-    }
-    if limits::MOST_SAMPLES < dilutions.len() {
-        return 3;
+    let number = readings::samples_refusal(n, dilutions, counts);
+    if number != 0 {
+        return number;
     }
     if size < 1 + 2 * (n * n) {
         return 12;

@@ -12,7 +12,8 @@ use lib.ListN.{length, getD, drop, length-append, length-drop}
 use Rattle.text.specs.Parts.{split, before}
 use Rattle.integer.specs.Within.{within, allWithin}
 use Rattle.integer.specs.laws.Within.{both}
-use Rattle.job.specs.Range.{parametersInRange, sampleInRange}
+use Rattle.readings.specs.Ranges.{parametersInRange}
+use Rattle.job.specs.Range.{sampleInRange}
 use Rattle.job.specs.Text.{numberOf, numbersOf, isTag, recordOf, lineOf}
 use Rattle.job.specs.Job.{Job, Answer, refused, accepted, withSample, nextLine, nothing, ended, judged, jobAfter, begun, jobOfLines, jobOf}
 use Rattle.job.specs.Values.{inRange, Proper}

@@ -9,7 +9,7 @@ use lib.ListN.{length, set, replicate}
 use Rattle.job.specs.inner.FieldScan.{fieldAt, taggedAt}
 use Rattle.job.specs.declared.field.Field.{Field}
 use Rattle.job.specs.declared.field.Field.the-variants.{Inner, Last}
-use Rattle.job.specs.Range.{parametersInRange}
+use Rattle.readings.specs.Ranges.{parametersInRange}
 use Rattle.job.specs.inner.LineScan.{malformedLine, numbersAt, lineAt, parametersOf, parametersAt, endingOf, endingAt}
 use Rattle.job.specs.declared.sample.Line.{Line}
 use Rattle.job.specs.declared.first.Parameters.the-variants as P

@@ -13,7 +13,8 @@ use lib.Seq.{sets, sets-eq, slice, take-at}
 use Rattle.text.specs.Parts.{onto, split}
 use Rattle.integer.specs.Within.{within}
 use Rattle.integer.specs.laws.Within.{both, is-within}
-use Rattle.job.specs.Range.{parametersInRange, sampleInRange}
+use Rattle.readings.specs.Ranges.{parametersInRange}
+use Rattle.job.specs.Range.{sampleInRange}
 use Rattle.job.specs.inner.LineScan.{lineAt, sampleWithin, parametersOf, parametersAt, endingOf, endingAt}
 use Rattle.job.specs.declared.sample.Line.{Line}
 use Rattle.job.specs.declared.sample.Extent.{Extent}

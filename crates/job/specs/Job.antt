@@ -6,7 +6,8 @@ use mathlib.Core.Option.{Option, none, some}
 use lib.Dec.{ltb, eqb}
 use lib.ListN.{length, getD, drop}
 use Rattle.text.specs.Parts.{split}
-use Rattle.job.specs.Range.{parametersInRange, sampleInRange}
+use Rattle.readings.specs.Ranges.{parametersInRange}
+use Rattle.job.specs.Range.{sampleInRange}
 use Rattle.job.specs.Text.{lineOf}
 use Rattle.limits.specs.Limits.{leastSamples, mostSamples}
 

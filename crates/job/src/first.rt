@@ -2,7 +2,6 @@
 use crate::field::Field;
 use crate::field::number;
 use crate::field::tagged;
-use crate::ranges::parameters_within;
 ghost use mathlib.Core.Path.{_≡_};
 ghost use Rattle.job.specs.inner.LineScan.{parametersAt};
 
@@ -32,7 +31,7 @@ pub(crate) fn first_line(text: &[u8]) -> Parameters
     let Field::Last(tolerance, next) = number(text, third) else {
         return Parameters::Refused(1);
     };
-    if parameters_within(n, limit, tolerance) {
+    if readings::parameters_within(n as usize, limit as u64, tolerance as u64) {
         Parameters::Read {
             n: n as usize,
             limit: limit as u64,

@@ -14,11 +14,11 @@ use Rattle.text.specs.Line.{further, line, numberLine, numbers}
 use Rattle.text.specs.Lines.{lines}
 use Rattle.text.specs.laws.Numbers.{length-number-line}
 use Rattle.readings.specs.Samples.{sampleAt}
-use Rattle.job.specs.Range.{parametersInRange}
+use Rattle.readings.specs.Ranges.{parametersInRange}
 use Rattle.job.specs.Job.{Job}
 use Rattle.job.specs.Values.{Proper, inRange}
 use Rattle.job.specs.laws.Proper.{channels, limit-most, number as samples, ranges, tolerance-most}
-use Rattle.job_text.specs.JobText.{Longest, jobTextOf, jobLineE, jobLineP, jobLineS, longest, sampleNumbers}
+use Rattle.job_text.specs.JobText.{Longest, jobTextOf, jobLineE, jobLineP, jobLineS, longest, sampleLine, sampleNumbers}
 use Rattle.job_text.proofs.Sample.{counts-count, counts-within}
 
 -- Numbers of at most w + 1 digits, each after a tab
@@ -43,7 +43,7 @@ module _ (j : Job) (p : Proper j) where
       rw length-number-line (simp length-append (omega arith))
 
   sample-length : (i : ℕ) → i < length (j .dilutions) → length (jobLineS j i) ≤ 54
-  unfolding jobLineS sampleNumbers sampleAt numbers further number
+  unfolding sampleLine sampleNumbers sampleAt numbers further number
   sample-length i h =
       let xs = take (j .n) (drop (j .n * i) (j .counts)) in
       let dilution = length-digits 2 (getD (j .dilutions) i 0) (omega (arith, all-at 1 100 (j .dilutions) (ranges j p .1) i)) in
@@ -72,7 +72,7 @@ unfolding inRange parametersInRange allWithin within
 greatest-proper = record { ranges = refl; samples = refl; counted = refl }
 
 greatest-length : length (jobTextOf greatest) ≡ longest
-unfolding jobTextOf jobLineP jobLineS jobLineE sampleNumbers sampleAt lines numberLine line further number digits digitsBy
+unfolding jobTextOf jobLineP sampleLine jobLineE sampleNumbers sampleAt lines numberLine line further number digits digitsBy
 greatest-length = refl
 
 pub longest-text : Longest

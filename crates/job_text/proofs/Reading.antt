@@ -17,9 +17,9 @@ use Rattle.readings.specs.Samples.{sampleAt}
 use Rattle.job.specs.Job.{Job, accepted, jobAfter, begun, ended, jobOf, jobOfLines, judged, nothing, withSample}
 use Rattle.job.specs.Values.{Proper}
 use Rattle.job.specs.laws.Proper.{channels, limit-most, number, ranges, tolerance-most}
-use Rattle.job_text.specs.JobText.{ReadsBack, jobTextOf, jobLineE, jobLineP, jobLineS, sampleNumbers}
+use Rattle.job_text.specs.JobText.{ReadsBack, jobTextOf, jobLineE, jobLineP, jobLineS, sampleLine, sampleNumbers}
 use Rattle.job_text.proofs.Fields.{Short, bare, line-other, line-parts, line-read}
-use Rattle.job_text.proofs.Sample.{numbers-count, numbers-short, numbers-within}
+use Rattle.job_text.proofs.Sample.{jobNumbers, numbers-count, numbers-short, numbers-within}
 
 -- ---- one line of a text
 
@@ -48,7 +48,7 @@ first j i =
     }
 
 module _ (j : Job) where
-  first-more : (i : ℕ) → i < length (j .dilutions) → withSample (first j i) (sampleNumbers j i) ≡ first j (suc i)
+  first-more : (i : ℕ) → i < length (j .dilutions) → withSample (first j i) (jobNumbers j i) ≡ first j (suc i)
   unfolding withSample sampleNumbers sampleAt
   first-more i h = rw (take-suc (j .dilutions) i 0 h, mul-suc, take-add)
 
@@ -75,10 +75,10 @@ module _ (j : Job) (p : Proper j) where
   -- and the lines of the first i samples
   samples-read : (i : ℕ) → i ≤ length (j .dilutions) → (rest part : List ℕ) (parts : List (List ℕ)) → split 10 rest ≡ part ∷ parts
       → jobOf (jobLineP j ++ lines (jobLineS j) i ++ rest) ≡ jobAfter (first j i) (part ∷ parts)
-  unfolding lines jobLineS
+  unfolding lines sampleLine
   samples-read zero h rest part parts e = rw append-nil (first-read rest part parts e)
   samples-read (suc i) h rest part parts e =
-      let xs = sampleNumbers j i in
+      let xs = jobNumbers j i in
       let text : jobLineP j ++ (lines (jobLineS j) i ++ jobLineS j i) ++ rest ≡ jobLineP j ++ lines (jobLineS j) i ++ (jobLineS j i ++ rest) =
       simp append-assoc in
       let lines : split 10 (jobLineS j i ++ rest) ≡ bare 83 xs ∷ part ∷ parts = line-parts 83 (omega arith) xs rest ∙ ap (λ l. bare 83 xs ∷ l) e in

@@ -17,13 +17,15 @@ use Rattle.text.specs.laws.Split.{joined, joined-split}
 use Rattle.text.specs.Line.{numberLine}
 use Rattle.text.specs.Lines.{lines}
 use Rattle.text.specs.laws.Lines.{lines-more, lines-same}
-use Rattle.job.specs.Range.{parametersInRange, sampleInRange}
+use Rattle.readings.specs.Ranges.{parametersInRange}
+use Rattle.job.specs.Range.{sampleInRange}
 use Rattle.job.specs.Text.{lineOf}
 use Rattle.readings.specs.Samples.{sampleAt}
 use Rattle.job.specs.Job.{Answer, Job, accepted, jobAfter, begun, ended, jobOf, jobOfLines, judged, nextLine, nothing, refused, withSample}
 use Rattle.job.proofs.Accepted.{accepted-proper}
-use Rattle.job_text.specs.JobText.{ReadIsProper, WritesBack, jobTextOf, jobLineE, jobLineP, jobLineS, sampleNumbers}
+use Rattle.job_text.specs.JobText.{ReadIsProper, WritesBack, jobTextOf, jobLineE, jobLineP, jobLineS, sampleLine, sampleNumbers}
 use Rattle.job_text.proofs.Fields.{Line, line-written}
+use Rattle.job_text.proofs.Sample.{jobNumbers}
 
 -- The lines of a job before `E`
 abbrev begin : Job → List ℕ
@@ -41,7 +43,7 @@ module _ (j : Job) (counted : Counted j) (xs : List ℕ) (size : length xs ≡ s
   counted-more = simp length-append (omega (arith, length-drop 1 xs))
 
   -- the samples before it
-  before : (i : ℕ) → i < length (j .dilutions) → sampleNumbers (withSample j xs) i ≡ sampleNumbers j i
+  before : (i : ℕ) → i < length (j .dilutions) → jobNumbers (withSample j xs) i ≡ jobNumbers j i
   unfolding withSample sampleNumbers sampleAt
   before i h =
       let below : j .n * suc i ≤ j .n * length (j .dilutions) = mul-le-mul-left (j .n) h in
@@ -54,7 +56,7 @@ module _ (j : Job) (counted : Counted j) (xs : List ℕ) (size : length xs ≡ s
   whole (y ∷ ys) e = refl
 
   -- the sample itself
-  last : sampleNumbers (withSample j xs) (length (j .dilutions)) ≡ xs
+  last : jobNumbers (withSample j xs) (length (j .dilutions)) ≡ xs
   unfolding withSample sampleNumbers sampleAt
   last =
       let few : length (drop 1 xs) ≤ j .n = omega (arith, length-drop 1 xs) in
@@ -63,7 +65,7 @@ module _ (j : Job) (counted : Counted j) (xs : List ℕ) (size : length xs ≡ s
 
   samples-more : (k : ℕ) → k ≡ length (j .dilutions) + 1
       → lines (jobLineS (withSample j xs)) k ≡ lines (jobLineS j) (length (j .dilutions)) ++ numberLine 83 (map pos xs)
-  unfolding jobLineS
+  unfolding sampleLine withSample
   samples-more k e =
       let same = lines-same (length (j .dilutions)) (jobLineS (withSample j xs)) (jobLineS j)
       (λ i h. ap (λ l. numberLine 83 (map pos l)) (before i h)) in

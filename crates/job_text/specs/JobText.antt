@@ -15,12 +15,15 @@ unfoldable pub jobLineP : Job → List ℕ
 jobLineP j = numberLine 80 (map pos (j .n ∷ j .limit ∷ j .tolerance ∷ []))
 
 -- "dilution (1..100) and n counts (0..65,535)", of sample i. Samples count from 0 here.
-unfoldable pub sampleNumbers : Job → ℕ → List ℕ
-sampleNumbers j i = let s = sampleAt (j .n) (j .dilutions) (j .counts) i in s .dilution ∷ s .counts
+unfoldable pub sampleNumbers : ℕ → List ℕ → List ℕ → ℕ → List ℕ
+sampleNumbers n dilutions counts i = let s = sampleAt n dilutions counts i in s .dilution ∷ s .counts
 
 -- 83 is `S`.
-unfoldable pub jobLineS : Job → ℕ → List ℕ
-jobLineS j i = numberLine 83 (map pos (sampleNumbers j i))
+unfoldable pub sampleLine : ℕ → List ℕ → List ℕ → ℕ → List ℕ
+sampleLine n dilutions counts i = numberLine 83 (map pos (sampleNumbers n dilutions counts i))
+
+abbrev pub jobLineS : Job → ℕ → List ℕ
+jobLineS j = sampleLine (j .n) (j .dilutions) (j .counts)
 
 -- "Last, `E` with their number". 69 is `E`.
 unfoldable pub jobLineE : Job → List ℕ

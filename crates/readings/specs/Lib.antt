@@ -1,3 +1,4 @@
 pub mod Samples
 pub mod Ranges
+pub mod Refusal
 pub mod laws

@@ -5,7 +5,7 @@ use native.Mathlib.Nat.{le-trans}
 use Rattle.job.specs.Job.{Job}
 use Rattle.job.specs.Values.{Proper}
 use Rattle.job_table.specs.Held.{samplesOf, tableFor}
-use Rattle.job_table.specs.laws.Laws.{channels, limit-most, tolerance-most}
+use Rattle.job.specs.laws.Proper.{channels, limit-most, tolerance-most}
 use Rattle.limits.specs.Limits.{turnLimit, mostSweeps}
 use Rattle.run.specs.Run.{Allowed}
 use Rattle.run.specs.laws.Calls.{AsCalls, run-calls}

@@ -18,7 +18,7 @@ use Rattle.job.specs.Job.{Job, accepted, jobOf}
 use Rattle.job.specs.Reply.{printedBy, printedOf}
 use Rattle.job.specs.Values.{Proper}
 use Rattle.job_table.specs.Held.{samplesOf, tableFor}
-use Rattle.job_table.specs.laws.Laws.{channels}
+use Rattle.job.specs.laws.Proper.{channels}
 use Rattle.ledger.specs.Axis.{errorOf}
 use Rattle.ledger.specs.Call.{Call, axis, load, loosePair, sweep}
 use Rattle.ledger.specs.laws.Accepted.{axis-taken}

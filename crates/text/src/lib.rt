@@ -1,8 +1,10 @@
-// Writers of text into a lent buffer: bytes and decimal numbers.
+// Writers of text into a lent buffer: bytes and decimal numbers, and the answer of a writer.
 pub mod line;
 pub mod numbers;
 pub mod rows;
+pub mod written;
 
+pub use written::Written;
 ghost use mathlib.Core.List.{_∷_, []};
 ghost use Prim.Native.Nat.{_+_, _≤_};
 ghost use lib.ListN.{length};

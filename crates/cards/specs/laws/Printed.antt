@@ -7,7 +7,8 @@ use Rattle.integer.specs.Matrix.{rowMajor}
 use Rattle.integer.specs.Padded.{padded}
 use Rattle.integer.specs.Tabulate.{tabulate}
 use Rattle.job.specs.Job.{Job, accepted, withSample, nextLine, nothing, ended, judged, jobAfter, begun, jobOfLines, jobOf}
-use Rattle.job.specs.Range.{parametersInRange, sampleInRange}
+use Rattle.readings.specs.Ranges.{parametersInRange}
+use Rattle.job.specs.Range.{sampleInRange}
 use Rattle.job.specs.Reply.{printedBy, printedOf}
 use Rattle.job.specs.Text.{numberOf, numbersOf, isTag, recordOf, lineOf}
 use Rattle.job_table.specs.Held.{samplesOf, tableFor}

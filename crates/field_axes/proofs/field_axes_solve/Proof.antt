@@ -11,7 +11,8 @@ use lib.ListN.{length}
 use Rattle.integer.specs.laws.Word.{held}
 use Rattle.field_axes.specs.Solution.{solutionOf, solveRefusal}
 use Rattle.field_axes.specs.laws.Solvable.{length-small, solvable}
-use Rattle.field_axes.proofs.Answered.{refused-answer, refused-buffer, written-answer, written-buffer}
+use Rattle.text.specs.laws.Written.{buffer-stays, buffer-written}
+use Rattle.field_axes.proofs.Answered.{refused-answer, written-answer}
 use Rattle.field_axes.proofs.field_axes_solve.Statement.{statement}
 use Rattle.field_axes.proofs.field_axes_solve.Tie as tie
 
@@ -23,7 +24,7 @@ returns c =
     let numbers = solutionOf (a .n) (a .numbers .now) (a .limit) (a .tolerance) in
     record {
       answer = toZ-ofZ f ∙ c .refused .ensures ∙ refused-answer _ numbers (a .out .now) _ e (c .before .if1 .taken);
-      buffer = refused-buffer _ numbers (a .out .now) _ e (c .before .if1 .taken);
+      buffer = buffer-stays _ numbers (a .out .now) _ e (c .before .if1 .taken);
     }
 
 taken : (c : tie.After-put-solution) →
@@ -40,7 +41,7 @@ returns-2 : tie.Need-returns-2
 returns-2 c =
     record {
       answer = toZ-pos w64 (small (c .before)) ∙ written-answer _ _ _ (taken (c .before)) (c .before .put-solution .ensures);
-      buffer = written-buffer _ _ _ (taken (c .before)) (c .before .put-solution .ensures);
+      buffer = buffer-written _ _ _ (taken (c .before)) (c .before .put-solution .ensures);
     }
 
 pub field-axes-solve-spec : {M : Type 1} → statement M

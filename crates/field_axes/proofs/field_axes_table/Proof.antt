@@ -10,7 +10,8 @@ use borrow.Author.Needs.{needs}
 use Rattle.limits.specs.laws.Channels.{places}
 use Rattle.field_axes.specs.laws.Readable.{length-table, readable}
 use Rattle.field_axes.specs.Table.{tableNumbersOf, tableRefusal}
-use Rattle.field_axes.proofs.Answered.{refused-answer, refused-buffer, written-answer, written-buffer}
+use Rattle.text.specs.laws.Written.{buffer-stays, buffer-written}
+use Rattle.field_axes.proofs.Answered.{refused-answer, written-answer}
 use Rattle.field_axes.proofs.field_axes_table.Statement.{statement}
 use Rattle.field_axes.proofs.field_axes_table.Tie as tie
 
@@ -22,7 +23,7 @@ returns c =
     let numbers = tableNumbersOf (a .n) (a .dilutions .now) (a .counts .now) in
     record {
       answer = toZ-ofZ f ∙ c .refused .ensures ∙ refused-answer _ numbers (a .out .now) _ e (c .before .if1 .taken);
-      buffer = refused-buffer _ numbers (a .out .now) _ e (c .before .if1 .taken);
+      buffer = buffer-stays _ numbers (a .out .now) _ e (c .before .if1 .taken);
     }
 
 taken : (c : tie.After-put-table) →
@@ -42,7 +43,7 @@ returns-2 c =
     let p = c .before .put-table .ensures in
     record {
       answer = toZ-pos w64 (omega (arith, small (c .before))) ∙ written-answer _ _ _ (taken (c .before)) p;
-      buffer = written-buffer _ _ _ (taken (c .before)) p;
+      buffer = buffer-written _ _ _ (taken (c .before)) p;
     }
 
 pub field-axes-table-spec : {M : Type 1} → statement M

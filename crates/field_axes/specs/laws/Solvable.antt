@@ -1,18 +1,17 @@
 -- A run that is not refused: what its arguments keep to, and how many numbers it gives.
 use Prim.Native.Nat.{ℕ, zero, suc, _+_, _*_, _≤_}
-use mathlib.Core.Path.{_≡_, refl}
-use mathlib.Core.Bool.{Bool, true, false, cond, _&&_}
+use mathlib.Core.Path.{_≡_}
+use mathlib.Core.Bool.{_&&_}
 use mathlib.Core.List.{List}
 use native.Mathlib.Nat.{mul-le-mul}
 use native.Mathlib.Omega.{arith}
-use lib.Dec.{eqb, leb, leb→le}
+use lib.Dec.{leb, leb→le}
 use lib.IntN.{ℤ}
 use lib.ListN.{length, length-append}
 use lib.Seq.{length-take-le}
 use mir.Facts.{and-yes}
-use borrow.Author.Tests.{eqb-true, eqb-false}
 use Rattle.ledger.specs.laws.Accepted.{load-accepted}
-use Rattle.limits.specs.laws.Unless.{passed}
+use Rattle.limits.specs.laws.Unless.{neither, passed}
 use Rattle.ledger.specs.Call.{load}
 use Rattle.ledger.specs.Refusal.{refusalOf}
 use Rattle.limits.specs.Limits.{toleranceLimit, leastSweeps, mostSweeps}
@@ -21,14 +20,6 @@ use Rattle.record.specs.Record.{axisOf}
 use Rattle.record.specs.declared.Record.{Record}
 use Rattle.field_axes.specs.Solution.{axes, axisSolution, solution, solutionOf, solveRefusal}
 use Rattle.field_axes.specs.inner.Solvable.{Solvable}
-
--- a first refusal, and after it another: neither of them
-neither : (first later : ℕ) → cond (eqb first 0) later first ≡ 0 → (first ≡ 0) × (later ≡ 0)
-neither first later = by-test (eqb first 0) refl
-  where
-    by-test : (test : Bool) → eqb first 0 ≡ test → cond test later first ≡ 0 → (first ≡ 0) × (later ≡ 0)
-    by-test true q e = (eqb-true first 0 q, e)
-    by-test false q e = absurd (eqb-false first 0 q e)
 
 pub solvable : (n : ℕ) (numbers : List ℤ) (limit t size : ℕ) → solveRefusal n numbers limit t size ≡ 0 → Solvable n numbers limit t size
 unfolding solveRefusal

@@ -9,7 +9,7 @@ use Rattle.integer.specs.Within.{within, allWithin}
 use Rattle.job.specs.inner.FieldScan.{fieldAt, taggedAt}
 use Rattle.job.specs.declared.field.Field.{Field}
 use Rattle.job.specs.declared.field.Field.the-variants.{Inner, Last, Bad}
-use Rattle.job.specs.Range.{parametersInRange}
+use Rattle.readings.specs.Ranges.{parametersInRange}
 use Rattle.job.specs.declared.sample.Extent.{Extent}
 use Rattle.job.specs.declared.sample.Extent.the-variants.{To, Malformed}
 use Rattle.job.specs.declared.sample.Line.{Line}

@@ -5,7 +5,8 @@ use mathlib.Core.List.{List, [], _∷_, _++_}
 use Rattle.text.specs.Numeral.{leadingZero, valueFrom}
 use Rattle.text.specs.Parts.{onto, split, before}
 use Rattle.integer.specs.Within.{within, allWithin}
-use Rattle.job.specs.Range.{parametersInRange, sampleInRange}
+use Rattle.readings.specs.Ranges.{parametersInRange}
+use Rattle.job.specs.Range.{sampleInRange}
 use Rattle.job.specs.Text.{numberOf, numbersOf, isTag, recordOf, lineOf}
 use Rattle.job.specs.Job.{refused, accepted, withSample, nextLine, nothing, ended, judged, jobAfter, begun, jobOfLines, jobOf}
 

@@ -5,7 +5,7 @@ use mathlib.Core.Bool.{true}
 use lib.ListN.{length}
 use Rattle.integer.specs.Within.{within, allWithin}
 use Rattle.integer.specs.laws.Within.{both, is-within}
-use Rattle.job.specs.Range.{parametersInRange}
+use Rattle.readings.specs.Ranges.{parametersInRange}
 use Rattle.job.specs.Job.{Job}
 use Rattle.job.specs.Values.{Proper, inRange}
 
@@ -15,8 +15,8 @@ module _ (j : Job) (p : Proper j) where
   unfolding inRange
   ranges =
       let b = both _ _ (p .ranges) in
-      let d = both _ _ (b .0) in
-      (d .0, d .1, b .1)
+      let s = both _ _ (b .1) in
+      (b .0, s .0, s .1)
 
   parameters : (within 2 8 (j .n) ≡ true) × (within 1 16 (j .limit) ≡ true) × (within 0 1048576 (j .tolerance) ≡ true)
   unfolding parametersInRange

@@ -2,7 +2,7 @@
 use mathlib.Core.Path.{_≡_, _∙_, sym}
 use mathlib.Core.Bool.{cond}
 use denote.Ref.{now}
-use Rattle.job.specs.Range.{parametersInRange}
+use Rattle.readings.specs.Ranges.{parametersInRange}
 use Rattle.job.specs.inner.LineScan.{parametersAt}
 use Rattle.job.specs.declared.first.Parameters.the-variants.{Read, Refused}
 use borrow.Author.Needs.{needs}
@@ -80,6 +80,9 @@ first-line-spec =
     (λ c κs. search needs)
     (λ c. search needs)
     returns-4
+    (λ c. search needs)
+    (λ c. search needs)
+    (λ c. search needs)
     (λ c κs. search needs)
     (λ c. search needs)
     (λ c. search needs)

@@ -1,13 +1,13 @@
--- `table_numbers::all_within` meets its contract. The invariant: the values from place i on give what all give.
+-- `readings::all_within` meets its contract. The invariant: the values from place i on give what all give.
 use mathlib.Core.Path.{_≡_, refl, sym, _∙_}
 use Prim.Native.Nat.{_-_, _≤_}
 use native.Mathlib.Omega.{arith}
 use lib.ListN.{length, drop, drop-of-length-le}
 use borrow.Author.Needs.{needs}
 use Rattle.integer.specs.Within.{allWithin}
-use Rattle.field_axes.proofs.Within.{in-range, too-high, too-low}
-use Rattle.field_axes.proofs.table.all_within.Statement.{statement}
-use Rattle.field_axes.proofs.table.all_within.Tie as tie
+use Rattle.readings.proofs.Within.{in-range, too-high, too-low}
+use Rattle.readings.proofs.all_within.Statement.{statement}
+use Rattle.readings.proofs.all_within.Tie as tie
 
 abbrev Inv-loop : tie.InvT-loop
 Inv-loop low high values i₀ i = (i ≤ length values) × (allWithin low high values ≡ allWithin low high (drop i values))

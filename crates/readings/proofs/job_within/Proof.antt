@@ -1,0 +1,12 @@
+-- `readings::job_within` meets its contract.
+use borrow.Author.Needs.{needs}
+use mathlib.Core.Path.{ap₂}
+use mathlib.Core.Bool.{_&&_}
+use Rattle.readings.proofs.job_within.Statement.{statement}
+use Rattle.readings.proofs.job_within.Tie as tie
+
+returns : tie.Need-returns
+returns c = ap₂ _&&_ (c .before .parameters-within .ensures) (c .samples-within .ensures)
+
+pub job-within-spec : {M : Type 1} → statement M
+job-within-spec = tie.close (tie.spec (λ c κs. search needs) (λ c κs. search needs) returns)

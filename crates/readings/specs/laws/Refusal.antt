@@ -1,0 +1,78 @@
+-- Laws of the refusals of samples handed over: what is not refused has its values in range, n counts to a sample and 2 to 256 samples; and what has
+-- these is not refused.
+use Prim.Native.Nat.{ℕ, _*_, _≤_}
+use mathlib.Core.Path.{_≡_}
+use mathlib.Core.Bool.{Bool, true}
+use mathlib.Core.List.{List}
+use native.Mathlib.Omega.{arith}
+use lib.Dec.{eqb→eq}
+use lib.Ieee.Bits.{is-true}
+use lib.ListN.{length}
+use borrow.Author.Tests.{eq-eqb}
+use Rattle.limits.specs.Unless.{unless}
+use Rattle.limits.specs.laws.Unless.{passed}
+use Rattle.limits.specs.Limits.{leastChannels, leastSamples, leastDilution, mostChannels, mostCount, mostDilution, mostSamples}
+use Rattle.integer.specs.Within.{allWithin, within}
+use Rattle.integer.specs.laws.Within.{all-at, both, is-within}
+use Rattle.readings.specs.Ranges.{Readings, jobWithin, samplesWithin, valuesWithin}
+use Rattle.readings.specs.Refusal.{areCounted, areSoMany, jobRefusal, numberRefusal, samplesRefusal}
+
+-- `ok` is whether every value is in its range.
+pub record Taken (ok : Bool) (n : ℕ) (dilutions counts : List ℕ) : Type 0 where
+  pub ranges : ok ≡ true
+  pub counted : length counts ≡ n * length dilutions
+  pub number : areSoMany dilutions ≡ true
+
+module _ (n : ℕ) (dilutions counts : List ℕ) where
+  module _ (ranges : Bool) where
+    all-passed : unless ranges 2 (numberRefusal n dilutions counts) ≡ 0 → Taken ranges n dilutions counts
+    unfolding numberRefusal
+    all-passed e =
+        let values = passed ranges 2 (numberRefusal n dilutions counts) e (omega arith) in
+        let counted = passed (areCounted n dilutions counts) 6 (unless (areSoMany dilutions) 3 0) (values .1) (omega arith) in
+        let number = passed (areSoMany dilutions) 3 0 (counted .1) (omega arith) in
+        record { ranges = is-true _ (values .0); counted = eqb→eq _ _ (counted .0); number = is-true _ (number .0) }
+
+    none-refused : Taken ranges n dilutions counts → unless ranges 2 (numberRefusal n dilutions counts) ≡ 0
+    unfolding numberRefusal
+    none-refused t = simp (t .ranges, eq-eqb _ _ (t .counted), t .number)
+
+  -- n and samples that are not refused
+  module _ (e : samplesRefusal n dilutions counts ≡ 0) where
+    pub samples-taken : Taken (valuesWithin n dilutions counts) n dilutions counts
+    unfolding samplesRefusal
+    samples-taken = all-passed (valuesWithin n dilutions counts) e
+
+    values : (within leastChannels mostChannels n ≡ true) × (samplesWithin dilutions counts ≡ true)
+    values = both (within leastChannels mostChannels n) (samplesWithin dilutions counts) (samples-taken .ranges)
+
+    pub two-channels : leastChannels ≤ n
+    two-channels = is-within leastChannels mostChannels n (values .0) .0
+
+    pub two-samples : leastSamples ≤ length dilutions
+    two-samples = is-within leastSamples mostSamples (length dilutions) (samples-taken .number) .0
+
+    pub are-readings : Readings n dilutions counts
+    are-readings =
+        let in-range = both (allWithin leastDilution mostDilution dilutions) (allWithin 0 mostCount counts) (values .1) in
+        record {
+          channels = is-within leastChannels mostChannels n (values .0) .1;
+          number = is-within leastSamples mostSamples (length dilutions) (samples-taken .number) .1;
+          counted = samples-taken .counted;
+          dilution = all-at leastDilution mostDilution dilutions (in-range .0);
+          count = all-at 0 mostCount counts (in-range .1);
+        }
+
+  pub samples-not-refused : Taken (valuesWithin n dilutions counts) n dilutions counts → samplesRefusal n dilutions counts ≡ 0
+  unfolding samplesRefusal
+  samples-not-refused = none-refused (valuesWithin n dilutions counts)
+
+  -- a job that is not refused
+  module _ (limit tolerance : ℕ) where
+    pub job-taken : jobRefusal n limit tolerance dilutions counts ≡ 0 → Taken (jobWithin n limit tolerance dilutions counts) n dilutions counts
+    unfolding jobRefusal
+    job-taken = all-passed (jobWithin n limit tolerance dilutions counts)
+
+    pub job-not-refused : Taken (jobWithin n limit tolerance dilutions counts) n dilutions counts → jobRefusal n limit tolerance dilutions counts ≡ 0
+    unfolding jobRefusal
+    job-not-refused = none-refused (jobWithin n limit tolerance dilutions counts)
