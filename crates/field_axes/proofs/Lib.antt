@@ -1,5 +1,6 @@
 mod Answered
 mod Reporting
+mod Writing
 mod Playing
 mod RunRefusals
 mod Following

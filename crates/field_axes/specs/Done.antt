@@ -10,6 +10,7 @@ use Rattle.report.specs.Report.{reportOf}
 use Rattle.text.specs.Written.{lentAfter}
 use Rattle.field_axes.specs.Answer.{countOrRefusal}
 use Rattle.field_axes.specs.Calls.{lengthOrShort}
+use Rattle.field_axes.specs.JobText.{textFor, textRefusal}
 use Rattle.field_axes.specs.Report.{lengthOrNumber, refusedLine}
 use Rattle.field_axes.specs.Solution.{solutionOf, solveRefusal}
 use Rattle.field_axes.specs.Table.{tableNumbersOf, tableRefusal}
@@ -21,6 +22,11 @@ pub record Solves (n : ℕ) (numbers : List ℤ) (limit t : ℕ) (entry exit : L
 pub record Tabulates (n : ℕ) (dilutions counts : List ℕ) (entry exit : List ℤ) (r : ℤ) : Type 0 where
   pub answer : r ≡ countOrRefusal (tableRefusal n dilutions counts (length entry)) (tableNumbersOf n dilutions counts)
   pub buffer : exit ≡ lentAfter (tableRefusal n dilutions counts (length entry)) (tableNumbersOf n dilutions counts) entry
+
+-- the text's length, or the refusal's number negated
+pub record WritesJob (n limit tolerance : ℕ) (dilutions counts entry exit : List ℕ) (r : ℤ) : Type 0 where
+  pub answer : r ≡ countOrRefusal (textRefusal n limit tolerance dilutions counts (length entry)) (textFor n limit tolerance dilutions counts)
+  pub buffer : exit ≡ lentAfter (textRefusal n limit tolerance dilutions counts (length entry)) (textFor n limit tolerance dilutions counts) entry
 
 pub record ReportsText (text entry exit : List ℕ) (at : ℕ) (r : ℤ) : Type 0 where
   pub answer : r ≡ lengthOrNumber (replyOf reportOf text (length entry))

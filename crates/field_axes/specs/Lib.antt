@@ -1,5 +1,6 @@
 pub mod Answer
 pub mod Report
+pub mod JobText
 pub mod Calls
 pub mod Done
 pub mod Solution

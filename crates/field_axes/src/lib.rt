@@ -4,9 +4,10 @@ mod table;
 
 use job::reply::Reply;
 use play::Output;
+use text::Written;
 ghost use mathlib.Core.Path.{_≡_};
 ghost use lib.IntN.{pos, negℤ};
-ghost use Rattle.field_axes.specs.Done.{PlaysText, ReportsText, Solves, Tabulates};
+ghost use Rattle.field_axes.specs.Done.{PlaysText, ReportsText, Solves, Tabulates, WritesJob};
 
 // The answer of a refusal.
 fn refused(number: u32) -> i64
@@ -50,6 +51,26 @@ pub extern "C" fn field_axes_table(
         return refused(number);
     }
     table::put_table(n, dilutions, counts, out) as i64
+}
+
+// Job text of n, the sweep limit, the tolerance and samples, a dilution each and n counts each, sample after sample. Into `out`: the text. The
+// answer is its length, or the refusal's number negated.
+#[no_mangle]
+pub extern "C" fn field_axes_job(
+    n: usize,
+    limit: u64,
+    tolerance: u64,
+    dilutions: &[u32],
+    counts: &[u32],
+    out: &mut [u8],
+) -> i64
+    ensures { λ r. ⌜ WritesJob n limit tolerance (now (dilutions .entry)) (now (counts .entry)) (now (out .entry)) (now (out .exit)) r ⌝ }
+{
+    let done = job_text::write_job(n, limit, tolerance, dilutions, counts, out);
+    match done {
+        Written::Length(length) => length as i64,
+        Written::Refused(number) => refused(number),
+    }
 }
 
 // A job text to its report, document 01's `axes` as a function. Into `out`: the report. The answer is its length, or the refusal's number

@@ -3,3 +3,5 @@ mod Sample
 pub mod Reading
 pub mod Writing
 pub mod Length
+pub mod Writer
+mod Filling

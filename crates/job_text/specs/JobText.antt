@@ -32,6 +32,10 @@ jobLineE j = numberLine 69 (map pos (length (j .dilutions) ∷ []))
 unfoldable pub jobTextOf : Job → List ℕ
 jobTextOf j = jobLineP j ++ lines (jobLineS j) (length (j .dilutions)) ++ jobLineE j
 
+-- 'a writer that takes n, the sweep limit, the tolerance and the samples': the job of these values
+abbrev pub jobWith : ℕ → ℕ → ℕ → List ℕ → List ℕ → Job
+jobWith n limit tolerance dilutions counts = record { n = n; limit = limit; tolerance = tolerance; dilutions = dilutions; counts = counts }
+
 -- 'Reading that text yields those same values'. A proper job has values in their ranges, 2 to 256 samples and n counts to each.
 abbrev pub ReadsBack : Type 0
 ReadsBack = (j : Job) → Proper j → jobOf (jobTextOf j) ≡ accepted j
@@ -40,7 +44,7 @@ ReadsBack = (j : Job) → Proper j → jobOf (jobTextOf j) ≡ accepted j
 abbrev pub WritesBack : Type 0
 WritesBack = (text : List ℕ) (j : Job) → jobOf text ≡ accepted j → jobTextOf j ≡ text
 
--- What was read from an accepted text is proper, so a writer takes it.
+-- What was read from an accepted text is proper.
 abbrev pub ReadIsProper : Type 0
 ReadIsProper = (text : List ℕ) (j : Job) → jobOf text ≡ accepted j → Proper j
 

@@ -1,2 +1,4 @@
 pub mod JobText
+pub mod Writer
+pub mod inner
 pub mod laws

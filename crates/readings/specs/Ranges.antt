@@ -5,7 +5,8 @@ use mathlib.Core.List.{List}
 use Prim.Native.Nat.{ℕ, _*_, _≤_}
 use lib.ListN.{length, getD}
 use Rattle.integer.specs.Within.{allWithin, within}
-use Rattle.limits.specs.Limits.{leastChannels, mostChannels, leastSweeps, mostSweeps, toleranceLimit, mostSamples, leastDilution, mostDilution, mostCount}
+use Rattle.limits.specs.Limits.{leastChannels, leastDilution, leastSweeps, mostChannels, mostCount, mostDilution, mostSamples, mostSweeps}
+use Rattle.limits.specs.Limits.{toleranceLimit}
 
 -- "`P` n (2..8), sweep limit (1..16), tolerance t in units (0..1,048,576)."
 unfoldable pub parametersInRange : ℕ → ℕ → ℕ → Bool

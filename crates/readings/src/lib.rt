@@ -103,11 +103,9 @@ fn refused_unless(test: bool, number: u32, later: u32) -> u32
 fn first_failed(within: bool, counted: bool, enough: bool) -> u32
     ensures { λ r. ⌜ r ≡ unless within 2 (unless counted 6 (unless enough 3 0)) ⌝ }
 {
-    refused_unless(
-        within,
-        2,
-        refused_unless(counted, 6, refused_unless(enough, 3, 0)),
-    )
+    let last = refused_unless(enough, 3, 0);
+    let later = refused_unless(counted, 6, last);
+    refused_unless(within, 2, later)
 }
 
 // The number that n and samples are refused with, or 0.

@@ -1,11 +1,13 @@
--- The ranges of a proper job, part by part.
+-- The ranges of a proper job, part by part, and its readings.
 use Prim.Native.Nat.{_≤_}
-use mathlib.Core.Path.{_≡_}
+use mathlib.Core.Path.{_≡_, _∙_}
 use mathlib.Core.Bool.{true}
+use native.Mathlib.Nat.{mul-comm}
 use lib.ListN.{length}
 use Rattle.integer.specs.Within.{within, allWithin}
-use Rattle.integer.specs.laws.Within.{both, is-within}
-use Rattle.readings.specs.Ranges.{parametersInRange}
+use Rattle.integer.specs.laws.Within.{all-at, both, is-within}
+use Rattle.limits.specs.Limits.{leastDilution, mostDilution, mostCount}
+use Rattle.readings.specs.Ranges.{Readings, parametersInRange}
 use Rattle.job.specs.Job.{Job}
 use Rattle.job.specs.Values.{Proper, inRange}
 
@@ -36,3 +38,13 @@ module _ (j : Job) (p : Proper j) where
 
   pub number : (2 ≤ length (j .dilutions)) × (length (j .dilutions) ≤ 256)
   number = is-within 2 256 (length (j .dilutions)) (p .samples)
+
+  pub readings : Readings (j .n) (j .dilutions) (j .counts)
+  readings =
+      record {
+        channels = channels .1;
+        number = number .1;
+        counted = p .counted ∙ mul-comm (length (j .dilutions)) (j .n);
+        dilution = all-at leastDilution mostDilution (j .dilutions) (ranges .1);
+        count = all-at 0 mostCount (j .counts) (ranges .2);
+      }

@@ -1,6 +1,7 @@
 -- `job_table::table_of` meets its contract: the readings of a held job are within their ranges.
 use Rattle.job_table.specs.Held.{jobIn, samplesOf, tableFor}
-use Rattle.job_table.specs.laws.Laws.{counts-few, readings}
+use Rattle.job.specs.laws.Proper.{readings}
+use Rattle.job_table.specs.laws.Laws.{counts-few}
 use Rattle.job_table.proofs.table_of.Statement.{statement}
 use Rattle.job_table.proofs.table_of.Tie as tie
 

@@ -1,39 +1,27 @@
--- Laws of jobs: the readings of a proper one, and that the job of an accepted text is held by its arrays.
+-- Laws of jobs: the shift of a proper one, and that the job of an accepted text is held by its arrays.
 use Prim.Native.Nat.{ℕ, _*_, _≤_, _<_}
 use mathlib.Core.Path.{_≡_, refl, sym, ap, _∙_}
 use mathlib.Core.List.{List}
-use native.Mathlib.Nat.{mul-comm, mul-le-mul}
+use native.Mathlib.Nat.{mul-le-mul}
 use native.Mathlib.Omega.{arith}
 use lib.ListN.{length}
 use lib.Seq.{length-take-le}
 use Rattle.job.specs.Job.{Job, Answer, refused, accepted, jobOf}
-use Rattle.integer.specs.laws.Within.{all-at}
 use Rattle.integer.specs.laws.Padded.{padded-size, padded-take}
 use Rattle.job.specs.Reading.{inArrays, readingOf}
 use Rattle.job.specs.Values.{Proper}
-use Rattle.job.specs.laws.Proper.{channels, number, ranges}
+use Rattle.job.specs.laws.Proper.{channels, number, readings}
 use Rattle.job.specs.declared.Job as arrays
 use Rattle.job.specs.declared.Outcome.the-variants.{Accepted}
 use Rattle.job.proofs.Accepted.{accepted-proper}
 use Rattle.scatter.specs.laws.Bounds.{readings-shift}
-use Rattle.readings.specs.Ranges.{Readings}
 use Rattle.job_table.specs.Held.{Held, jobIn, samplesOf, tableFor}
-use Rattle.limits.specs.Limits.{leastDilution, mostDilution, mostCount, mostSamples}
+use Rattle.limits.specs.Limits.{mostSamples}
 
 module _ (j : Job) (p : Proper j) where
-  pub readings : Readings (j .n) (j .dilutions) (j .counts)
-  readings =
-      record {
-        channels = channels j p .1;
-        number = number j p .1;
-        counted = p .counted ∙ mul-comm (length (j .dilutions)) (j .n);
-        dilution = all-at leastDilution mostDilution (j .dilutions) (ranges j p .1);
-        count = all-at 0 mostCount (j .counts) (ranges j p .2);
-      }
-
   pub shift-few : tableFor j .e < 62
   unfolding tableFor samplesOf
-  shift-few = readings-shift (j .n) (j .dilutions) (j .counts) readings
+  shift-few = readings-shift (j .n) (j .dilutions) (j .counts) (readings j p)
 
 -- As many samples as the arrays say
 pub samples-held : (a : arrays.Job) → Held a → length (jobIn a .dilutions) ≡ a .k
