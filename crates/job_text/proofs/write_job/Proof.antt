@@ -1,5 +1,5 @@
 -- `job_text::write_job` meets its contract: the refusal, or the text of the job, written where it fits.
-use mathlib.Core.Path.{_≡_, sym, _∙_}
+use mathlib.Core.Path.{_≡_, sym, ap, _∙_}
 use mathlib.Core.List.{[], _∷_}
 use native.Mathlib.Omega.{arith}
 use borrow.Author.Needs.{needs}
@@ -11,6 +11,7 @@ use Rattle.job.specs.Job.{Job}
 use Rattle.job.specs.Values.{Proper}
 use Rattle.job.specs.laws.Proper.{channels, limit-most, number, readings, tolerance-most}
 use Rattle.readings.specs.Refusal.{jobRefusal}
+use Rattle.text.specs.laws.Put.{same-put}
 use Rattle.text.specs.laws.Written.{refused, short, written}
 use Rattle.job_text.specs.JobText.{jobLineE, jobLineP, jobTextOf, jobWith}
 use Rattle.job_text.specs.inner.Lines.{textOfLines}
@@ -50,7 +51,7 @@ returns-2 : tie.Need-returns-2
 returns-2 c =
     let l = c .before in
     let e = l .before .before .before in
-    short _ _ _ (not-refused e) (omega (arith, rw (text e) at (l .text-length .ensures .exact), c .if2 .taken))
+    short _ _ _ (not-refused e) (omega (arith, l .text-length .ensures .exact ∙ ap length (text e), c .if2 .taken))
 
 put-text-requires : tie.Need-put-text-requires
 put-text-requires c κs =
@@ -63,7 +64,7 @@ returns-3 : tie.Need-returns-3
 returns-3 c =
     let put = c .before .before in
     let e = put .before .before .before .before .before .before .before .before in
-    written _ _ _ (not-refused e) (rw (text e) at (put .put-text .ensures))
+    written _ _ _ (not-refused e) (same-put (text e) (put .put-text .ensures))
 
 pub write-job-spec : {M : Type 1} → statement M
 write-job-spec =

@@ -57,6 +57,10 @@ module _ {X : Type 0} {t e x : List X} {a r : ℕ} (p : Put t a e x r) where
     within = omega (arith, q .within, part-size, same-size);
   })
 
+-- The same text by another name.
+pub same-put : {X : Type 0} {t u e x : List X} {at r : ℕ} → t ≡ u → Put t at e x r → Put u at e x r
+same-put q p = rw (← q) p
+
 -- A text at the front of a buffer.
 pub front-length : {X : Type 0} {t e x : List X} {r : ℕ} → Put t 0 e x r → r ≡ length t
 front-length p = p .answer ∙ zero-add _

@@ -7,7 +7,7 @@ use lib.ListN.{length, take}
 use Rattle.text.specs.Line.{numberLine}
 use Rattle.text.specs.Lines.{lines}
 use Rattle.text.specs.Put.{Put}
-use Rattle.text.specs.laws.Put.{put-nothing, put-part, part-size, same-size}
+use Rattle.text.specs.laws.Put.{put-nothing, put-part, part-size, same-put, same-size}
 use Rattle.text.specs.laws.Lines.{lines-none, lines-more, line-within}
 use Rattle.job_text.specs.JobText.{sampleLine}
 use Rattle.job_text.proofs.samples.put_samples.Statement.{statement}
@@ -43,15 +43,14 @@ put-line-requires c κs =
     let l = c .before .before .before in
     let p = l .before .loop .inv .1 in (
       omega (arith, c .before .before .sample-numbers .ensures .0, s .pre .0 .channels),
-      rw (line c)
-          (omega (
-            arith,
-            line-within (sampleLine (a .n) (a .dilutions .now) (a .counts .now)) (length (a .dilutions .now)) (l .before .loop .i)
-                (l .loop-test .taken),
-            p .answer,
-            part-size p,
-            s .pre .1,
-          )),
+      omega (
+        arith,
+        ap length (line c),
+        line-within (sampleLine (a .n) (a .dilutions .now) (a .counts .now)) (length (a .dilutions .now)) (l .before .loop .i) (l .loop-test .taken),
+        p .answer,
+        part-size p,
+        s .pre .1,
+      ),
     )
 
 add-at : tie.Need-add-at Inv-loop μ-loop
@@ -65,7 +64,7 @@ loop-again c =
     let l = c .before .before .before .before .before .before in (
       omega (arith, l .loop-test .taken),
       rw (lines-more (sampleLine _ _ _) (l .before .loop .i))
-          (put-part (l .before .loop .inv .1) (rw (line (c .before .before .before)) at (c .before .before .put-line .ensures))),
+          (put-part (l .before .loop .inv .1) (same-put (line (c .before .before .before)) (c .before .before .put-line .ensures))),
     )
 
 same-length : tie.Need-same-length Inv-loop μ-loop

@@ -1,9 +1,10 @@
 -- `job_text::samples::samples_length` meets its contract. The invariant: the first i lines are counted, at most 191 bytes each.
-use Prim.Native.Nat.{ℕ, _+_, _-_, _*_, _≤_}
-use mathlib.Core.Path.{_≡_, sym}
+use Prim.Native.Nat.{_-_, _*_, _≤_}
+use mathlib.Core.Path.{_≡_, ap, _∙_}
 use native.Mathlib.Omega.{arith}
 use borrow.Author.Needs.{needs}
-use lib.ListN.{length, take}
+use lib.ListN.{length}
+use Rattle.text.specs.Line.{numbers}
 use Rattle.text.specs.Lines.{lines}
 use Rattle.text.specs.laws.Lines.{lines-none, lines-length}
 use Rattle.text.specs.laws.Numbers.{length-number-line}
@@ -39,8 +40,7 @@ loop-again : tie.Need-loop-again Inv-loop μ-loop
 unfolding sampleLine
 loop-again c =
     let l = c .before .before .before .before in
-    let line = c .before .before .sample-numbers .ensures .1 in
-    let size = rw line at (c .numbers-length .ensures .exact) in (
+    let size = c .numbers-length .ensures .exact ∙ ap (λ l. length (numbers l)) (c .before .before .sample-numbers .ensures .1) in (
       omega (arith, l .loop .inv .0, c .before .before .before .loop-test .taken),
       rw (lines-length (sampleLine _ _ _) (l .loop .i), length-number-line) (omega (arith, l .loop .inv .1, size)),
       omega (arith, l .loop .inv .2, few c .0),
