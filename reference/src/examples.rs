@@ -82,7 +82,7 @@ pub const KEEPS_TURNING: [i128; 64] = [
 ];
 
 /// A text written with blanks for tabs.
-fn tabs(text: &str) -> Vec<u8> {
+pub fn tabs(text: &str) -> Vec<u8> {
     text.replace(' ', "\t").into_bytes()
 }
 

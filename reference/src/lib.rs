@@ -11,6 +11,7 @@ pub mod matrix;
 pub mod orders;
 pub mod pairs;
 mod random;
+pub mod readings;
 pub mod record;
 pub mod report;
 pub mod rounding;
@@ -36,6 +37,19 @@ pub fn report_of(job: &[u8]) -> Vec<u8> {
 /// What `table` prints for a job text: the table of its sums, or the `X` line of its refusal.
 pub fn table_of(job: &[u8]) -> Vec<u8> {
     report::table_program(job).into_bytes()
+}
+
+/// Job text from n, the sweep limit, the tolerance and samples: a dilution each, and n counts each, sample after sample. Refused 2, 6 or 3.
+pub fn job_text(
+    n: i128,
+    limit: i128,
+    tolerance: i128,
+    dilutions: &[i128],
+    counts: &[i128],
+) -> Result<Vec<u8>, u32> {
+    readings::job(n, limit, tolerance, dilutions, counts)
+        .map(|job| job.text().into_bytes())
+        .map_err(|number| number as u32)
 }
 
 /// The answers to a text of calls, played on one fresh record.
