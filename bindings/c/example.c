@@ -1,14 +1,15 @@
-/* Three samples of two channels: their table and its axes, then their report as a job, and a job that is refused; then some calls. It prints
-   what example.out has. At the repository's root:
+/* Three samples of two channels: their table and its axes, then their job text and its report, samples that are no job, and a job that is
+   refused; then some calls. It prints what example.out has. At the repository's root:
    rt staticlib field_axes && cc -o target/example bindings/c/example.c target/staticlib/libfield_axes.a && target/example */
 #include "field_axes.h"
 #include <stdio.h>
 #include <string.h>
 
+static const uint32_t dilutions[] = {1, 5, 1};
+static const uint32_t counts[] = {0, 0, 1, 0, 5, 5};
+
 /* The entries of the table of three samples go into `entries`. */
 static int tabulate(int64_t entries[4]) {
-    const uint32_t dilutions[] = {1, 5, 1};
-    const uint32_t counts[] = {0, 0, 1, 0, 5, 5};
     int64_t out[FIELD_AXES_MOST_TABLE_NUMBERS];
     int64_t count = field_axes_table(2, dilutions, 3, counts, 6, out, FIELD_AXES_MOST_TABLE_NUMBERS);
     if (count < 0) {
@@ -37,14 +38,26 @@ static int solve(const int64_t numbers[4]) {
     return 0;
 }
 
-static void report(const char *job) {
+static void report(const uint8_t *job, size_t job_length) {
     uint8_t out[FIELD_AXES_MOST_REPORT_BYTES];
     size_t line;
-    int64_t length = field_axes_report((const uint8_t *)job, strlen(job), out, sizeof out, &line);
+    int64_t length = field_axes_report(job, job_length, out, sizeof out, &line);
     if (length < 0)
         printf("refused %lld at line %zu\n", (long long)-length, line);
     else
         fwrite(out, 1, (size_t)length, stdout);
+}
+
+/* At most one sweep, tolerance 0, and the first counts_length counts: the job text and its report. */
+static void write_job(size_t counts_length) {
+    uint8_t out[FIELD_AXES_MOST_JOB_BYTES];
+    int64_t length = field_axes_job(2, 1, 0, dilutions, 3, counts, counts_length, out, sizeof out);
+    if (length < 0) {
+        printf("refused %lld\n", (long long)-length);
+        return;
+    }
+    fwrite(out, 1, (size_t)length, stdout);
+    report(out, (size_t)length);
 }
 
 static int play(const char *calls) {
@@ -60,7 +73,9 @@ int main(void) {
     int64_t entries[4];
     if (tabulate(entries) || solve(entries))
         return 1;
-    report("P\t2\t1\t0\nS\t1\t0\t0\nS\t5\t1\t0\nS\t1\t5\t5\nE\t3\n");
-    report("P\t2\t1\t0\nS\t101\t0\t0\n");
+    write_job(6);
+    write_job(5);
+    const char *job = "P\t2\t1\t0\nS\t101\t0\t0\n";
+    report((const uint8_t *)job, strlen(job));
     return play("L\t2\t50\t25\t25\t50\nT\t1\t2\nA\t1\n");
 }

@@ -32,6 +32,16 @@ int64_t field_axes_table(size_t n, const uint32_t *dilutions, size_t dilutions_l
 
 #define FIELD_AXES_MOST_TABLE_NUMBERS 129
 
+/* The job text of n, the sweep limit, the tolerance in units, and samples: a dilution each, and n counts each, sample after sample. Into out:
+   the text, at most FIELD_AXES_MOST_JOB_BYTES bytes, with no 0 after it. Bytes past it stay.
+   The answer is its length, or a refusal's number negated: 2 where n is outside 2 to 8, the limit outside 1 to 16, the tolerance above
+   1,048,576, a dilution outside 1 to 100 or a count above 65,535, then 6 where the counts are not n to a sample, then 3 for fewer than 2 or
+   more than 256 samples, then 12 for a short buffer. At a refusal the buffer stays. */
+int64_t field_axes_job(size_t n, uint64_t limit, uint64_t tolerance, const uint32_t *dilutions, size_t dilutions_length,
+                       const uint32_t *counts, size_t counts_length, uint8_t *out, size_t out_length);
+
+#define FIELD_AXES_MOST_JOB_BYTES 13845
+
 /* A job text to its report. Into out: the report, at most FIELD_AXES_MOST_REPORT_BYTES bytes, with no 0 after it. Bytes past it stay.
    The answer is its length, or a refusal's number negated: 1 to 4 for the text, with the line, from 1, in *line; then 12 for a short
    buffer. *line is 0 for 12 and where there is no refusal. At a refusal the buffer stays. */

@@ -6,9 +6,10 @@ const RUST: &str = include_str!("../../bindings/rust/src/lib.rs");
 const C: &str = include_str!("../../bindings/c/field_axes.h");
 
 /// The most that an answer has, in C's words and as Rust has it; that Rust's is enough is seen where the buffer is Rust's own.
-const MOST: [(&str, usize); 4] = [
+const MOST: [(&str, usize); 5] = [
     ("NUMBERS", field_axes::MOST_NUMBERS),
     ("TABLE_NUMBERS", field_axes::MOST_TABLE_NUMBERS),
+    ("JOB_BYTES", field_axes::MOST_JOB_BYTES),
     ("REPORT_BYTES", field_axes::MOST_REPORT_BYTES),
     ("ANSWER_BYTES", field_axes::MOST_ANSWER_BYTES),
 ];
@@ -40,9 +41,10 @@ pub fn compare() -> Result<usize, String> {
     Ok(library.len())
 }
 
-/// Each function whose declaration begins with the marker, as Rust declares a foreign one.
+/// Each function whose declaration begins with the marker, as Rust declares a foreign one; by name.
 fn declared(text: &str, marker: &str, parameter: fn(&str) -> String) -> Vec<String> {
-    text.split(marker)
+    let mut functions: Vec<String> = text
+        .split(marker)
         .skip(1)
         .map(|rest| {
             let (name, rest) = rest.split_once('(').unwrap_or((rest, ""));
@@ -61,7 +63,9 @@ fn declared(text: &str, marker: &str, parameter: fn(&str) -> String) -> Vec<Stri
             };
             format!("field_axes_{name}({}){result}", parameters.join(", "))
         })
-        .collect()
+        .collect();
+    functions.sort();
+    functions
 }
 
 /// A slice is a pointer and a length.

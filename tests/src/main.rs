@@ -6,8 +6,10 @@ mod calling;
 mod declarations;
 mod random;
 mod reporting;
+mod samples;
 mod solving;
 mod tabulating;
+mod writing;
 
 use std::process::ExitCode;
 
@@ -27,11 +29,12 @@ fn main() -> ExitCode {
             failed = true;
         }
     }
-    let kinds: [(&str, fn(u64) -> Result<String, String>); 4] = [
+    let kinds: [(&str, fn(u64) -> Result<String, String>); 5] = [
         ("report", reporting::case),
         ("calls", calling::case),
         ("solve", solving::case),
         ("table", tabulating::case),
+        ("job", writing::case),
     ];
     for (name, case) in kinds {
         let mut counts = std::collections::BTreeMap::new();

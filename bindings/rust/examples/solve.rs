@@ -1,23 +1,33 @@
-//! Three samples of two channels: their table and its axes, then their report as a job, and a job that is refused; then some calls.
+//! Three samples of two channels: their table and its axes, then their job text and its report, samples that are no job, and a job that is
+//! refused; then some calls.
 //! It prints what solve.out has. At the repository's root:
 //! `rt staticlib field_axes && cargo run --release --offline --manifest-path bindings/rust/Cargo.toml --example solve`
 
-use field_axes::{calls, report, solve, table, JobRefused, Refused};
+use field_axes::{calls, job, report, solve, table, JobRefused, Refused};
 
 fn main() {
-    if let Err(Refused(number)) = show(2, &[1, 5, 1], &[0, 0, 1, 0, 5, 5]) {
+    let (dilutions, counts) = ([1, 5, 1], [0, 0, 1, 0, 5, 5]);
+    if let Err(Refused(number)) = show(2, &dilutions, &counts) {
         println!("refused {number}");
     }
-    for job in [
-        "P\t2\t1\t0\nS\t1\t0\t0\nS\t5\t1\t0\nS\t1\t5\t5\nE\t3\n",
-        "P\t2\t1\t0\nS\t101\t0\t0\n",
-    ] {
-        match report(job.as_bytes()) {
-            Ok(text) => print!("{text}"),
-            Err(JobRefused { number, line }) => println!("refused {number} at line {line}"),
+    for counts in [&counts[..], &counts[..5]] {
+        match job(2, 1, 0, &dilutions, counts) {
+            Ok(text) => {
+                print!("{text}");
+                show_report(&text);
+            }
+            Err(Refused(number)) => println!("refused {number}"),
         }
     }
+    show_report("P\t2\t1\t0\nS\t101\t0\t0\n");
     print!("{}", calls(b"L\t2\t50\t25\t25\t50\nT\t1\t2\nA\t1\n"));
+}
+
+fn show_report(job: &str) {
+    match report(job.as_bytes()) {
+        Ok(text) => print!("{text}"),
+        Err(JobRefused { number, line }) => println!("refused {number} at line {line}"),
+    }
 }
 
 fn show(n: usize, dilutions: &[u32], counts: &[u32]) -> Result<(), Refused> {

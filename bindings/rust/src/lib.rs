@@ -26,6 +26,18 @@ mod raw {
             out_length: usize,
         ) -> i64;
 
+        pub fn field_axes_job(
+            n: usize,
+            limit: u64,
+            tolerance: u64,
+            dilutions: *const u32,
+            dilutions_length: usize,
+            counts: *const u32,
+            counts_length: usize,
+            out: *mut u8,
+            out_length: usize,
+        ) -> i64;
+
         pub fn field_axes_report(
             text: *const u8,
             text_length: usize,
@@ -157,6 +169,50 @@ pub fn table_into(
     answer(unsafe {
         raw::field_axes_table(
             n,
+            dilutions.as_ptr(),
+            dilutions.len(),
+            counts.as_ptr(),
+            counts.len(),
+            out.as_mut_ptr(),
+            out.len(),
+        )
+    })
+}
+
+/// The most bytes that a job text has.
+pub const MOST_JOB_BYTES: usize = 13_845;
+
+/// The job text of n, the sweep limit, the tolerance in units, and samples: a dilution each, and n counts each, sample after sample. Refused 2
+/// where n is outside 2 to 8, the limit outside 1 to 16, the tolerance above 1,048,576, a dilution outside 1 to 100 or a count above 65,535,
+/// then 6 where the counts are not n to a sample, then 3 for fewer than 2 or more than 256 samples.
+pub fn job(
+    n: usize,
+    limit: u64,
+    tolerance: u64,
+    dilutions: &[u32],
+    counts: &[u32],
+) -> Result<String, Refused> {
+    let mut out = [0; MOST_JOB_BYTES];
+    let length = job_into(n, limit, tolerance, dilutions, counts, &mut out)?;
+    Ok(out[..length].iter().copied().map(char::from).collect())
+}
+
+/// The same at the front of `out`; its other bytes stay. The answer is the text's length. Refused 12, last, where `out` is too short; at a
+/// refusal it stays as it was.
+pub fn job_into(
+    n: usize,
+    limit: u64,
+    tolerance: u64,
+    dilutions: &[u32],
+    counts: &[u32],
+    out: &mut [u8],
+) -> Result<usize, Refused> {
+    // Safe: the slices are whole, and borrowed for the call; the function has no other requirement.
+    answer(unsafe {
+        raw::field_axes_job(
+            n,
+            limit,
+            tolerance,
             dilutions.as_ptr(),
             dilutions.len(),
             counts.as_ptr(),
