@@ -5,7 +5,8 @@ const LIBRARY: &str = include_str!("../../crates/field_axes/src/lib.rt");
 const RUST: &str = include_str!("../../bindings/rust/src/lib.rs");
 const C: &str = include_str!("../../bindings/c/field_axes.h");
 
-/// The most that an answer has, in C's words and as Rust has it; that Rust's is enough is seen where the buffer is Rust's own.
+/// The most that an answer has, in C's words and as Rust has it; that Rust's is enough is seen where the buffer is Rust's own; of job text by the
+/// longest one, in `writing`.
 const MOST: [(&str, usize); 5] = [
     ("NUMBERS", field_axes::MOST_NUMBERS),
     ("TABLE_NUMBERS", field_axes::MOST_TABLE_NUMBERS),

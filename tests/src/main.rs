@@ -29,6 +29,10 @@ fn main() -> ExitCode {
             failed = true;
         }
     }
+    if let Err(difference) = writing::longest() {
+        println!("job: {difference}");
+        failed = true;
+    }
     let kinds: [(&str, fn(u64) -> Result<String, String>); 5] = [
         ("report", reporting::case),
         ("calls", calling::case),

@@ -13,6 +13,28 @@ struct Given {
     tolerance: u64,
 }
 
+/// The longest job text there is: the buffer that Rust makes holds it, and no text is longer.
+pub fn longest() -> Result<(), String> {
+    let (dilutions, counts) = ([100; 256], [65_535; 2048]);
+    let text = job(8, 16, 1_048_576, &dilutions, &counts).map(String::into_bytes);
+    let given = Given {
+        samples: Samples {
+            n: 8,
+            dilutions: dilutions.to_vec(),
+            counts: counts.to_vec(),
+        },
+        limit: 16,
+        tolerance: 1_048_576,
+    };
+    let length = text.as_ref().map_or(0, Vec::len);
+    if text != by_reference(&given) || length != MOST_JOB_BYTES {
+        return Err(format!(
+            "the longest job text has {length} bytes here, and the buffer {MOST_JOB_BYTES}"
+        ));
+    }
+    Ok(())
+}
+
 /// Compares one call; the answer is what kind it came to.
 pub fn case(seed: u64) -> Result<String, String> {
     let random = &mut Random::new(seed);

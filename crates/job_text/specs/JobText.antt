@@ -4,6 +4,7 @@ use mathlib.Core.Path.{_≡_}
 use mathlib.Core.List.{List, [], _∷_, _++_, map}
 use lib.IntN.{pos}
 use lib.ListN.{length}
+use Rattle.limits.specs.Limits.{mostBytes}
 use Rattle.text.specs.Line.{numberLine}
 use Rattle.text.specs.Lines.{lines}
 use Rattle.readings.specs.Samples.{sampleAt}
@@ -56,4 +57,4 @@ longest = 13845
 pub record Longest : Type 0 where
   pub most : (j : Job) → Proper j → length (jobTextOf j) ≤ longest
   pub reached : (j : Job) × Proper j × (length (jobTextOf j) ≡ longest)
-  pub below : longest < 16384
+  pub below : longest < mostBytes

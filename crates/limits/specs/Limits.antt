@@ -60,6 +60,10 @@ units = 1024
 abbrev pub whole : ℕ
 whole = 2 ^ 30
 
+-- 'The program `axes` reads at most 16,384 bytes of standard input'
+abbrev pub mostBytes : ℕ
+mostBytes = 16_384
+
 -- 'A number is 1 to 7 decimal digits'
 abbrev pub mostDigits : ℕ
 mostDigits = 7

@@ -2,6 +2,7 @@
 // refused with.
 ghost use mathlib.Core.Path.{_≡_};
 ghost use mathlib.Core.Bool.{Bool};
+ghost use Rattle.limits.specs.Limits.{leastChannels, mostChannels};
 ghost use Rattle.limits.specs.Unless.{unless};
 ghost use Rattle.integer.specs.Within.{allWithin, within};
 ghost use Rattle.readings.specs.Ranges.{jobWithin, parametersInRange, samplesWithin, valuesWithin};
@@ -31,7 +32,7 @@ pub fn all_within(low: u32, high: u32, values: &[u32]) -> bool
 }
 
 fn channels_within(n: usize) -> bool
-    ensures { λ r. ⌜ r ≡ within 2 8 n ⌝ }
+    ensures { λ r. ⌜ r ≡ within leastChannels mostChannels n ⌝ }
 {
     is_within(
         limits::LEAST_CHANNELS as u64,

@@ -7,9 +7,12 @@ use Rattle.readings.specs.Ranges.{parametersInRange}
 use Rattle.readings.specs.Refusal.{jobRefusal, numberRefusal, samplesRefusal}
 
 examples :
-    -- 2: a count of 65,536, a count too few, no sample; n = 9; a dilution of 0, of 101
+    -- 2: a count of 65,536 that no sample has; n = 0, 1 and 9; a dilution of 0, of 101; 257 samples with dilutions of 0 and no counts
     (samplesRefusal 2 [] (65_536 ∷ []) ≡ 2)
+    × (samplesRefusal 0 [] [] ≡ 2)
+    × (samplesRefusal 1 [] [] ≡ 2)
     × (samplesRefusal 9 [] [] ≡ 2)
+    × (samplesRefusal 2 (replicate 257 0) [] ≡ 2)
     × (samplesRefusal 2 (0 ∷ []) [] ≡ 2)
     × (samplesRefusal 2 (1 ∷ 101 ∷ []) (0 ∷ 0 ∷ 0 ∷ 0 ∷ []) ≡ 2)
     -- 6: one sample with one count of two; counts and no sample; 257 samples and no count
@@ -29,4 +32,4 @@ examples :
     × (jobRefusal 2 16 1_048_577 (1 ∷ 1 ∷ []) (0 ∷ 0 ∷ 0 ∷ 0 ∷ []) ≡ 2)
     × (jobRefusal 2 16 1_048_576 (1 ∷ 1 ∷ []) (0 ∷ 0 ∷ 0 ∷ 0 ∷ []) ≡ 0)
 unfolding samplesRefusal jobRefusal numberRefusal parametersInRange allWithin within
-examples = (refl, refl, refl, refl, refl, refl, refl, refl, refl, refl, refl, refl, refl, refl, refl, refl)
+examples = (refl, refl, refl, refl, refl, refl, refl, refl, refl, refl, refl, refl, refl, refl, refl, refl, refl, refl, refl)

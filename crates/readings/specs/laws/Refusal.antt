@@ -2,7 +2,7 @@
 -- these is not refused.
 use Prim.Native.Nat.{ℕ, _*_, _≤_}
 use mathlib.Core.Path.{_≡_}
-use mathlib.Core.Bool.{Bool, true}
+use mathlib.Core.Bool.{Bool, true, false}
 use mathlib.Core.List.{List}
 use native.Mathlib.Omega.{arith}
 use lib.Dec.{eqb→eq}
@@ -33,9 +33,36 @@ module _ (n : ℕ) (dilutions counts : List ℕ) where
         let number = passed (areSoMany dilutions) 3 0 (counted .1) (omega arith) in
         record { ranges = is-true _ (values .0); counted = eqb→eq _ _ (counted .0); number = is-true _ (number .0) }
 
+    -- 'tried in that order', whatever else is wrong
+    first-range : ranges ≡ false → unless ranges 2 (numberRefusal n dilutions counts) ≡ 2
+    first-range e = rw e
+
+    then-counted : ranges ≡ true → areCounted n dilutions counts ≡ false → unless ranges 2 (numberRefusal n dilutions counts) ≡ 6
+    unfolding numberRefusal
+    then-counted e f = rw (e, f)
+
+    then-number : ranges ≡ true → areCounted n dilutions counts ≡ true → areSoMany dilutions ≡ false →
+        unless ranges 2 (numberRefusal n dilutions counts) ≡ 3
+    unfolding numberRefusal
+    then-number e f g = rw (e, f, g)
+
     none-refused : Taken ranges n dilutions counts → unless ranges 2 (numberRefusal n dilutions counts) ≡ 0
     unfolding numberRefusal
     none-refused t = simp (t .ranges, eq-eqb _ _ (t .counted), t .number)
+
+  -- of n and samples: values out of range get 2, then counts that aren't n to a sample 6, then too few or too many samples 3
+  pub range-first : valuesWithin n dilutions counts ≡ false → samplesRefusal n dilutions counts ≡ 2
+  unfolding samplesRefusal
+  range-first = first-range (valuesWithin n dilutions counts)
+
+  pub counted-second : valuesWithin n dilutions counts ≡ true → areCounted n dilutions counts ≡ false → samplesRefusal n dilutions counts ≡ 6
+  unfolding samplesRefusal
+  counted-second = then-counted (valuesWithin n dilutions counts)
+
+  pub number-third : valuesWithin n dilutions counts ≡ true → areCounted n dilutions counts ≡ true → areSoMany dilutions ≡ false →
+      samplesRefusal n dilutions counts ≡ 3
+  unfolding samplesRefusal
+  number-third = then-number (valuesWithin n dilutions counts)
 
   -- n and samples that are not refused
   module _ (e : samplesRefusal n dilutions counts ≡ 0) where
@@ -67,8 +94,23 @@ module _ (n : ℕ) (dilutions counts : List ℕ) where
   unfolding samplesRefusal
   samples-not-refused = none-refused (valuesWithin n dilutions counts)
 
-  -- a job that is not refused
+  -- a job: the same tests in the same order, with the ranges of its limit and tolerance among the first
   module _ (limit tolerance : ℕ) where
+    pub job-range-first : jobWithin n limit tolerance dilutions counts ≡ false → jobRefusal n limit tolerance dilutions counts ≡ 2
+    unfolding jobRefusal
+    job-range-first = first-range (jobWithin n limit tolerance dilutions counts)
+
+    pub job-counted-second : jobWithin n limit tolerance dilutions counts ≡ true → areCounted n dilutions counts ≡ false →
+        jobRefusal n limit tolerance dilutions counts ≡ 6
+    unfolding jobRefusal
+    job-counted-second = then-counted (jobWithin n limit tolerance dilutions counts)
+
+    pub job-number-third : jobWithin n limit tolerance dilutions counts ≡ true → areCounted n dilutions counts ≡ true → areSoMany dilutions ≡ false →
+        jobRefusal n limit tolerance dilutions counts ≡ 3
+    unfolding jobRefusal
+    job-number-third = then-number (jobWithin n limit tolerance dilutions counts)
+
+    -- one that is not refused
     pub job-taken : jobRefusal n limit tolerance dilutions counts ≡ 0 → Taken (jobWithin n limit tolerance dilutions counts) n dilutions counts
     unfolding jobRefusal
     job-taken = all-passed (jobWithin n limit tolerance dilutions counts)

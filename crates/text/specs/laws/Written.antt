@@ -2,7 +2,7 @@
 use Prim.Native.Nat.{ℕ, _<_, _≤_}
 use mathlib.Core.Path.{_≡_, refl, sym, ap, _∙_}
 use mathlib.Core.Bool.{Bool, true, false, cond}
-use mathlib.Core.List.{List, _++_}
+use mathlib.Core.List.{List, [], _∷_, _++_}
 use native.Mathlib.Omega.{arith}
 use borrow.Author.Tests.{eq-eqb, ne-eqb, eqb-true, le-leb, lt-leb}
 use lib.Dec.{eqb, leb, leb→le}
@@ -99,3 +99,10 @@ module _ (refusal : ℕ) (text entry : List ℕ) where
   room-tells w e h =
       let none = none-left refusal (length text) (length entry) e h in
       (w .answer ∙ rw none, w .buffer ∙ rw none)
+
+-- ---- worked examples: 12 last, for a buffer that is a byte too short; the bytes past the text stay, and all of them at a refusal
+examples : (orShort 0 5 4 ≡ 12) × (orShort 0 5 5 ≡ 0) × (orShort 3 5 4 ≡ 3) ×
+    (writtenOf 0 (80 ∷ 10 ∷ []) ≡ Length 2) × (writtenOf 12 (80 ∷ 10 ∷ []) ≡ Refused 12) ×
+    (lentAfter {X = ℕ} 0 (80 ∷ 10 ∷ []) (1 ∷ 2 ∷ 3 ∷ []) ≡ 80 ∷ 10 ∷ 3 ∷ []) × (lentAfter {X = ℕ} 12 (80 ∷ 10 ∷ []) (1 ∷ []) ≡ 1 ∷ [])
+unfolding orShort writtenOf lentAfter
+examples = (refl, refl, refl, refl, refl, refl, refl)
