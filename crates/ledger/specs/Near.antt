@@ -1,6 +1,6 @@
--- How near kept numbers are to the exact rotation Q = P / D, in whole numbers: the matrix, the axes, a row of Q as an axis of A, and a row of V as
--- its direction. Both sides are multiplied by what clears every denominator, and lengths are compared by their squares.
-use Prim.Native.Nat.{ℕ, _*_, _≤_}
+-- How near kept numbers are to the exact rotation Q = P / D, in whole numbers: the matrix, the axes, a row of Q as an axis of S / 2^e, and a row of V
+-- as its direction. Both sides are multiplied by what clears every denominator, and lengths are compared by their squares.
+use Prim.Native.Nat.{ℕ, _*_, _^_, _≤_}
 use lib.IntN.{ℤ, pos, _-ℤ_, _*ℤ_}
 use Rattle.integer.specs.Matrix.{Matrix, product, conjugate, squares}
 use Rattle.integer.specs.Square.{sq}
@@ -23,9 +23,10 @@ MatrixNear n m D P A B = 4 * squares n (matrixDifference n D P A B) ≤ 7 * m * 
 abbrev pub AxesNear : ℕ → ℕ → ℕ → Matrix → Matrix → Type 0
 AxesNear n m D P v = squares n (axesDifference D P v) ≤ 2 * m * D * (2 * m * D)
 
--- row i of Q, counted from 0, as an axis of A: |1024 × Q_i A − entry × Q_i| ≤ error, times D
-abbrev pub RowNear : ℕ → ℕ → Matrix → Matrix → ℕ → ℤ → ℕ → Type 0
-RowNear n D P A i entry error = sumℕ n (λ k. sq (pos units *ℤ product n P A i k -ℤ entry *ℤ P i k)) ≤ D * error * (D * error)
+-- document 02, W5: row i of Q, counted from 0, as an axis of S / 2^e: |1024 × Q_i S / 2^e − entry × Q_i| ≤ error, times 2^e × D
+abbrev pub RowNear : ℕ → ℕ → Matrix → Matrix → ℕ → ℕ → ℤ → ℕ → Type 0
+RowNear n D P S e i entry error =
+    sumℕ n (λ k. sq (pos units *ℤ product n P S i k -ℤ pos (2 ^ e) *ℤ (entry *ℤ P i k))) ≤ 2 ^ e * (D * error) * (2 ^ e * (D * error))
 
 -- row i of V as its direction: |V_i − 2^30 × Q_i| ≤ 2m, times D
 abbrev pub DirectionNear : ℕ → ℕ → ℕ → Matrix → Matrix → ℕ → Type 0

@@ -7,9 +7,10 @@ use lib.IntN.{ℤ, pos, negsuc, natAbs}
 use lib.ListN.{length}
 use Rattle.integer.specs.Matrix.{Matrix, matrixOf}
 use Rattle.integer.specs.Range.{all}
-use Rattle.ledger.specs.Call.{Call, load, turn, sweepIn, loosePair, axis}
+use Rattle.ledger.specs.Call.{Call, load, loadSamples, turn, sweepIn, loosePair, axis}
 use Rattle.limits.specs.Limits.{entryLimit, leastChannels, mostChannels, toleranceLimit, turnLimit}
 use Rattle.limits.specs.Unless.{unless}
+use Rattle.readings.specs.Refusal.{samplesRefusal}
 
 unfoldable pub equal : ℤ → ℤ → Bool
 equal (pos x) (pos y) = eqb x y
@@ -26,13 +27,14 @@ entriesWithin limit [] = true
 entriesWithin limit (x ∷ xs) = leb (natAbs x) limit && entriesWithin limit xs
 
 -- The refusal's number, or 0 for a call that is accepted, under a limit of the entries, on a state with n channels (0: no matrix) and m turns made.
--- Load: 5, 6, 8, 7. Other calls: 10, then 2 or 9, then 11
+-- Load: 5, 6, 8, 7. A load of samples 'is refused as W1's writer refuses them': 2, 6, 3. Other calls: 10, then 2 or 9, then 11
 unfoldable pub refusalUnder : ℕ → ℕ → ℕ → Call → ℕ
 refusalUnder limit n m (load k numbers) =
     unless (leb leastChannels k && leb k mostChannels) 5
     (unless (eqb (length numbers) (k * k)) 6
     (unless (entriesWithin limit numbers) 8
     (unless (symmetric k (matrixOf k numbers)) 7 0)))
+refusalUnder limit n m (loadSamples k dilutions counts) = samplesRefusal k dilutions counts
 refusalUnder limit n m (turn p q) =
     unless (ltb 0 n) 10 (unless (leb 1 p && (ltb p q && leb q n)) 9 (unless (ltb m turnLimit) 11 0))
 refusalUnder limit n m (sweepIn order) = unless (ltb 0 n) 10 (unless (leb (m + n * (n - 1) / 2) turnLimit) 11 0)

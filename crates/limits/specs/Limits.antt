@@ -56,6 +56,10 @@ refusedLimit = 4_294_967_295
 abbrev pub units : ℕ
 units = 1024
 
+-- document 02, W5: half a table entry in units, which r_i gains for each channel where the table was rounded
+abbrev pub halfEntry : ℕ
+halfEntry = 512
+
 -- v is 2^30 on the diagonal
 abbrev pub whole : ℕ
 whole = 2 ^ 30

@@ -37,6 +37,9 @@ pub const REFUSED_LIMIT: u32 = 4_294_967_295;
 // Kept entries are the loaded ones times this.
 pub const UNITS: i64 = 1_024;
 
+// Half a table entry in kept units.
+pub const HALF_ENTRY: u64 = 512;
+
 // The axes of a load have this on the diagonal: 2^30.
 pub const WHOLE: i64 = 1_073_741_824;
 

@@ -14,10 +14,11 @@ use Rattle.integer.specs.laws.Range.{below, from-each}
 use Rattle.limits.specs.Limits.{entryLimit, turnLimit}
 use Rattle.integer.specs.Matrix.{Matrix, matrixOf}
 use Rattle.integer.specs.Matrix.{Symmetric}
-use Rattle.ledger.specs.Call.{Call, load, turn, sweepIn, loosePair, axis}
+use Rattle.ledger.specs.Call.{Call, load, loadSamples, turn, sweepIn, loosePair, axis}
 use Rattle.ledger.specs.declared.Order.{Order}
 use Rattle.limits.specs.Unless.{unless}
 use Rattle.limits.specs.laws.Unless.{passed}
+use Rattle.readings.specs.Refusal.{samplesRefusal}
 use Rattle.ledger.specs.Refusal.{equal, symmetric, entriesWithin, refusalOf, refusalUnder}
 
 -- 'Load: 5, 6, 8, 7': none of them
@@ -91,6 +92,7 @@ module _ (limit larger : ℕ) (h : limit ≤ larger) where
   accepted-under n m (load k numbers) e =
       later-only (leb 2 k && leb k 8) 5 _ _
       (later-only (eqb (length numbers) (k * k)) 6 _ _ (entries-only numbers (unless (symmetric k (matrixOf k numbers)) 7 0))) e
+  accepted-under n m (loadSamples k dilutions counts) e = e
   accepted-under n m (turn p q) e = e
   accepted-under n m (sweepIn order) e = e
   accepted-under n m (loosePair t) e = e
@@ -111,6 +113,16 @@ load-accepted k m n numbers e =
       small = within-small entryLimit numbers (entries .0);
       same = symmetric-same n (matrixOf n numbers) (mirrors .0);
     }
+
+-- and neither does a load of samples
+pub samples-accepted : (k m n : ℕ) (dilutions counts : List ℕ) → refusalOf k m (loadSamples n dilutions counts) ≡ 0 →
+    samplesRefusal n dilutions counts ≡ 0
+unfolding refusalUnder
+samples-accepted k m n dilutions counts e = e
+
+pub samples-alone : (k m n : ℕ) (dilutions counts : List ℕ) → refusalOf k m (loadSamples n dilutions counts) ≡ samplesRefusal n dilutions counts
+unfolding refusalUnder
+samples-alone k m n dilutions counts = refl
 
 -- a turn, on a state with n channels and m turns made
 pub turn-accepted : (n m p q : ℕ) → refusalOf n m (turn p q) ≡ 0 → TurnGiven n m p q

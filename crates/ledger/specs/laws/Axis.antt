@@ -10,16 +10,16 @@ use Rattle.integer.specs.RoundedUp.{roundedUp}
 use Rattle.integer.specs.Sum.{sumℕ}
 use Rattle.integer.specs.laws.RoundedUp.{RoundedUp, roundedUp-rule}
 use Rattle.integer.specs.laws.Sum.{sumℕ-cong}
-use Rattle.ledger.specs.Axis.{errorOf}
+use Rattle.ledger.specs.Axis.{errorOf, tableError}
 
 -- 'plus 7m/2 rounded up': what is added to the sum is the least whole number that is not below 7m/2
-pub error-rounds : (n : ℕ) (a : Matrix) (m i : ℕ) →
-    (t : ℕ) × RoundedUp (7 * m) 2 t × (errorOf n a m i ≡ sumℕ n (λ j. cond (eqb j i) 0 (natAbs (a i j))) + t)
+pub error-rounds : (n e : ℕ) (a : Matrix) (m i : ℕ) →
+    (t : ℕ) × RoundedUp (7 * m) 2 t × (errorOf n e a m i ≡ sumℕ n (λ j. cond (eqb j i) 0 (natAbs (a i j))) + t + tableError e n)
 unfolding errorOf
-error-rounds n a m i = (roundedUp (7 * m) 2, roundedUp-rule (7 * m) 2 (omega arith), refl)
+error-rounds n e a m i = (roundedUp (7 * m) 2, roundedUp-rule (7 * m) 2 (omega arith), refl)
 
 -- of two matrices with the same row i
-pub same-error : (n : ℕ) (a b : Matrix) (m i : ℕ) → ((j : ℕ) → j < n → a i j ≡ b i j) → errorOf n a m i ≡ errorOf n b m i
+pub same-error : (n e : ℕ) (a b : Matrix) (m i : ℕ) → ((j : ℕ) → j < n → a i j ≡ b i j) → errorOf n e a m i ≡ errorOf n e b m i
 unfolding errorOf
-same-error n a b m i same =
-    ap (λ sum. sum + roundedUp (7 * m) 2) (sumℕ-cong n (λ j l. ap (λ z. cond (eqb j i) 0 (natAbs z)) (same j l)))
+same-error n e a b m i same =
+    ap (λ sum. sum + roundedUp (7 * m) 2 + tableError e n) (sumℕ-cong n (λ j l. ap (λ z. cond (eqb j i) 0 (natAbs z)) (same j l)))

@@ -16,7 +16,7 @@ use Rattle.ledger.specs.laws.Orders.{once-in}
 use Rattle.ledger.specs.Pairs.{Ordered, Each}
 use Rattle.ledger.specs.Gain.{PairGains, Turning, by-turn, by-sweep, StateGains, Gains-always}
 use Rattle.ledger.specs.laws.Invariant.{turnPair-continues, SoundLedger, sound}
-use Rattle.ledger.specs.Ledger.{State, loaded, take, turnPair, turnPairs, accepted, sizeOf, turnsOf, ledgerStep, ledgerStepUnder}
+use Rattle.ledger.specs.Ledger.{State, loaded, take, turnPair, turnPairs, acceptedUnder, sizeOf, turnsOf, ledgerStep, ledgerStepUnder}
 use Rattle.ledger.specs.Pairs.{Pair}
 use Rattle.ledger.specs.Refusal.{refusalOf}
 
@@ -43,7 +43,7 @@ pairs-gain s h [] pair after e = pair-gains s h pair (e .0)
 pairs-gain s h (first ∷ before) pair after e =
     pairs-gain (turnPair s first) (pair-mirrored s h first (e .0)) before pair after (rw (turnPair-continues s first .size) (e .1))
 
--- the pairs of an accepted call
+-- the pairs of an acceptedUnder call
 turning-each : (s : State) (call : Call) (pairs : List Pair) → s .n ≤ 8 → Turning (s .n) call pairs → refusalOf (s .n) (s .m) call ≡ 0 →
     Each (s .n) pairs
 unfolding Each
@@ -54,7 +54,7 @@ turning-each s call pairs b (by-sweep order) e = once-in order (s .n) b .ordered
 
 turning-done : (s : State) (call : Call) (pairs : List Pair) → Turning (s .n) call pairs → refusalOf (s .n) (s .m) call ≡ 0 →
     ledgerStep (loaded s) call ≡ loaded (turnPairs s pairs)
-unfolding ledgerStepUnder accepted sizeOf turnsOf turnPairs
+unfolding ledgerStepUnder acceptedUnder sizeOf turnsOf turnPairs
 turning-done s call pairs (by-turn p q) e = rw e
 turning-done s call pairs (by-sweep order) e = rw e
 

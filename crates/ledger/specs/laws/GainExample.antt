@@ -5,7 +5,7 @@ use lib.IntN.{ℤ, pos}
 use Rattle.integer.specs.Matrix.{matrixOf}
 use Rattle.ledger.specs.Call.{load, sweepIn}
 use Rattle.ledger.specs.Gain.{CallGains, StateGains, by-sweep}
-use Rattle.ledger.specs.Ledger.{loaded, loadedState, accepted, sizeOf, turnsOf, ledgerStepUnder, ledgerFromUnder, ledger}
+use Rattle.ledger.specs.Ledger.{loaded, plainState, acceptedUnder, sizeOf, turnsOf, loadedState, ledgerStepUnder, ledgerFromUnder, ledger}
 use Rattle.ledger.specs.Order.{pairsIn}
 use Rattle.ledger.specs.declared.Order.{Order}
 use Rattle.ledger.specs.Refusal.{equal, entriesWithin, refusalUnder, symmetric}
@@ -15,14 +15,14 @@ use Rattle.ledger.specs.laws.Gain.{gains-always}
 abbrev numbers : List ℤ
 numbers = pos 50 ∷ pos 25 ∷ pos 25 ∷ pos 50 ∷ []
 
-after-load : ledger (load 2 numbers ∷ []) ≡ loaded (loadedState 2 numbers)
-unfolding ledger ledgerFromUnder ledgerStepUnder accepted sizeOf turnsOf refusalUnder entriesWithin symmetric equal matrixOf
+after-load : ledger (load 2 numbers ∷ []) ≡ loaded (plainState 2 numbers)
+unfolding ledger ledgerFromUnder ledgerStepUnder acceptedUnder sizeOf turnsOf refusalUnder entriesWithin symmetric equal matrixOf
 after-load = refl
 
-pub gains-after-load : StateGains (loadedState 2 numbers)
-gains-after-load = gains-always (load 2 numbers ∷ []) (loadedState 2 numbers) after-load
+pub gains-after-load : StateGains (plainState 2 numbers)
+gains-after-load = gains-always (load 2 numbers ∷ []) (plainState 2 numbers) after-load
 
 -- a sweep of either order is among the calls that it speaks of
-pub sweeps-gain : (order : Order) → CallGains (loadedState 2 numbers) (sweepIn order) (pairsIn order 2)
-unfolding refusalUnder loadedState
+pub sweeps-gain : (order : Order) → CallGains (plainState 2 numbers) (sweepIn order) (pairsIn order 2)
+unfolding refusalUnder plainState loadedState
 sweeps-gain order = gains-after-load .calls (sweepIn order) (pairsIn order 2) (by-sweep order) refl

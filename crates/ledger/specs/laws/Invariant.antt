@@ -9,26 +9,29 @@ use borrow.Author.Tests.{eqb-true}
 use lib.Dec.{eqb}
 use lib.ListN.{length}
 use Rattle.limits.specs.Limits.{entryLimit, turnLimit}
+use Rattle.limits.specs.laws.Values.{some-entry}
 use Rattle.choice.specs.Choice.{choose}
 use Rattle.choice.specs.declared.Choice.{Choice}
 use Rattle.choice.specs.declared.Choice.the-variants.{NoTurn, Turn}
-use Rattle.ledger.specs.laws.Accepted.{accepted-under, load-accepted, turn-accepted, sweep-accepted}
-use Rattle.ledger.specs.Call.{Call, load, turn, sweepIn, loosePair, axis}
+use Rattle.ledger.specs.laws.Accepted.{accepted-under, load-accepted, samples-accepted, turn-accepted, sweep-accepted}
+use Rattle.ledger.specs.Call.{Call, load, loadSamples, turn, sweepIn, loosePair, axis}
 use Rattle.ledger.specs.laws.Orders.{once-in}
-use Rattle.ledger.specs.Ledger.{State, Ledger, empty, loaded, take, turnPair, turnPairs, accepted, sizeOf, turnsOf}
+use Rattle.ledger.specs.Ledger.{State, Ledger, empty, loaded, take, turnPair, turnPairs, acceptedUnder, sizeOf, turnsOf}
 use Rattle.ledger.specs.Ledger.{ledgerStepUnder, ledgerFromUnder}
 use Rattle.ledger.specs.Ledger.{ledger}
-use Rattle.ledger.specs.laws.Loaded.{sound-load}
+use Rattle.ledger.specs.laws.Loaded.{sound-plain, sound-samples}
 use Rattle.ledger.specs.Order.{pairsIn}
 use Rattle.ledger.specs.Pairs.{Pair, Each}
 use Rattle.ledger.specs.Refusal.{refusalOf, refusalUnder}
 use Rattle.ledger.specs.laws.Sound.{Sound}
 use Rattle.ledger.specs.laws.Turned.{sound-turn}
 
--- t is s after at most `count` turns: n and A stay
+-- t is s after at most `count` turns: n, A, S and e stay
 pub record Continues (count : ℕ) (s t : State) : Type 0 where
   pub size : t .n ≡ s .n
   pub given : t .A ≡ s .A
+  pub scatter : t .S ≡ s .S
+  pub shift : t .e ≡ s .e
   pub least : s .m ≤ t .m
   pub most : t .m ≤ s .m + count
 
@@ -38,17 +41,24 @@ unfolding turnPair take
 turnPair-continues s pair = cases (choose (s .B (pair .p) (pair .p)) (s .B (pair .q) (pair .q)) (s .B (pair .p) (pair .q)))
   where
     cases : (choice : Choice) → Continues 1 s (take s pair choice)
-    cases NoTurn = record { size = refl; given = refl; least = omega arith; most = omega arith }
-    cases (Turn l minus) = record { size = refl; given = refl; least = omega arith; most = omega arith }
+    cases NoTurn = record { size = refl; given = refl; scatter = refl; shift = refl; least = omega arith; most = omega arith }
+    cases (Turn l minus) = record { size = refl; given = refl; scatter = refl; shift = refl; least = omega arith; most = omega arith }
 
 -- a list of pairs makes at most one turn for each
 pub turnPairs-continues : (s : State) (pairs : List Pair) → Continues (length pairs) s (turnPairs s pairs)
 unfolding turnPairs
-turnPairs-continues s [] = record { size = refl; given = refl; least = omega arith; most = omega arith }
+turnPairs-continues s [] = record { size = refl; given = refl; scatter = refl; shift = refl; least = omega arith; most = omega arith }
 turnPairs-continues s (pair ∷ pairs) =
     let first = turnPair-continues s pair in
     let rest = turnPairs-continues (turnPair s pair) pairs in
-    record { size = rest .size ∙ first .size; given = rest .given ∙ first .given; least = omega arith; most = omega arith }
+    record {
+      size = rest .size ∙ first .size;
+      given = rest .given ∙ first .given;
+      scatter = rest .scatter ∙ first .scatter;
+      shift = rest .shift ∙ first .shift;
+      least = omega arith;
+      most = omega arith;
+    }
 
 -- Pairs one after the other, in any order, while enough turns remain
 pub sound-sweep : (s : State) (pairs : List Pair) → Sound s → Each (s .n) pairs → s .m + length pairs ≤ turnLimit → Sound (turnPairs s pairs)
@@ -63,27 +73,30 @@ unfoldable pub SoundLedger : Ledger → Type 0
 SoundLedger empty = Unit
 SoundLedger (loaded s) = Sound s
 
-sound-accepted : (g : Ledger) (call : Call) → SoundLedger g → refusalOf (sizeOf g) (turnsOf g) call ≡ 0 → SoundLedger (accepted g call)
-unfolding SoundLedger accepted sizeOf turnsOf
-sound-accepted g (load n numbers) h e = sound-load n numbers (load-accepted (sizeOf g) (turnsOf g) n numbers e)
-sound-accepted empty (turn p q) h e = h
-sound-accepted (loaded s) (turn p q) h e =
-    let turns = turn-accepted (s .n) (s .m) p q e in
-    sound-turn s (record { p = p - 1; q = q - 1 }) h (record { ordered = omega arith; within = omega arith }) (turns .left)
-sound-accepted empty (sweepIn order) h e = h
-sound-accepted (loaded s) (sweepIn order) h e =
-    sound-sweep s (pairsIn order (s .n)) h (once-in order (s .n) (h .high) .ordered)
-    (omega (arith, once-in order (s .n) (h .high) .count, sweep-accepted (s .n) (s .m) order e))
-sound-accepted g (loosePair t) h e = h
-sound-accepted g (axis i) h e = h
+-- a call that is accepted, under any limit up to today's, of which one entry is within it
+module _ (limit : ℕ) (some : 1 ≤ limit) (below : limit ≤ entryLimit) where
+  sound-accepted : (g : Ledger) (call : Call) → SoundLedger g → refusalOf (sizeOf g) (turnsOf g) call ≡ 0 → SoundLedger (acceptedUnder limit g call)
+  unfolding SoundLedger acceptedUnder sizeOf turnsOf
+  sound-accepted g (load n numbers) h e = sound-plain n numbers (load-accepted (sizeOf g) (turnsOf g) n numbers e)
+  sound-accepted g (loadSamples n dilutions counts) h e =
+      sound-samples limit some below n dilutions counts (samples-accepted (sizeOf g) (turnsOf g) n dilutions counts e)
+  sound-accepted empty (turn p q) h e = h
+  sound-accepted (loaded s) (turn p q) h e =
+      let turns = turn-accepted (s .n) (s .m) p q e in
+      sound-turn s (record { p = p - 1; q = q - 1 }) h (record { ordered = omega arith; within = omega arith }) (turns .left)
+  sound-accepted empty (sweepIn order) h e = h
+  sound-accepted (loaded s) (sweepIn order) h e =
+      sound-sweep s (pairsIn order (s .n)) h (once-in order (s .n) (h .high) .ordered)
+      (omega (arith, once-in order (s .n) (h .high) .count, sweep-accepted (s .n) (s .m) order e))
+  sound-accepted g (loosePair t) h e = h
+  sound-accepted g (axis i) h e = h
 
--- A call that is refused leaves the ledger as it is. Under any limit up to today's: what it accepts, today's does
-module _ (limit : ℕ) (below : limit ≤ entryLimit) where
+  -- A call that is refused leaves the ledger as it is. Under any limit up to today's: what it accepts, today's does
   pub sound-step : (g : Ledger) (call : Call) → SoundLedger g → SoundLedger (ledgerStepUnder limit g call)
   unfolding ledgerStepUnder
   sound-step g call h = cases (eqb (refusalUnder limit (sizeOf g) (turnsOf g) call) 0) refl
     where
-      cases : (b : Bool) → eqb (refusalUnder limit (sizeOf g) (turnsOf g) call) 0 ≡ b → SoundLedger (cond b (accepted g call) g)
+      cases : (b : Bool) → eqb (refusalUnder limit (sizeOf g) (turnsOf g) call) 0 ≡ b → SoundLedger (cond b (acceptedUnder limit g call) g)
       cases true e =
           sound-accepted g call h
           (accepted-under limit entryLimit below _ _ call (eqb-true (refusalUnder limit (sizeOf g) (turnsOf g) call) 0 e))
@@ -97,4 +110,4 @@ module _ (limit : ℕ) (below : limit ≤ entryLimit) where
 -- For every list of calls; nothing is assumed of it
 pub sound : (calls : List Call) → SoundLedger (ledger calls)
 unfolding ledger SoundLedger
-sound calls = sound-from entryLimit (le-refl entryLimit) empty calls tt
+sound calls = sound-from entryLimit some-entry (le-refl entryLimit) empty calls tt

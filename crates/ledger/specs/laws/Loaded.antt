@@ -1,10 +1,12 @@
--- A load that is not refused gives a sound state: nothing is rounded yet.
+-- A load that is not refused gives a sound state: of its kept numbers none is rounded yet; and a table made from readings is such a load.
 use mathlib.Core.Path.{_≡_, sym, _∙_, ap}
 use mathlib.Core.List.{List}
-use Prim.Native.Nat.{ℕ, _+_, _*_, _<_, _≤_}
+use Prim.Native.Nat.{ℕ, zero, suc, _+_, _*_, _^_, _<_, _≤_}
 use native.Mathlib.Nat.{le-trans, mul-le-mul}
 use native.Mathlib.Omega.{arith}
 use lib.IntN.{ℤ, pos, natAbs, _-ℤ_, _*ℤ_, +ℤ-invr}
+use lib.Pow.{pow-pos}
+use borrow.Author.Tests.{lt-ltb}
 use Rattle.integer.specs.laws.Laws.{natAbs-*ℤ, one-*ℤ}
 use Rattle.integer.specs.Square.{sq}
 use Rattle.integer.specs.laws.Square.{sq-pos}
@@ -15,10 +17,16 @@ use Rattle.limits.specs.Limits.{entryLimit, units, whole}
 use Rattle.integer.specs.Matrix.{Matrix, product, transpose, conjugate, diagonal, squares, matrixOf}
 use Rattle.integer.specs.laws.Matrix.{diagonal-*, diagonal-transpose, diagonal-product, product-diagonal, dot-diagonal, diagonal-squares, squares-≤}
 use Rattle.ledger.specs.laws.Accepted.{Loads}
-use Rattle.ledger.specs.Ledger.{loadedState}
+use Rattle.ledger.specs.Ledger.{loadedState, plainState, samplesState}
 use Rattle.ledger.specs.Near.{matrixDifference, axesDifference}
 use Rattle.ledger.specs.Sound.{matrixBound}
-use Rattle.ledger.specs.laws.Sound.{Sound}
+use Rattle.ledger.specs.laws.Sound.{Rounded, Sound, rounding}
+use Rattle.readings.specs.Samples.{Sample, samples}
+use Rattle.readings.specs.Refusal.{samplesRefusal}
+use Rattle.readings.specs.laws.Refusal.{are-readings, two-channels}
+use Rattle.rounding.specs.laws.Nearest.{rnd-nearest}
+use Rattle.scatter.specs.Table.{S, scatter, shiftUnder, entriesUnder}
+use Rattle.scatter.specs.laws.Entries.{entries-at, entries-symmetric, entries-within, length-entries, length-scatter}
 
 no-difference : (x y : ℤ) → x ≡ y → natAbs (x -ℤ y) ≤ 0
 no-difference x y e = rw (e, +ℤ-invr y) (omega arith)
@@ -44,13 +52,15 @@ load-size n numbers h =
     widest = omega (arith, h .high)
 
 -- B is 1024 × A and V is 2^30 × Q exactly, with P the identity and D = 1
-pub sound-load : (n : ℕ) (numbers : List ℤ) → Loads n numbers → Sound (loadedState n numbers)
+sound-load : (n : ℕ) (numbers : List ℤ) (given : Matrix) (shift : ℕ) → Loads n numbers → Rounded n (matrixOf n numbers) given shift →
+    Sound (loadedState n numbers given shift)
 unfolding loadedState matrixOf I
-sound-load n numbers h = record {
+sound-load n numbers given shift h near = record {
   low = h .low;
   high = h .high;
   entries = small;
   given-symmetric = h .same;
+  rounded = near;
   turns = omega arith;
   symmetric = λ i j o m. ap (λ z. pos units *ℤ z) (h .same i j o m);
   matrix-size = load-size n numbers h;
@@ -79,3 +89,46 @@ sound-load n numbers h = record {
 
     exact-axes : (i j : ℕ) → i < n → j < n → natAbs (axesDifference 1 I (diagonal (pos whole)) i j) ≤ 0
     exact-axes i j o m = no-difference _ _ (one-*ℤ (diagonal (pos whole) i j) ∙ sym (diagonal-* (pos whole) (pos 1) i j))
+
+-- 'S and e, which are A and 0 after a plain load'
+pub sound-plain : (n : ℕ) (numbers : List ℤ) → Loads n numbers → Sound (plainState n numbers)
+unfolding plainState
+sound-plain n numbers h =
+    sound-load n numbers (matrixOf n numbers) 0 h
+    (λ i j o m. omega (arith, no-difference _ _ (one-*ℤ (matrixOf n numbers i j))))
+
+-- rounded to nearest, and so exact where nothing is shifted
+rounding-of : (e x : ℕ) → 2 * x ≤ 2 ^ e → 2 * x ≤ rounding e
+rounding-of zero x h = omega arith
+rounding-of (suc e) x h = rw (lt-ltb 0 (suc e) (omega arith)) h
+
+-- the table of samples, under a limit up to today's
+module _ (limit : ℕ) (some : 1 ≤ limit) (below : limit ≤ entryLimit) (n : ℕ) (ss : List Sample) (low : 2 ≤ n) (high : n ≤ 8) where
+  abbrev us : List ℤ
+  us = scatter n ss
+
+  pub table-loads : Loads n (entriesUnder limit (scatter n ss))
+  table-loads = record {
+    low = low;
+    high = high;
+    count = length-entries limit us ∙ length-scatter n ss;
+    small = λ p. le-trans (entries-within limit us some p) below;
+    same = entries-symmetric n ss limit;
+  }
+
+  sound-table : Sound (loadedState n (entriesUnder limit us) (S ss) (shiftUnder limit us))
+  sound-table =
+      sound-load n (entriesUnder limit us) (S ss) (shiftUnder limit us) table-loads
+      (λ i j o m. rw (entries-at n ss limit i j o m)
+      (rounding-of (shiftUnder limit us) _ (rnd-nearest (S ss i j) (2 ^ shiftUnder limit us) (pow-pos (shiftUnder limit us)) .near)))
+
+-- samples that are not refused
+module _ (limit : ℕ) (some : 1 ≤ limit) (below : limit ≤ entryLimit) (n : ℕ) (dilutions counts : List ℕ)
+    (h : samplesRefusal n dilutions counts ≡ 0) where
+  pub samples-load : Loads n (entriesUnder limit (scatter n (samples n dilutions counts)))
+  samples-load = table-loads limit some below n _ (two-channels n dilutions counts h) (are-readings n dilutions counts h .channels)
+
+  pub sound-samples : Sound (samplesState limit n dilutions counts)
+  unfolding samplesState
+  sound-samples =
+      sound-table limit some below n (samples n dilutions counts) (two-channels n dilutions counts h) (are-readings n dilutions counts h .channels)

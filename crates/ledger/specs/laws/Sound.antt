@@ -1,16 +1,25 @@
 -- Laws of this subject: What holds of the ledger's state after every list of calls.
 use mathlib.Core.Path.{_≡_}
-use Prim.Native.Nat.{ℕ, _*_, _<_, _≤_}
-use lib.IntN.{ℤ, pos, natAbs}
+use mathlib.Core.Bool.{cond}
+use Prim.Native.Nat.{ℕ, _*_, _^_, _<_, _≤_}
+use lib.IntN.{ℤ, pos, natAbs, _-ℤ_, _*ℤ_}
+use lib.Dec.{ltb}
 use Rattle.integer.specs.Square.{sq}
 use Rattle.integer.specs.Sum.{sumℕ}
 use Rattle.integer.specs.Dot.{dot}
-use Rattle.integer.specs.Matrix.{Same, product, transpose, diagonal, squares}
-use Rattle.integer.specs.Matrix.{Symmetric}
+use Rattle.integer.specs.Matrix.{Matrix, Same, Symmetric, product, transpose, diagonal, squares}
 use Rattle.ledger.specs.Ledger.{State}
 use Rattle.limits.specs.Limits.{entryLimit, turnLimit}
 use Rattle.ledger.specs.Near.{MatrixNear, AxesNear}
 use Rattle.ledger.specs.Sound.{matrixBound, axesBound}
+
+-- how far an entry of A is from S / 2^e at most, twice and times 2^e: not at all for e = 0
+abbrev pub rounding : ℕ → ℕ
+rounding e = cond (ltb 0 e) (2 ^ e) 0
+
+-- 'The loaded entry is rnd(S_ij / 2^e)'
+abbrev pub Rounded : ℕ → Matrix → Matrix → ℕ → Type 0
+Rounded n A S e = (i j : ℕ) → i < n → j < n → 2 * natAbs (pos (2 ^ e) *ℤ A i j -ℤ S i j) ≤ rounding e
 
 pub record Sound (s : State) : Type 0 where
   -- refusal 5: n is 2..8
@@ -19,6 +28,7 @@ pub record Sound (s : State) : Type 0 where
   -- refusals 8 and 7: the entries of A
   pub entries : (i j : ℕ) → i < s .n → j < s .n → natAbs (s .A i j) ≤ entryLimit
   pub given-symmetric : Symmetric (s .n) (s .A)
+  pub rounded : Rounded (s .n) (s .A) (s .S) (s .e)
   -- refusal 11
   pub turns : s .m ≤ turnLimit
   -- 'a_ip, a_iq are their mirrors'

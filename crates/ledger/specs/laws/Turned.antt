@@ -32,6 +32,7 @@ sound-take s pair h o left (Turn l minus) = record {
   high = h .high;
   entries = h .entries;
   given-symmetric = h .given-symmetric;
+  rounded = h .rounded;
   turns = omega arith;
   symmetric = λ i j c d. turned-symmetric r p q (s .B) pq i j (h .symmetric i j c d);
   matrix-size = omega (arith, turned-squares r n p q pq qn w (h .high) (s .B) (h .symmetric) (matrixBound (s .m)) (h .matrix-size));
