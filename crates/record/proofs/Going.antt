@@ -1,4 +1,4 @@
--- The sweeps of a run on rows: the record that holds them, with whatever count of refused calls, and what a sweep makes of it.
+-- The sweeps of a run on rows: the record that holds them, with whatever e and count of refused calls, and what a sweep makes of it.
 use mathlib.Core.Path.{_≡_, sym, _∙_}
 use mathlib.Core.Bool.{Bool, true, false}
 use mathlib.Core.List.{List, [], _∷_}
@@ -23,7 +23,7 @@ use Rattle.record.specs.laws.Accepted.{loose-pair-taken, sweep-taken, tu
 use Rattle.record.specs.laws.After.{after-kept}
 use Rattle.record.specs.laws.Fill.{kept-flatOf}
 use Rattle.record.specs.Flat.{entriesOf, flatOf, rowsOf}
-use Rattle.record.specs.Record.{acceptedOf, afterOf, afterOfUnder, answerOf, sweptOf, valueOf, workOf, workedOf}
+use Rattle.record.specs.Record.{acceptedOfUnder, afterOf, afterOfUnder, answerOf, sweptOf, valueOf, workOf, workedOf}
 use Rattle.record.specs.declared.Record.{Record}
 use Rattle.record.specs.laws.Turning.{matrix-small, works-grow, works-least}
 use Rattle.record.specs.Work.{Work, workPair, workPairs}
@@ -57,9 +57,9 @@ no-more made m h = by (ℕ-discrete made m)
     by (no d) = rw (ne-eqb made m d, ne-eqb (made - m) 0 (omega arith))
 
 -- rows a and v of n channels after m turns
-module _ (refused n m : ℕ) (a v : List (List ℤ)) (h : Holds refused n m a v) where
+module _ (shift refused n m : ℕ) (a v : List (List ℤ)) (h : Holds shift refused n m a v) where
   abbrev r : Record
-  r = heldOf refused n m a v
+  r = heldOf shift refused n m a v
 
   work-held : workOf r ≡ workAt a v m
   unfolding workOf
@@ -79,11 +79,11 @@ module _ (refused n m : ℕ) (a v : List (List ℤ)) (h : Holds refused n m a v)
       )
 
   module _ (e : refusalOf n m sweep ≡ 0) (made : ℕ) (a′ v′ : List (List ℤ)) (w : workAt a′ v′ made ≡ workPairs n (workAt a v m) (cyclic n)) where
-    swept-leaves : afterOf r sweep ≡ heldOf refused n made a′ v′
-    unfolding afterOfUnder acceptedOf sweptOf workedOf
+    swept-leaves : afterOf r sweep ≡ heldOf shift refused n made a′ v′
+    unfolding afterOfUnder acceptedOfUnder sweptOf workedOf
     swept-leaves = rw (eq-eqb (refusalOf n m sweep) 0 e, work-held, ← w)
 
-    swept-holds : Holds refused n made a′ v′
+    swept-holds : Holds shift refused n made a′ v′
     swept-holds =
         let shaped = rw (← w) at (works-shaped n (workAt a v m) (cyclic n) (h .matrix) (h .axes)) in
         record { keeps = rw swept-leaves at (after-kept r sweep (h .keeps)); matrix = shaped .0; axes = shaped .1 }
@@ -96,21 +96,21 @@ module _ (refused n m : ℕ) (a v : List (List ℤ)) (h : Holds refused n m a v)
     swept-more some = omega (arith, rw (← w) at (works-grow n (workAt a v m) (cyclic n)), cyclic-length n some)
 
 -- a run of n channels with a limit and a tolerance t: from here on it is z
-pub record Going (refused n limit t : ℕ) (z : Run) (a v : List (List ℤ)) (m sweeps : ℕ) (idle : Bool) : Type 0 where
-  pub is : z ≡ runFrom (limit - sweeps) sweeps idle t (heldOf refused n m a v)
+pub record Going (shift refused n limit t : ℕ) (z : Run) (a v : List (List ℤ)) (m sweeps : ℕ) (idle : Bool) : Type 0 where
+  pub is : z ≡ runFrom (limit - sweeps) sweeps idle t (heldOf shift refused n m a v)
   pub within : sweeps ≤ limit
   pub few : m ≤ sweeps * (n * (n - 1) / 2)
-  pub holds : Holds refused n m a v
+  pub holds : Holds shift refused n m a v
 
-pub begun : (refused n limit t : ℕ) (a v : List (List ℤ)) → Holds refused n 0 a v →
-    Going refused n limit t (runFrom limit 0 false t (heldOf refused n 0 a v)) a v 0 0 false
-begun refused n limit t a v h = record { is = rw sub-zero; within = omega arith; few = omega arith; holds = h }
+pub begun : (shift refused n limit t : ℕ) (a v : List (List ℤ)) → Holds shift refused n 0 a v →
+    Going shift refused n limit t (runFrom limit 0 false t (heldOf shift refused n 0 a v)) a v 0 0 false
+begun shift refused n limit t a v h = record { is = rw sub-zero; within = omega arith; few = omega arith; holds = h }
 
 -- on what a run is given no call of it is refused
-module _ (refused n limit t : ℕ) (some : 1 ≤ n) (sixteen : limit ≤ mostSweeps) (tolerance : t ≤ toleranceLimit) where
-  module _ (m sweeps : ℕ) (z : Run) (a v : List (List ℤ)) (idle : Bool) (g : Going refused n limit t z a v m sweeps idle) where
+module _ (shift refused n limit t : ℕ) (some : 1 ≤ n) (sixteen : limit ≤ mostSweeps) (tolerance : t ≤ toleranceLimit) where
+  module _ (m sweeps : ℕ) (z : Run) (a v : List (List ℤ)) (idle : Bool) (g : Going shift refused n limit t z a v m sweeps idle) where
     abbrev now : Record
-    now = heldOf refused n m a v
+    now = heldOf shift refused n m a v
 
     -- a sweep's turns remain before the limit is reached
     pub remains : sweeps ≢ limit → m + n * (n - 1) / 2 ≤ turnLimit
@@ -119,7 +119,7 @@ module _ (refused n limit t : ℕ) (some : 1 ≤ n) (sixteen : limit ≤ mostSwe
     -- the first test: settled tells whether no pair is loose
     module _ (settled : Bool) (s : settled ≡ noPair (looseOf (at a) t (cyclic n))) where
       told : settled ≡ noPair (answerOf now (loosePair t))
-      told = s ∙ held-loose refused n m a v (g .holds) t (loose-pair-taken n m some t tolerance)
+      told = s ∙ held-loose shift refused n m a v (g .holds) t (loose-pair-taken n m some t tolerance)
 
       pub settles : settled ≡ true → stop Settled sweeps now ≡ z
       settles h = sym (g .is ∙ run-settled (limit - sweeps) sweeps t idle now (sym told ∙ h))
@@ -135,16 +135,16 @@ module _ (refused n limit t : ℕ) (some : 1 ≤ n) (sixteen : limit ≤ mostSwe
         is-spent i l = sym (g .is ∙ run-spent (limit - sweeps) sweeps t idle now loose i (omega arith))
 
         pub sweeps-on : idle ≡ false → sweeps ≢ limit → (made : ℕ) (a′ v′ : List (List ℤ)) →
-            workAt a′ v′ made ≡ workPairs n (workAt a v m) (cyclic n) → Going refused n limit t z a′ v′ made (sweeps + 1) (eqb made m)
+            workAt a′ v′ made ≡ workPairs n (workAt a v m) (cyclic n) → Going shift refused n limit t z a′ v′ made (sweeps + 1) (eqb made m)
         sweeps-on i l made a′ v′ w =
             let goes = run-sweeps (limit - sweeps) sweeps t idle now loose i (limit - (sweeps + 1)) (omega (arith, g .within)) in
             let taken = sweep-taken n m some Cyclic (remains l) in
             record {
               is = g .is ∙ goes ∙ rw (
-                swept-leaves refused n m a v (g .holds) taken made a′ v′ w,
-                swept-idle refused n m a v (g .holds) taken made a′ v′ w,
+                swept-leaves shift refused n m a v (g .holds) taken made a′ v′ w,
+                swept-idle shift refused n m a v (g .holds) taken made a′ v′ w,
               );
               within = omega (arith, g .within);
-              few = omega (arith, g .few, swept-more refused n m a v (g .holds) taken made a′ v′ w some);
-              holds = swept-holds refused n m a v (g .holds) taken made a′ v′ w;
+              few = omega (arith, g .few, swept-more shift refused n m a v (g .holds) taken made a′ v′ w some);
+              holds = swept-holds shift refused n m a v (g .holds) taken made a′ v′ w;
             }

@@ -8,31 +8,33 @@ use native.Mathlib.Omega.{arith}
 use denote.Enum.Declared.{tagOf, declared}
 use Rattle.record.proofs.query.Answer.{enum}
 use Rattle.record.specs.declared.query.Answer.{Answer}
-use Rattle.record.specs.declared.query.Answer.the-variants.{Loaded, Turned, Swept, TournamentSwept, Pair, NoPair, Axis, Refused}
+use Rattle.record.specs.declared.query.Answer.the-variants.{Loaded, SamplesLoaded, Turned, Swept, TournamentSwept, Pair, NoPair, Axis, Refused}
 use Rattle.record.specs.Run.{noPair}
 
 -- the number of an answer's variant
 abbrev variant : Answer → ℕ
 variant answer = tagOf (declared enum) answer
 
-abbrev OneOf : ℕ → ℕ → ℕ → ℕ → ℕ → ℕ → ℕ → ℕ → Type 0
-OneOf v a b c d e f g = (v ≡ a) ⊎ ((v ≡ b) ⊎ ((v ≡ c) ⊎ ((v ≡ d) ⊎ ((v ≡ e) ⊎ ((v ≡ f) ⊎ (v ≡ g))))))
+abbrev OneOf : ℕ → ℕ → ℕ → ℕ → ℕ → ℕ → ℕ → ℕ → ℕ → Type 0
+OneOf v a b c d e f g h = (v ≡ a) ⊎ ((v ≡ b) ⊎ ((v ≡ c) ⊎ ((v ≡ d) ⊎ ((v ≡ e) ⊎ ((v ≡ f) ⊎ ((v ≡ g) ⊎ (v ≡ h)))))))
 
-none : {v a b c d e f g : ℕ} → OneOf v a b c d e f g → (v ≢ a) → (v ≢ b) → (v ≢ c) → (v ≢ d) → (v ≢ e) → (v ≢ f) → (v ≢ g) → ⊥
-none o a b c d e f g = ⊎-elim a (⊎-elim b (⊎-elim c (⊎-elim d (⊎-elim e (⊎-elim f g))))) o
+none : {v a b c d e f g h : ℕ} → OneOf v a b c d e f g h →
+    (v ≢ a) → (v ≢ b) → (v ≢ c) → (v ≢ d) → (v ≢ e) → (v ≢ f) → (v ≢ g) → (v ≢ h) → ⊥
+none o a b c d e f g h = ⊎-elim a (⊎-elim b (⊎-elim c (⊎-elim d (⊎-elim e (⊎-elim f (⊎-elim g h)))))) o
 
-pub not-none : (answer : Answer) → OneOf (variant answer) 0 1 2 3 4 6 7 → false ≡ noPair answer
+pub not-none : (answer : Answer) → OneOf (variant answer) 0 1 2 3 4 5 7 8 → false ≡ noPair answer
 unfolding noPair
 not-none Loaded v = refl
+not-none (SamplesLoaded e) v = refl
 not-none (Turned made) v = refl
 not-none (Swept made) v = refl
 not-none (TournamentSwept made) v = refl
 not-none (Pair p q) v = refl
 not-none NoPair v =
-    absurd (none v (omega arith) (omega arith) (omega arith) (omega arith) (omega arith) (omega arith) (omega arith))
+    absurd (none v (omega arith) (omega arith) (omega arith) (omega arith) (omega arith) (omega arith) (omega arith) (omega arith))
 not-none (Axis entry error) v = refl
 not-none (Refused number) v = refl
 
-pub not-axis : (answer : Answer) (entry : ℤ) (error : ℕ) → answer ≡ Axis entry error → OneOf (variant answer) 0 1 2 3 4 5 7 → ⊥
+pub not-axis : (answer : Answer) (entry : ℤ) (error : ℕ) → answer ≡ Axis entry error → OneOf (variant answer) 0 1 2 3 4 5 6 8 → ⊥
 not-axis answer entry error e v =
-    none (rw e at v) (omega arith) (omega arith) (omega arith) (omega arith) (omega arith) (omega arith) (omega arith)
+    none (rw e at v) (omega arith) (omega arith) (omega arith) (omega arith) (omega arith) (omega arith) (omega arith) (omega arith)

@@ -14,17 +14,20 @@ use Rattle.record.specs.Kept.{Kept}
 use Rattle.record.specs.Record.{after, afterFrom, afterFromUnder, answerOf, fresh}
 use Rattle.record.specs.declared.Record.{Record}
 
--- axis i, from 1: the axis call answers the kept diagonal entry i and an error, within which row i of Q is an axis of A with that entry
+-- axis i, from 1: the axis call answers the kept diagonal entry i and an error, within which row i of Q is an axis of S / 2^e with that entry
+-- (document 02, W5: 'the exact row of Q times S/2^e, against that row times the kept diagonal entry')
 pub record AxisNear (r : Record) (s : State) (i : ℕ) : Type 0 where
   pub error : ℕ
   pub answers : answerOf r (axis i) ≡ Axis (keptEntry (r .a) (i - 1) (i - 1)) error
-  pub near : RowNear (s .n) (s .D) (s .P) (s .A) (i - 1) (keptEntry (r .a) (i - 1) (i - 1)) error
+  pub near : RowNear (s .n) (s .D) (s .P) (s .S) (s .e) (i - 1) (keptEntry (r .a) (i - 1) (i - 1)) error
 
 pub record Certified (r : Record) (s : State) : Type 0 where
   -- the record holds a matrix, with the ledger's n and m
   pub held : 0 < r .n
   pub size : r .n ≡ s .n
   pub turns : r .m ≡ s .m
+  -- document 02, W5: 'demand 3 compares e too'
+  pub shift : r .e ≡ s .e
   -- 'The kept matrix and axes are the record's a and v; they equal B and V'
   pub matrix : Same (s .n) (keptEntry (r .a)) (s .B)
   pub axes : Same (s .n) (keptEntry (r .v)) (s .axes)

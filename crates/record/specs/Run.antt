@@ -10,11 +10,12 @@ use Rattle.record.specs.declared.run.Outcome.the-variants.{Settled, Stil
 use Rattle.record.specs.declared.Record.{Record}
 use Rattle.record.specs.declared.run.Run.{Run}
 use Rattle.record.specs.declared.query.Answer.{Answer}
-use Rattle.record.specs.declared.query.Answer.the-variants.{Loaded, Turned, Swept, TournamentSwept, Pair, NoPair, Axis, Refused}
+use Rattle.record.specs.declared.query.Answer.the-variants.{Loaded, SamplesLoaded, Turned, Swept, TournamentSwept, Pair, NoPair, Axis, Refused}
 
 -- a loose-pair call answers none
 unfoldable pub noPair : Answer → Bool
 noPair Loaded = false
+noPair (SamplesLoaded e) = false
 noPair (Turned made) = false
 noPair (Swept made) = false
 noPair (TournamentSwept made) = false
@@ -26,6 +27,7 @@ noPair (Refused number) = false
 -- a cyclic sweep answers that it made no turn; a run sweeps in cyclic order
 unfoldable pub noTurn : Answer → Bool
 noTurn Loaded = false
+noTurn (SamplesLoaded e) = false
 noTurn (Turned made) = false
 noTurn (Swept made) = eqb made 0
 noTurn (TournamentSwept made) = false

@@ -1,6 +1,6 @@
 // Document 01, 'The bench keeps one record through the day': the calls on a record lent by `&mut`. Each answers as the call by value does,
 // and leaves that call's record.
-ghost use Rattle.ledger.specs.Call.{load, sweep, tournamentSweep, turn};
+ghost use Rattle.ledger.specs.Call.{load, loadSamples, sweep, tournamentSweep, turn};
 ghost use Rattle.record.specs.Done.{AxisDone, Done, LooseDone};
 ghost use Rattle.record.specs.Kept.{Kept};
 use crate::Answer;
@@ -12,6 +12,16 @@ pub fn load(r: &mut Record, n: usize, numbers: &[i64]) -> Answer
     ensures { λ z. ⌜ Done (now (r .entry)) (load n (now (numbers .entry))) z (now (r .exit)) ⌝ }
 {
     let done = (*r).load(n, numbers);
+    let next = done.next;
+    *r = next;
+    done.answer
+}
+
+pub fn load_samples(r: &mut Record, n: usize, dilutions: &[u32], counts: &[u32]) -> Answer
+    requires { ⌜ Kept (now r) ⌝ }
+    ensures { λ z. ⌜ Done (now (r .entry)) (loadSamples n (now (dilutions .entry)) (now (counts .entry))) z (now (r .exit)) ⌝ }
+{
+    let done = (*r).load_samples(n, dilutions, counts);
     let next = done.next;
     *r = next;
     done.answer

@@ -1,9 +1,10 @@
 // The record and its calls: one matrix with its axes, the turns made of it, and the count of refused calls.
 use ledger::Order;
-ghost use Rattle.ledger.specs.Call.{axis, load, sweep, sweepIn, tournamentSweep, turn};
+ghost use Rattle.ledger.specs.Call.{axis, load, loadSamples, sweep, sweepIn, tournamentSweep, turn};
+ghost use Rattle.ledger.specs.Refusal.{refusalOf};
 ghost use Rattle.record.specs.declared.query.Answer.the-variants.{Refused};
 ghost use Rattle.record.specs.Worked.{workAt};
-ghost use Rattle.record.specs.Done.{AxisDone, Done, Fresh, LooseDone};
+ghost use Rattle.record.specs.Done.{AxisDone, Done, Fresh, LooseDone, TableLoaded};
 ghost use Rattle.record.specs.Kept.{Kept};
 ghost use Rattle.record.specs.RunDone.{RunDone, Runnable};
 ghost use Rattle.record.specs.Record.{counted, refusedOf, workedOf};
@@ -20,10 +21,12 @@ pub use query::Answer;
 pub use run::Outcome;
 pub use run::Run;
 
-// Channels n, 0 where there is no matrix; turns made m; refused calls; the kept matrix and axes, row after row, 8 to a row.
+// Channels n, 0 where there is no matrix; turns made m; the shift e of a table made from readings, else 0; refused calls; the kept matrix and
+// axes, row after row, 8 to a row.
 pub struct Record {
     n: usize,
     m: u64,
+    e: u32,
     refused: u32,
     a: [i64; 64],
     v: [i64; 64],
@@ -71,6 +74,8 @@ impl Record {
 
     pub const UNITS: i64 = limits::UNITS;
 
+    pub const HALF_ENTRY: u64 = limits::HALF_ENTRY;
+
     pub const WHOLE: i64 = limits::WHOLE;
 
     pub const REFUSED_LIMIT: u32 = limits::REFUSED_LIMIT;
@@ -82,6 +87,7 @@ impl Record {
         Record {
             n: 0,
             m: 0,
+            e: 0,
             refused: 0,
             a: [0; 64],
             v: [0; 64],
@@ -107,6 +113,13 @@ impl Record {
         ensures { λ r. ⌜ r ≡ self .m ⌝ }
     {
         self.m
+    }
+
+    // The shift e of the table that was loaded, 0 for a plain load.
+    pub fn shift(self) -> u32
+        ensures { λ r. ⌜ r ≡ self .e ⌝ }
+    {
+        self.e
     }
 
     fn after_refusal(mut self) -> Self
@@ -135,20 +148,48 @@ impl Record {
         if number != 0 {
             return self.refuse(number);
         }
+        Step {
+            answer: Answer::Loaded,
+            next: self.load_table(n, numbers, 0),
+        }
+    }
+
+    // Document 02, W5: the second load, of the table of samples.
+    pub fn load_samples(self, n: usize, dilutions: &[u32], counts: &[u32]) -> Step
+        requires { ⌜ Kept self ⌝ }
+        ensures { λ z. ⌜ Done self (loadSamples n (now (dilutions .entry)) (now (counts .entry))) (z .answer) (z .next) ⌝ }
+    {
+        let number = readings::samples_refusal(n, dilutions, counts);
+        if number != 0 {
+            return self.refuse(number);
+        }
+        let table = scatter::table::table_of_readings(n, dilutions, counts);
+        let entries = table.entries;
+        let e = table.e;
+        let size = n * n;
+        Step {
+            answer: Answer::SamplesLoaded(e),
+            next: self.load_table(n, &entries[..size], e),
+        }
+    }
+
+    // The load of a table, its entries and its e, that is no call: both loads and the run of a job use it.
+    pub fn load_table(self, n: usize, numbers: &[i64], e: u32) -> Self
+        requires { ⌜ refusalOf 0 0 (load n (now numbers)) ≡ 0 ⌝ }
+        ensures { λ r. ⌜ TableLoaded self n (now (numbers .entry)) e r ⌝ }
+    {
         let refused = self.refused;
         let mut matrix = [[0i64; 8]; 8];
         let mut axes = [[0i64; 8]; 8];
         load::load_matrix(&mut matrix, n, numbers);
         load::load_axes(&mut axes, n);
-        Step {
-            answer: Answer::Loaded,
-            next: Record {
-                n,
-                m: 0,
-                refused,
-                a: rows::packed(matrix),
-                v: rows::packed(axes),
-            },
+        Record {
+            n,
+            m: 0,
+            e,
+            refused,
+            a: rows::packed(matrix),
+            v: rows::packed(axes),
         }
     }
 
@@ -238,7 +279,7 @@ impl Record {
         }
         let matrix = rows::unpacked(&self.a);
         let entry = matrix[i - 1][i - 1];
-        let error = query::error_of(&matrix, n, self.m, i - 1);
+        let error = query::error_of(&matrix, n, self.e, self.m, i - 1);
         AxisStep {
             answer: AxisAnswer {
                 value: Answer::Axis { entry, error },
@@ -273,6 +314,7 @@ impl Record {
         Record {
             n: self.n,
             m: made,
+            e: self.e,
             refused: self.refused,
             a,
             v,

@@ -4,7 +4,7 @@ ghost use mathlib.Core.Bool.{cond};
 ghost use Prim.Native.Nat.{_<_, _≤_};
 ghost use lib.Dec.{eqb};
 ghost use lib.IntN.{natAbs};
-ghost use Rattle.ledger.specs.Axis.{errorOf};
+ghost use Rattle.ledger.specs.Axis.{errorOf, tableError};
 ghost use Rattle.ledger.specs.Call.{loosePair, axis};
 ghost use Rattle.limits.specs.Limits.{turnLimit};
 ghost use Rattle.ledger.specs.Pairs.{cyclic};
@@ -17,6 +17,7 @@ use crate::Record;
 // What a call answers.
 pub enum Answer {
     Loaded,
+    SamplesLoaded(u32),
     Turned(bool),
     Swept(u64),
     TournamentSwept(u64),
@@ -93,10 +94,22 @@ fn off_diagonal(a: &[[i64; 8]; 8], i: usize, j: usize) -> u64
     entry_size(a, i, j)
 }
 
+// What the error of an axis gains where the table was rounded.
+fn table_error(e: u32, n: usize) -> u64
+    requires { ⌜ n ≤ 8 ⌝ }
+    ensures { λ r. ⌜ r ≡ tableError e n ⌝ }
+{
+    if 0 < e {
+        Record::HALF_ENTRY * n as u64
+    } else {
+        0
+    }
+}
+
 // The error of the axis in row i, from 0.
-pub(crate) fn error_of(a: &[[i64; 8]; 8], n: usize, m: u64, i: usize) -> u64
+pub(crate) fn error_of(a: &[[i64; 8]; 8], n: usize, e: u32, m: u64, i: usize) -> u64
     requires { ⌜ (i < n) × (n ≤ 8) × (m ≤ turnLimit) × Small (now a) ⌝ }
-    ensures { λ r. ⌜ r ≡ errorOf n (at (now (a .entry))) m i ⌝ }
+    ensures { λ r. ⌜ r ≡ errorOf n e (at (now (a .entry))) m i ⌝ }
 {
     let mut sum = 0;
     let mut j = 0;
@@ -104,5 +117,5 @@ pub(crate) fn error_of(a: &[[i64; 8]; 8], n: usize, m: u64, i: usize) -> u64
         sum += off_diagonal(a, i, j);
         j += 1;
     }
-    sum + (7 * m + 1) / 2
+    sum + (7 * m + 1) / 2 + table_error(e, n)
 }

@@ -13,13 +13,13 @@ use Rattle.record.specs.Run.{runFrom, stop}
 use Rattle.record.specs.declared.Record.{Record}
 use Rattle.record.specs.declared.run.Ended.{Ended}
 
--- the record that holds rows a and v of n channels after m turns
-abbrev pub heldOf : ℕ → ℕ → ℕ → List (List ℤ) → List (List ℤ) → Record
-heldOf refused n m a v = record { n = n; m = m; refused = refused; a = flatOf (at a); v = flatOf (at v) }
+-- the record that holds rows a and v of n channels after m turns, with its e and its count of refused calls
+abbrev pub heldOf : ℕ → ℕ → ℕ → ℕ → List (List ℤ) → List (List ℤ) → Record
+heldOf shift refused n m a v = record { n = n; m = m; e = shift; refused = refused; a = flatOf (at a); v = flatOf (at v) }
 
 -- rows that a kept record holds
-pub record Holds (refused n m : ℕ) (a v : List (List ℤ)) : Type 0 where
-  pub keeps : Kept (heldOf refused n m a v)
+pub record Holds (shift refused n m : ℕ) (a v : List (List ℤ)) : Type 0 where
+  pub keeps : Kept (heldOf shift refused n m a v)
   pub matrix : Shaped a
   pub axes : Shaped v
 
@@ -28,9 +28,10 @@ pub record RowsRunnable (n limit t : ℕ) (a v : List (List ℤ)) : Type 0 where
   pub loaded : 1 ≤ n
   pub sweeps : limit ≤ mostSweeps
   pub tolerated : t ≤ toleranceLimit
-  pub holds : (refused : ℕ) → Holds refused n 0 a v
+  pub holds : (shift refused : ℕ) → Holds shift refused n 0 a v
 
--- the run of the record that holds the rows, whatever its count of refused calls is
+-- the run of the record that holds the rows, whatever its e and its count of refused calls are
 pub record RowsRun (n limit t : ℕ) (a v a′ v′ : List (List ℤ)) (z : Ended) : Type 0 where
-  pub is : (refused : ℕ) → stop (z .outcome) (z .sweeps) (heldOf refused n (z .m) a′ v′) ≡ runFrom limit 0 false t (heldOf refused n 0 a v)
-  pub holds : (refused : ℕ) → Holds refused n (z .m) a′ v′
+  pub is : (shift refused : ℕ) →
+      stop (z .outcome) (z .sweeps) (heldOf shift refused n (z .m) a′ v′) ≡ runFrom limit 0 false t (heldOf shift refused n 0 a v)
+  pub holds : (shift refused : ℕ) → Holds shift refused n (z .m) a′ v′

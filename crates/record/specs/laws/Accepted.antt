@@ -2,15 +2,21 @@
 use mathlib.Core.Path.{_≡_}
 use mathlib.Core.List.{List}
 use Prim.Native.Nat.{ℕ, suc, _+_, _-_, _*_, _/_, _<_, _≤_}
-use native.Mathlib.Nat.{mul-le-mul}
+use native.Mathlib.Nat.{le-refl, mul-le-mul}
 use native.Mathlib.Omega.{arith}
 use lib.IntN.{ℤ}
+use lib.ListN.{take}
 use lib.Ieee.Bits.{is-true}
 use borrow.Author.Tests.{eq-eqb, le-leb, lt-ltb}
 use Rattle.ledger.specs.laws.Accepted.{Loads, symmetric-of}
 use Rattle.ledger.specs.Call.{Call, load, loosePair, sweepIn}
 use Rattle.limits.specs.laws.Channels.{pairs-twice}
-use Rattle.limits.specs.Limits.{toleranceLimit, turnLimit}
+use Rattle.limits.specs.Limits.{entryLimit, toleranceLimit, turnLimit}
+use Rattle.limits.specs.laws.Values.{some-entry}
+use Rattle.ledger.specs.laws.Loaded.{table-loads}
+use Rattle.readings.specs.Samples.{Sample}
+use Rattle.scatter.specs.Table.{tableOf}
+use Rattle.scatter.specs.laws.Entries.{table-entries}
 use Rattle.ledger.specs.declared.Order.{Order}
 use Rattle.ledger.specs.Refusal.{refusalOf, refusalUnder, symmetric}
 use Rattle.integer.specs.Matrix.{matrixOf}
@@ -43,6 +49,11 @@ load-taken n m k numbers l =
       loads-within l,
       is-true (symmetric k (matrixOf k numbers)) (symmetric-of k (matrixOf k numbers) (l .same)),
     )
+
+-- the table of samples is a load that is not refused
+pub table-taken : (n : ℕ) (ss : List Sample) → 2 ≤ n → n ≤ 8 → refusalOf 0 0 (load n (take (n * n) (tableOf n ss .entries))) ≡ 0
+table-taken n ss low high =
+    rw (table-entries n ss entryLimit) (load-taken 0 0 n _ (table-loads entryLimit some-entry (le-refl entryLimit) n ss low high))
 
 -- the pairs of a sweep, at most 28
 pairs-most : (n : ℕ) → n ≤ 8 → n * (n - 1) / 2 ≤ 28

@@ -15,10 +15,12 @@ use Rattle.integer.specs.Square.{sq}
 use Rattle.integer.specs.Sum.{sumℕ}
 use Rattle.integer.specs.laws.Sum.{sumℕ-cong}
 use Rattle.integer.specs.laws.Tabulate.{getD-repeated}
-use Rattle.ledger.specs.laws.Accepted.{accepted-under, turn-accepted, sweep-accepted}
-use Rattle.ledger.specs.Call.{Call, load, turn, sweepIn, loosePair, axis}
+use Rattle.ledger.specs.laws.Accepted.{accepted-under, samples-accepted, turn-accepted, sweep-accepted}
+use Rattle.ledger.specs.laws.Loaded.{samples-load}
+use Rattle.ledger.specs.Call.{Call, load, loadSamples, turn, sweepIn, loosePair, axis}
 use Rattle.ledger.specs.laws.Orders.{once-in}
 use Rattle.limits.specs.Limits.{entryLimit, turnLimit}
+use Rattle.limits.specs.laws.Values.{some-entry}
 use Rattle.ledger.specs.Order.{pairsIn}
 use Rattle.ledger.specs.Pairs.{Pair}
 use Rattle.ledger.specs.declared.Order.{Order}
@@ -32,8 +34,8 @@ use Rattle.record.specs.Work.{Work, workPair, workPairs}
 use Rattle.record.specs.Flat.{entriesOf, flatOf, keptEntry, rowsOf}
 use Rattle.record.specs.Kept.{Kept}
 use Rattle.record.specs.laws.Fill.{length-flat}
-use Rattle.record.specs.laws.Loading.{at-flat, load-kept}
-use Rattle.record.specs.Record.{acceptedOf, afterOf, afterOfUnder, fresh, refusedOf, sweptOf, turnedOf, workOf, workedOf}
+use Rattle.record.specs.laws.Loading.{at-flat, load-kept, loads-kept}
+use Rattle.record.specs.Record.{acceptedOfUnder, afterOf, afterOfUnder, fresh, refusedOf, samplesRecord, sweptOf, turnedOf, workOf, workedOf}
 use Rattle.record.specs.declared.Record.{Record}
 
 -- what is 0 outside is itself in use
@@ -118,25 +120,28 @@ swept-kept r order k e =
       axes-length = length-flat _;
     }
 
-accepted-kept : (r : Record) (call : Call) → Kept r → refusalOf (r .n) (r .m) call ≡ 0 → Kept (acceptedOf r call)
-unfolding acceptedOf
-accepted-kept r (load n numbers) k e = load-kept r n numbers e
-accepted-kept r (turn p q) k e = turned-kept r p q k e
-accepted-kept r (sweepIn order) k e = swept-kept r order k e
-accepted-kept r (loosePair t) k e = k
-accepted-kept r (axis i) k e = k
-
 -- under any limit up to today's: what it accepts, today's does
-pub after-kept-under : (limit : ℕ) → limit ≤ entryLimit → (r : Record) (call : Call) → Kept r → Kept (afterOfUnder limit r call)
-unfolding afterOfUnder
-after-kept-under limit below r call k = by-refusal (eqb (refusalUnder limit (r .n) (r .m) call) 0) refl
-  where
-    by-refusal : (t : Bool) → eqb (refusalUnder limit (r .n) (r .m) call) 0 ≡ t → Kept (cond t (acceptedOf r call) (refusedOf r))
-    by-refusal true e = accepted-kept r call k (accepted-under limit entryLimit below _ _ call (eqb-true _ _ e))
-    by-refusal false e = refused-kept r k
+module _ (limit : ℕ) (some : 1 ≤ limit) (below : limit ≤ entryLimit) where
+  accepted-kept : (r : Record) (call : Call) → Kept r → refusalOf (r .n) (r .m) call ≡ 0 → Kept (acceptedOfUnder limit r call)
+  unfolding acceptedOfUnder samplesRecord
+  accepted-kept r (load n numbers) k e = load-kept r n numbers e
+  accepted-kept r (loadSamples n dilutions counts) k e =
+      loads-kept r n _ (samples-load limit some below n dilutions counts (samples-accepted (r .n) (r .m) n dilutions counts e)) _
+  accepted-kept r (turn p q) k e = turned-kept r p q k e
+  accepted-kept r (sweepIn order) k e = swept-kept r order k e
+  accepted-kept r (loosePair t) k e = k
+  accepted-kept r (axis i) k e = k
+
+  pub after-kept-under : (r : Record) (call : Call) → Kept r → Kept (afterOfUnder limit r call)
+  unfolding afterOfUnder
+  after-kept-under r call k = by-refusal (eqb (refusalUnder limit (r .n) (r .m) call) 0) refl
+    where
+      by-refusal : (t : Bool) → eqb (refusalUnder limit (r .n) (r .m) call) 0 ≡ t → Kept (cond t (acceptedOfUnder limit r call) (refusedOf r))
+      by-refusal true e = accepted-kept r call k (accepted-under limit entryLimit below _ _ call (eqb-true _ _ e))
+      by-refusal false e = refused-kept r k
 
 pub after-kept : (r : Record) (call : Call) → Kept r → Kept (afterOf r call)
-after-kept = after-kept-under entryLimit (le-refl entryLimit)
+after-kept = after-kept-under entryLimit some-entry (le-refl entryLimit)
 
 -- a fresh record
 empty : (i j : ℕ) → at (rowsOf (replicate 64 (pos 0))) i j ≡ pos 0

@@ -12,7 +12,7 @@ use Rattle.ledger.specs.Pairs.{Pair}
 use Rattle.ledger.specs.declared.Order.{Order}
 use Rattle.ledger.specs.declared.Order.the-variants.{Cyclic, Tournament}
 use Rattle.ledger.specs.Refusal.{refusalOf}
-use Rattle.record.specs.Record.{acceptedOf, afterOf, answerOf, sweptIn, sweptOf, turnedOf, valueOf, workOf, workedOf}
+use Rattle.record.specs.Record.{acceptedOfUnder, afterOf, answerOf, sweptIn, sweptOf, turnedOf, valueOf, workOf, workedOf}
 use Rattle.record.specs.Work.{Work, isTurn, workBy, workPair}
 use Rattle.record.specs.laws.Accepted.{after-accepted}
 use Rattle.record.specs.laws.Turning.{works-least}
@@ -30,7 +30,7 @@ swept-as k = (refl, refl)
 -- a sweep that is not refused, in either order
 pub sweep-counts : (r : Record) (order : Order) → refusalOf (r .n) (r .m) (sweepIn order) ≡ 0 → (k : ℕ) →
     answerOf r (sweepIn order) ≡ sweptIn order k → afterOf r (sweepIn order) .m ≡ r .m + k
-unfolding answerOf valueOf acceptedOf sweptOf workedOf workOf
+unfolding answerOf valueOf acceptedOfUnder sweptOf workedOf workOf
 sweep-counts r order e k a =
     let told = rw (eq-eqb (refusalOf (r .n) (r .m) (sweepIn order)) 0 e) at a in
     let counted = same-count order (sweptOf r order .m - r .m) k told in
@@ -50,7 +50,7 @@ by-choice n w pair (Turn l minus) b h = let e : true ≡ b = cc in rw (← e) (o
 -- a turn call that is not refused
 pub turn-counts : (r : Record) (p q : ℕ) → refusalOf (r .n) (r .m) (turn p q) ≡ 0 → (b : Bool) → answerOf r (turn p q) ≡ Turned b →
     afterOf r (turn p q) .m ≡ r .m + made b
-unfolding answerOf valueOf acceptedOf turnedOf workedOf workPair workOf
+unfolding answerOf valueOf acceptedOfUnder turnedOf workedOf workPair workOf
 turn-counts r p q e b a =
     let told = rw (eq-eqb (refusalOf (r .n) (r .m) (turn p q)) 0 e) at a in
     rw (after-accepted r (turn p q) e) (by-choice (r .n) (workOf r) (record { p = p - 1; q = q - 1 }) _ b told)

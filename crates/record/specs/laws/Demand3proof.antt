@@ -14,6 +14,7 @@ use Rattle.ledger.specs.Call.{Call, axis}
 use Rattle.ledger.specs.laws.Invariant.{SoundLedger, sound-step}
 use Rattle.ledger.specs.Ledger.{Ledger, State, empty, loaded, ledger, ledgerFromUnder, ledgerStepUnder}
 use Rattle.limits.specs.Limits.{entryLimit, units, whole}
+use Rattle.limits.specs.laws.Values.{some-entry}
 use Rattle.ledger.specs.Near.{matrixDifference, axesDifference}
 use Rattle.ledger.specs.Refusal.{refusalOf, refusalUnder}
 use Rattle.ledger.specs.laws.Rows.{row-near}
@@ -27,8 +28,8 @@ use Rattle.record.specs.Record.{after, afterFromUnder, afterOfUnder, ans
 use Rattle.record.specs.declared.Record.{Record}
 
 module _ (r : Record) (s : State) (a : Agree r s) (h : Sound s) where
-  error-agrees : (i : ℕ) → i < s .n → errorOf (r .n) (keptEntry (r .a)) (r .m) i ≡ errorOf (s .n) (s .B) (s .m) i
-  error-agrees i l = rw (a .size, a .turns) (same-error (s .n) (keptEntry (r .a)) (s .B) (s .m) i (λ j k. a .matrix i j l k))
+  error-agrees : (i : ℕ) → i < s .n → errorOf (r .n) (r .e) (keptEntry (r .a)) (r .m) i ≡ errorOf (s .n) (s .e) (s .B) (s .m) i
+  error-agrees i l = rw (a .size, a .turns, a .shift) (same-error (s .n) (s .e) (keptEntry (r .a)) (s .B) (s .m) i (λ j k. a .matrix i j l k))
 
   accepted : (i : ℕ) → 1 ≤ i → i ≤ s .n → refusalOf (r .n) (r .m) (axis i) ≡ 0
   unfolding refusalUnder
@@ -38,7 +39,7 @@ module _ (r : Record) (s : State) (a : Agree r s) (h : Sound s) where
   unfolding answerOf valueOf
   axis-near i f l =
       record {
-        error = errorOf (r .n) (keptEntry (r .a)) (r .m) (i - 1);
+        error = errorOf (r .n) (r .e) (keptEntry (r .a)) (r .m) (i - 1);
         answers = rw (accepted i f l);
         near = rw (error-agrees (i - 1) (omega arith), a .matrix (i - 1) (i - 1) (omega arith) (omega arith)) (row-near s h (i - 1) (omega arith));
       }
@@ -57,6 +58,7 @@ module _ (r : Record) (s : State) (a : Agree r s) (h : Sound s) where
         held = omega (arith, a .size, h .low);
         size = a .size;
         turns = a .turns;
+        shift = a .shift;
         matrix = a .matrix;
         axes = a .axes;
         matrix-near = rw same-matrix (h .matrix-near);
@@ -75,16 +77,16 @@ pub record Holds (r : Record) (g : Ledger) : Type 0 where
   pub agrees : Agrees r g
   pub sound : SoundLedger g
 
-from : (limit : ℕ) → limit ≤ entryLimit → (r : Record) (g : Ledger) (calls : List Call) → Holds r g →
+from : (limit : ℕ) → 1 ≤ limit → limit ≤ entryLimit → (r : Record) (g : Ledger) (calls : List Call) → Holds r g →
     Holds (afterFromUnder limit r calls) (ledgerFromUnder limit g calls)
 unfolding afterFromUnder ledgerFromUnder
-from limit below r g [] h = h
-from limit below r g (call ∷ calls) h =
-    from limit below (afterOfUnder limit r call) (ledgerStepUnder limit g call) calls
+from limit some below r g [] h = h
+from limit some below r g (call ∷ calls) h =
+    from limit some below (afterOfUnder limit r call) (ledgerStepUnder limit g call) calls
     (record {
-      kept = after-kept-under limit below r call (h .kept);
+      kept = after-kept-under limit some below r call (h .kept);
       agrees = agree-step limit below r g call (h .kept) (h .agrees);
-      sound = sound-step limit below g call (h .sound);
+      sound = sound-step limit some below g call (h .sound);
     })
 
 begun : Holds fresh empty
@@ -94,12 +96,12 @@ begun = record { kept = fresh-kept; agrees = refl; sound = tt }
 pub demand-3 : Demand-3
 unfolding after ledger
 demand-3 calls =
-    let h = from entryLimit (le-refl entryLimit) fresh empty calls begun in
+    let h = from entryLimit some-entry (le-refl entryLimit) fresh empty calls begun in
     certifies (after calls) (ledger calls) (h .agrees) (h .sound)
 
 -- the list under the former limit, then that under today's
 pub goes-on : Goes-on
 goes-on limit old below before later =
-    let h = from limit below fresh empty before begun in
-    let k = from entryLimit (le-refl entryLimit) _ _ later h in
+    let h = from limit (omega (arith, old)) below fresh empty before begun in
+    let k = from entryLimit some-entry (le-refl entryLimit) _ _ later h in
     (h .kept, certifies _ _ (k .agrees) (k .sound))

@@ -73,9 +73,9 @@ module _ (r : Record) (n : ℕ) (numbers : List ℤ) (l : Loads n numbers) where
       rw (sumℕ-cong n (λ i k. ap sq (axes i j ∙ inUse-outside n _ i j (rw (lt-ltb i n k, le-ltb j n (omega arith)))) ∙ sq-pos 0), sumℕ-const n 0)
       (omega arith)
 
-  pub loads-kept : Kept (loadedRecord r n numbers)
+  pub loads-kept : (shift : ℕ) → Kept (loadedRecord r n numbers shift)
   unfolding loadedRecord workOf entries
-  loads-kept =
+  loads-kept shift =
       record {
         size = l .high;
         channels = λ e. omega (arith, l .low, e);
@@ -93,5 +93,5 @@ module _ (r : Record) (n : ℕ) (numbers : List ℤ) (l : Loads n numbers) where
         axes-length = length-flat _;
       }
 
-pub load-kept : (r : Record) (n : ℕ) (numbers : List ℤ) → refusalOf (r .n) (r .m) (load n numbers) ≡ 0 → Kept (loadedRecord r n numbers)
-load-kept r n numbers e = loads-kept r n numbers (load-accepted (r .n) (r .m) n numbers e)
+pub load-kept : (r : Record) (n : ℕ) (numbers : List ℤ) → refusalOf (r .n) (r .m) (load n numbers) ≡ 0 → Kept (loadedRecord r n numbers 0)
+load-kept r n numbers e = loads-kept r n numbers (load-accepted (r .n) (r .m) n numbers e) 0

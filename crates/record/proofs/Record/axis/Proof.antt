@@ -19,7 +19,7 @@ use Rattle.turn.specs.Turn.{at}
 use Rattle.record.specs.declared.query.Answer.the-variants.{Axis}
 use Rattle.record.specs.laws.Fill.{at-rowsOf}
 use Rattle.record.specs.Flat.{keptEntry}
-use Rattle.record.specs.Record.{acceptedOf, axisOf, valueOf}
+use Rattle.record.specs.Record.{acceptedOfUnder, axisOf, valueOf}
 use Rattle.record.proofs.Outcome.{accepted, kept-small, refused}
 use Rattle.record.proofs.Record.axis.Statement.{statement}
 use Rattle.record.proofs.Record.axis.Tie as tie
@@ -57,7 +57,7 @@ error-of-requires c κs =
     )
 
 returns-2 : tie.Need-returns-2
-unfolding refusalUnder valueOf acceptedOf axisOf at
+unfolding refusalUnder valueOf acceptedOfUnder axisOf at
 returns-2 c =
     let error = c .before .before .before in
     let unpacked = error .before .before .before in
@@ -69,9 +69,9 @@ returns-2 c =
     let f : SFits w64 (getD (getD (unpacked .unpacked .result) i []) i (pos 0)) = search needs in
     let entry : at (unpacked .unpacked .result) i i ≡ keptEntry (r .a) i i =
     rw (unpacked .unpacked .ensures) (at-rowsOf (r .a) i i (place checked) (place checked)) in
-    let error-is : error .error-of .result ≡ errorOf (r .n) (keptEntry (r .a)) (r .m) i =
+    let error-is : error .error-of .result ≡ errorOf (r .n) (r .e) (keptEntry (r .a)) (r .m) i =
     error .error-of .ensures ∙ rw (unpacked .unpacked .ensures)
-    (same-error (r .n) _ _ (r .m) i (λ j l. at-rowsOf (r .a) i j (place checked) (omega (arith, l, s .pre .size)))) in
+    (same-error (r .n) (r .e) _ _ (r .m) i (λ j l. at-rowsOf (r .a) i j (place checked) (omega (arith, l, s .pre .size)))) in
     let done = accepted r (axis (s .args .i)) (s .pre) _ e _ r (checked .if1 .left) (λ k. Axis (word f entry k) (error-is k)) refl in
     record {
       answers = done .answers;

@@ -9,7 +9,7 @@ use Rattle.ledger.specs.Refusal.{refusalUnder}
 use Rattle.record.proofs.Search.{same-loose}
 use Rattle.record.specs.laws.Fill.{at-rowsOf}
 use Rattle.record.specs.laws.Loose.{loose-done}
-use Rattle.record.specs.Record.{acceptedOf, valueOf}
+use Rattle.record.specs.Record.{acceptedOfUnder, valueOf}
 use Rattle.record.proofs.Outcome.{accepted, refuses}
 use Rattle.record.proofs.Record.loose_pair.Statement.{statement}
 use Rattle.record.proofs.Record.loose_pair.Tie as tie
@@ -26,7 +26,7 @@ loose-pair-of-requires : tie.Need-loose-pair-of-requires
 loose-pair-of-requires c κs = c .before .before .before .before .before .before .pre .size
 
 returns-2 : tie.Need-returns-2
-unfolding refusalUnder valueOf acceptedOf
+unfolding refusalUnder valueOf acceptedOfUnder
 returns-2 c =
     let unpacked = c .before .before in
     let checked = unpacked .before .before .before in

@@ -17,7 +17,7 @@ use Rattle.record.specs.declared.Record.{Record}
 use Rattle.record.proofs.Record.run.Statement.{statement}
 use Rattle.record.proofs.Record.run.Tie as tie
 
--- the record is the one that holds its rows, and its rows are kept whatever the count of refused calls
+-- the record is the one that holds its rows, and its rows are kept whatever the e and the count of refused calls
 module _ (r : Record) (limit t : ℕ) (h : Runnable r limit t) (a v : List (List ℤ)) (matrix : a ≡ rowsOf (r .a)) (axes : v ≡ rowsOf (r .v)) where
   flat-matrix : flatOf (at a) ≡ r .a
   flat-matrix = ap (λ x. flatOf (at x)) matrix ∙ flat-rows (r .a) (h .keeps .matrix-length)
@@ -28,12 +28,12 @@ module _ (r : Record) (limit t : ℕ) (h : Runnable r limit t) (a v : List (List
   none-made : 0 ≡ r .m
   none-made = sym (h .unturned)
 
-  itself : heldOf (r .refused) (r .n) 0 a v ≡ r
-  itself = λ i. record { n = r .n; m = none-made i; refused = r .refused; a = flat-matrix i; v = flat-axes i }
+  itself : heldOf (r .e) (r .refused) (r .n) 0 a v ≡ r
+  itself = λ i. record { n = r .n; m = none-made i; e = r .e; refused = r .refused; a = flat-matrix i; v = flat-axes i }
 
-  any-count : (k : ℕ) → Kept (heldOf k (r .n) 0 a v)
+  any-count : (e k : ℕ) → Kept (heldOf e k (r .n) 0 a v)
   unfolding workOf
-  any-count k =
+  any-count e k =
       let held = rw (← itself) at (h .keeps) in
       record {
         size = held .size;
@@ -44,8 +44,8 @@ module _ (r : Record) (limit t : ℕ) (h : Runnable r limit t) (a v : List (List
         axes-length = held .axes-length;
       }
 
-  holds : (k : ℕ) → Holds k (r .n) 0 a v
-  holds k = record { keeps = any-count k; matrix = rw matrix (shaped-rows (r .a)); axes = rw axes (shaped-rows (r .v)) }
+  holds : (e k : ℕ) → Holds e k (r .n) 0 a v
+  holds e k = record { keeps = any-count e k; matrix = rw matrix (shaped-rows (r .a)); axes = rw axes (shaped-rows (r .v)) }
 
 run-rows-requires : tie.Need-run-rows-requires
 run-rows-requires c κs =
@@ -70,9 +70,9 @@ returns c =
     let is-record = itself r (s .args .limit) (s .args .tolerance) (s .pre) _ _ (first .unpacked .ensures) (second .unpacked2 .ensures) in
     record {
       is = ap (stop (ran .run-rows .result .outcome) (ran .run-rows .result .sweeps)) (c .with-rows .ensures)
-          ∙ ran .run-rows .ensures .is (r .refused)
+          ∙ ran .run-rows .ensures .is (r .e) (r .refused)
           ∙ ap (runFrom (s .args .limit) 0 false (s .args .tolerance)) is-record;
-      keeps = rw (c .with-rows .ensures) (ran .run-rows .ensures .holds (r .refused) .keeps);
+      keeps = rw (c .with-rows .ensures) (ran .run-rows .ensures .holds (r .e) (r .refused) .keeps);
     }
 
 pub run-spec : {M : Type 1} → statement M

@@ -11,7 +11,7 @@ use Rattle.ledger.specs.laws.Accepted.{sweep-accepted, sweep-held}
 use Rattle.record.specs.laws.Turning.{works-least}
 use Rattle.record.specs.Work.{Work, workPairs}
 use Rattle.record.specs.Worked.{Ready, workAt}
-use Rattle.record.specs.Record.{acceptedOf, sweptIn, sweptOf, valueOf, workOf, workedOf}
+use Rattle.record.specs.Record.{acceptedOfUnder, sweptIn, sweptOf, valueOf, workOf, workedOf}
 use Rattle.record.specs.declared.Record.{Record}
 use Rattle.record.proofs.Outcome.{accepted, at-work, kept-ready, refuses}
 use Rattle.record.proofs.Record.sweep_in.Statement.{statement}
@@ -64,7 +64,7 @@ least c =
     (works-least (r u .n) (workOf (r u)) (pairsIn (order u) (r u .n)))
 
 returns-2 : tie.Need-returns-2
-unfolding valueOf acceptedOf sweptOf workedOf
+unfolding valueOf acceptedOfUnder sweptOf workedOf
 returns-2 c =
     let u = c .before .before .before .before .before in
     let swept = c .before .before .work-pairs .ensures ∙ ap (λ w. workPairs (r u .n) w (pairsIn (order u) (r u .n))) (rows u) in

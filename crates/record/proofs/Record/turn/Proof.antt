@@ -11,7 +11,7 @@ use Rattle.record.specs.laws.Turning.{work-turned}
 use Rattle.record.specs.Work.{Work, workPair}
 use Rattle.record.specs.Worked.{Ready, workAt}
 use Rattle.record.specs.declared.query.Answer.the-variants.{Turned}
-use Rattle.record.specs.Record.{acceptedOf, turnedOf, valueOf, workOf, workedOf}
+use Rattle.record.specs.Record.{acceptedOfUnder, turnedOf, valueOf, workOf, workedOf}
 use Rattle.record.specs.declared.Record.{Record}
 use Rattle.record.proofs.Outcome.{accepted, at-work, kept-ready, refuses}
 use Rattle.record.proofs.Record.turn.Statement.{statement}
@@ -59,7 +59,7 @@ work-pair-requires c κs =
     (omega (arith, t .first, t .ordered), omega (arith, t .first, t .ordered, t .last), s .pre .size, ready u)
 
 returns-2 : tie.Need-returns-2
-unfolding valueOf acceptedOf turnedOf workedOf workOf
+unfolding valueOf acceptedOfUnder turnedOf workedOf workOf
 returns-2 c =
     let u = c .before .before .before .before in
     let s = start u in
