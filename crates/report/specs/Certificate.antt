@@ -1,5 +1,6 @@
--- The certificate: what the bytes mean that `axes` prints for an accepted job text. A, m and Q = P / D are those of a ledger that is fed the calls of
--- the job's run alone; the bounds are stated in ledger/specs/Near, over whole numbers. Axes and channels count from 0 here, and from 1 in print.
+-- The certificate: what the bytes mean that `axes` prints for an accepted job text. m and Q = P / D are those of a ledger that is fed the calls of
+-- the job's run alone, S is the exact table of the job's readings, and e the shift that is printed (document 02, W5); the bounds are stated in
+-- ledger/specs/Near, over whole numbers. Axes and channels count from 0 here, and from 1 in print.
 use Prim.Native.Nat.{ℕ, suc, _*_, _^_, _<_}
 use mathlib.Core.Path.{_≡_}
 use mathlib.Core.List.{List, [], _∷_, _++_, map}
@@ -13,7 +14,7 @@ use Rattle.job_table.specs.Held.{samplesOf}
 use Rattle.ledger.specs.Ledger.{State, loaded, ledger}
 use Rattle.ledger.specs.Near.{DirectionNear, RowNear}
 use Rattle.record.specs.declared.run.Outcome.{Outcome}
-use Rattle.report.specs.Report.{loadedFor, reportOf}
+use Rattle.report.specs.Report.{loadFor, reportOf}
 use Rattle.report.specs.Text.{outcomeWord}
 use Rattle.rounding.specs.Rounding.{rnd}
 use Rattle.run.specs.Calls.{callsOf}
@@ -35,15 +36,17 @@ pub record JobCertificate (text : List ℕ) (j : Job) : Type 0 where
       wordLine 82 (map pos (j .n ∷ length (j .dilutions) ∷ e ∷ sweeps ∷ state .m ∷ [])) (outcomeWord outcome) ++
       lines (λ i. numberLine 65 (pos (suc i) ∷ entry i ∷ pos (error i) ∷ tabulate (j .n) (direction i))) (j .n)
   -- The state is the ledger's after the run's calls, with that many sweeps
-  pub fed : ledger (callsOf (j .n) (loadedFor j) (j .tolerance) sweeps) ≡ loaded state
-  -- A is the table of the job's samples: n by n entries rnd(S_ij / 2^e)
+  pub fed : ledger (callsOf (loadFor j) (j .tolerance) sweeps) ≡ loaded state
+  -- It has the table of the job's samples: n by n entries rnd(S_ij / 2^e), S and e
   pub size : state .n ≡ j .n
   pub table : Same (j .n) (state .A) (λ i k. rnd (S (samplesOf j) i k) (2 ^ e))
+  pub scatter : state .S ≡ S (samplesOf j)
+  pub shift : state .e ≡ e
   -- The rows of Q have length 1, and any two are at right angles: P_i·P_k is D² for i = k, else 0, and D is not 0
   pub positive : 0 < state .D
   pub orthogonal : Same (j .n) (product (j .n) (state .P) (transpose (state .P))) (diagonal (pos (state .D * state .D)))
-  -- Row i of Q is an axis of A within the error: |Q_i A − a_ii Q_i| ≤ r_i, with a_ii and r_i in units of 1/1024
-  pub rows-near : (i : ℕ) → i < j .n → RowNear (j .n) (state .D) (state .P) (state .A) i (entry i) (error i)
+  -- Row i of Q is an axis of S / 2^e within the error: |Q_i S / 2^e − a_ii Q_i| ≤ r_i, with a_ii and r_i in units of 1/1024
+  pub rows-near : (i : ℕ) → i < j .n → RowNear (j .n) (state .D) (state .P) (S (samplesOf j)) e i (entry i) (error i)
   -- The direction of axis i is within 2m units of 2^−30 of row i of Q
   pub directions-near : (i : ℕ) → i < j .n → DirectionNear (j .n) (state .m) (state .D) (state .P) direction i
 

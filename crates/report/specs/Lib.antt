@@ -1,5 +1,6 @@
 pub mod AxisNumbers
 pub mod Report
+pub mod Done
 pub mod Certificate
 pub mod Text
 pub mod inner

@@ -1,3 +1,2 @@
 pub mod AxisNumbers
-pub mod Done
 pub mod Text

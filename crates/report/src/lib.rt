@@ -5,54 +5,67 @@ mod lines;
 use job::Job;
 use job::reply::Reply;
 use record::Run;
+use scatter::table::Table;
+use text::Written;
 ghost use Rattle.job.specs.Job.{accepted};
 ghost use Rattle.job.specs.Reply.{Answers, Replies, printedOf};
 ghost use Rattle.job_table.specs.Held.{Held, jobIn};
 ghost use Rattle.text.specs.Put.{Put};
-ghost use Rattle.report.specs.inner.Done.{Solves};
+ghost use Rattle.report.specs.Done.{Reportable, ReportsRun, TableReportable, runOfTable};
 ghost use Rattle.report.specs.Report.{reportOf};
 
-// The table's shift, and the run on the table.
-struct Solved {
-    e: u32,
-    run: Run,
-}
-
-fn solve(job: Job) -> Solved
-    requires { ⌜ Held job ⌝ }
-    ensures { λ z. ⌜ Solves (jobIn job) z ⌝ }
+// The report of a run on the table of k samples. The length is known before the first byte is written, so a buffer that is too short stays as it
+// is.
+pub fn report_run(run: Run, k: usize, buf: &mut [u8]) -> Written
+    requires { ⌜ Reportable run k ⌝ }
+    ensures { λ r. ⌜ ReportsRun run k (now (buf .entry)) (now (buf .exit)) r ⌝ }
 {
-    let n = job.n;
-    let table = job_table::table_of(job);
-    let entries = table.entries;
-    let size = n * n;
-    let run = run::run(n, &entries[..size], job.limit, job.tolerance);
-    Solved { e: table.e, run }
-}
-
-// The length is known before the first byte is written, so a buffer that is too short stays as it is.
-fn report_job(job: Job, buf: &mut [u8]) -> Reply
-    requires { ⌜ Held job ⌝ }
-    ensures { λ r. ⌜ Answers reportOf (accepted (jobIn job)) (now (buf .entry)) (now (buf .exit)) r ⌝ }
-{
-    let n = job.n;
-    let solved = solve(job);
-    let run = solved.run;
     let outcome = run.outcome;
     let last = run.last;
+    let n = last.channels();
     let axes = axes::axes_numbers(last);
     let head = [
         n as i64,
-        job.k as i64,
-        solved.e as i64,
+        k as i64,
+        last.shift() as i64,
         run.sweeps as i64,
         last.turns() as i64,
     ];
     let length = lines::text_length(&head, outcome, &axes, n);
     if buf.len() < length {
-        return Reply::Refused(12, 0);
+        return Written::Refused(12);
     }
-    Reply::Written(lines::put_text(buf, &head, outcome, &axes, n))
+    Written::Length(lines::put_text(buf, &head, outcome, &axes, n))
+}
+
+// The report of a table of k samples of n channels, by the run on its entries.
+pub fn report_table(
+    n: usize,
+    k: usize,
+    limit: u64,
+    tolerance: u64,
+    table: Table,
+    buf: &mut [u8],
+) -> Written
+    requires { ⌜ TableReportable n k limit tolerance table ⌝ }
+    ensures { λ r. ⌜ ReportsRun (runOfTable n limit tolerance table) k (now (buf .entry)) (now (buf .exit)) r ⌝ }
+{
+    let entries = table.entries;
+    let size = n * n;
+    let run = run::run_table(n, &entries[..size], table.e, limit, tolerance);
+    report_run(run, k, buf)
+}
+
+fn report_job(job: Job, buf: &mut [u8]) -> Reply
+    requires { ⌜ Held job ⌝ }
+    ensures { λ r. ⌜ Answers reportOf (accepted (jobIn job)) (now (buf .entry)) (now (buf .exit)) r ⌝ }
+{
+    let table = job_table::table_of(job);
+    let done = report_table(job.n, job.k, job.limit, job.tolerance, table, buf);
+    match done {
+        Written::Length(length) => Reply::Written(length),
+        Written::Refused(_) => Reply::Refused(12, 0),
+    }
 }
 
 pub fn report(text: &[u8], buf: &mut [u8]) -> Reply

@@ -1,7 +1,7 @@
-// A run of document 01: a fresh record of its own, a load, and the sweeps.
+// A run of document 01: a fresh record of its own, a load, and the sweeps; of a matrix, or of a table made from readings.
 use record::Record;
 use record::Run;
-ghost use Rattle.run.specs.Run.{Allowed, Runs};
+ghost use Rattle.run.specs.Run.{Allowed, Runs, RunsTable};
 
 pub fn run(n: usize, numbers: &[i64], limit: u64, tolerance: u64) -> Run
     requires { ⌜ Allowed n (now numbers) limit tolerance ⌝ }
@@ -11,4 +11,14 @@ pub fn run(n: usize, numbers: &[i64], limit: u64, tolerance: u64) -> Run
     let loaded = fresh.load(n, numbers);
     let r = loaded.next;
     r.run(limit, tolerance)
+}
+
+// Of a table: its entries, and the shift e, which the record remembers.
+pub fn run_table(n: usize, numbers: &[i64], e: u32, limit: u64, tolerance: u64) -> Run
+    requires { ⌜ Allowed n (now numbers) limit tolerance ⌝ }
+    ensures { λ z. ⌜ RunsTable n (now (numbers .entry)) e limit tolerance z ⌝ }
+{
+    let fresh = Record::new();
+    let loaded = fresh.load_table(n, numbers, e);
+    loaded.run(limit, tolerance)
 }

@@ -21,7 +21,7 @@ use Rattle.limits.specs.Limits.{entryLimit, toleranceLimit, units}
 use Rattle.limits.specs.laws.Channels.{places}
 use Rattle.record.specs.laws.Fill.{kept-flatOf}
 use Rattle.record.specs.Flat.{keptEntry}
-use Rattle.record.specs.Record.{acceptedOf, afterOf, answerOf, fresh, loadedRecord, valueOf}
+use Rattle.record.specs.Record.{acceptedOfUnder, afterOf, answerOf, fresh, loadedRecord, valueOf}
 use Rattle.ledger.specs.Pairs.{cyclic}
 use Rattle.rounding.specs.laws.Nearest.{rnd-zero}
 use Rattle.record.specs.laws.Accepted.{after-accepted, load-taken, loose-pair-taken}
@@ -30,7 +30,7 @@ use Rattle.scatter.specs.Table.{S, scatter, smallestShift, shift, shiftUnder, e
 use Rattle.scatter.specs.laws.Entries.{entry-at, largest-zeros, length-entries, length-scatter, table-entries}
 use Rattle.turn.specs.laws.InUse.{inUse-inside}
 use Rattle.record.specs.Run.{noPair, stop}
-use Rattle.run.specs.Run.{runOf}
+use Rattle.run.specs.Run.{runAfter, runOf}
 use Rattle.record.specs.laws.Running.{run-settled}
 use Rattle.record.specs.declared.run.Outcome.the-variants.{Settled}
 use Rattle.record.specs.Loose.{looseOf}
@@ -109,27 +109,27 @@ module _ (n t : ℕ) (low : 2 ≤ n) (high : n ≤ 8) (few : t ≤ toleranceLimi
         same = λ i j h k. getD-repeated (n * n) (i * n + j) (pos 0) ∙ sym (getD-repeated (n * n) (j * n + i) (pos 0));
       }
 
-  loaded : afterOf fresh (load n (zeros n)) ≡ loadedRecord fresh n (zeros n)
-  unfolding acceptedOf
+  loaded : afterOf fresh (load n (zeros n)) ≡ loadedRecord fresh n (zeros n) 0
+  unfolding acceptedOfUnder
   loaded = after-accepted fresh (load n (zeros n)) (load-taken (fresh .n) (fresh .m) n (zeros n) zeros-load)
 
-  entry-zero : (i j : ℕ) → i < n → j < n → keptEntry (loadedRecord fresh n (zeros n) .a) i j ≡ pos 0
+  entry-zero : (i j : ℕ) → i < n → j < n → keptEntry (loadedRecord fresh n (zeros n) 0 .a) i j ≡ pos 0
   unfolding loadedRecord matrixOf
   entry-zero i j h k =
       kept-flatOf _ i j (omega arith) (omega arith) ∙ inUse-inside n _ i j h k ∙ rw (getD-repeated (n * n) (i * n + j) (pos 0)) (*ℤ-zero (pos units))
 
-  none : looseOf (keptEntry (loadedRecord fresh n (zeros n) .a)) t (cyclic n) ≡ NoPair
+  none : looseOf (keptEntry (loadedRecord fresh n (zeros n) 0 .a)) t (cyclic n) ≡ NoPair
   none =
-      first-loose n (keptEntry (loadedRecord fresh n (zeros n) .a)) t .none-if-none
+      first-loose n (keptEntry (loadedRecord fresh n (zeros n) 0 .a)) t .none-if-none
       (λ p q h. rw (entry-zero (p - 1) (q - 1) (omega (arith, h .0, h .1, h .2)) (omega (arith, h .0, h .1, h .2))) (omega arith))
 
-  asked : answerOf (loadedRecord fresh n (zeros n)) (loosePair t) ≡ NoPair
+  asked : answerOf (loadedRecord fresh n (zeros n) 0) (loosePair t) ≡ NoPair
   unfolding answerOf valueOf loadedRecord
   asked = rw (eq-eqb (refusalOf n 0 (loosePair t)) 0 (loose-pair-taken n 0 (omega arith) t few)) none
 
   -- settled, 0 sweeps
   zeros-settled : (limit : ℕ) → runOf n (zeros n) limit t ≡ stop Settled 0 (afterOf fresh (load n (zeros n)))
-  unfolding runOf noPair
+  unfolding runAfter noPair
   zeros-settled limit = run-settled limit 0 t false (afterOf fresh (load n (zeros n))) (rw (loaded, asked))
 
 pub equal-settled : (n k limit t : ℕ) (s : Sample) → 2 ≤ n → n ≤ 8 → t ≤ toleranceLimit →

@@ -1,22 +1,26 @@
 -- Card 12: what the program prints for the printed job, line by line.
 use mathlib.Core.Path.{_≡_, refl, ap, _∙_}
+use mathlib.Core.Bool.{false}
 use mathlib.Core.List.{[], _∷_}
 use lib.IntN.{pos}
-use lib.ListN.{take}
-use Rattle.integer.specs.Matrix.{rowMajor}
-use Rattle.integer.specs.Padded.{padded}
+use Rattle.integer.specs.Matrix.{matrixOf, rowMajor}
 use Rattle.integer.specs.Tabulate.{tabulate}
 use Rattle.job.specs.Job.{Job, accepted, withSample, nextLine, nothing, ended, judged, jobAfter, begun, jobOfLines, jobOf}
 use Rattle.readings.specs.Ranges.{parametersInRange}
 use Rattle.job.specs.Range.{sampleInRange}
 use Rattle.job.specs.Reply.{printedBy, printedOf}
 use Rattle.job.specs.Text.{numberOf, numbersOf, isTag, recordOf, lineOf}
-use Rattle.job_table.specs.Held.{samplesOf, tableFor}
+use Rattle.ledger.specs.Call.{load}
+use Rattle.ledger.specs.Refusal.{equal, entriesWithin, refusalUnder, symmetric}
+use Rattle.readings.specs.Refusal.{numberRefusal, samplesRefusal}
+use Rattle.record.specs.Record.{acceptedOfUnder, afterOf, afterOfUnder, fresh, samplesRecord}
+use Rattle.record.specs.Run.{runFrom}
+use Rattle.run.specs.Run.{runAfter}
 use Rattle.report.specs.AxisNumbers.{axisValues}
-use Rattle.report.specs.Report.{headOf, runFor, lineR, lineA, reportOf}
+use Rattle.report.specs.Report.{headOf, loadFor, runFor, lineR, lineA, reportOf, runReport}
 use Rattle.report.specs.Text.{outcomeWord}
 use Rattle.rounding.specs.Rounding.{rnd}
-use Rattle.scatter.specs.Table.{S, scatter, largest, smallestShift, shiftUnder, entriesUnder, tableFromUnder, tableUnder}
+use Rattle.scatter.specs.Table.{S, scatter, largest, smallestShift, shiftUnder, entriesUnder}
 use Rattle.readings.specs.Samples.{samples, sampleAt, total, z}
 use Rattle.text.specs.Ascii.{ascii}
 use Rattle.text.specs.Decimal.{digits, digitsBy, number}
@@ -36,30 +40,31 @@ unfolding ascii jobOf split onto allWithin leadingZero valueFrom numberOf before
     sampleInRange withSample nextLine nothing ended judged jobAfter begun jobOfLines
 read = refl
 
-table : (tableFor job .e ≡ 0) × (take 4 (tableFor job .entries) ≡ twoByTwo (pos 50) (pos 25) (pos 50))
-unfolding tableFor samplesOf tableUnder tableFromUnder padded tabulate rowMajor samples sampleAt total z S scatter largest smallestShift shiftUnder
-    entriesUnder rnd
-table = (refl, refl)
+-- the samples' table, e = 0, is what is loaded
+loaded : afterOf fresh (loadFor job) ≡ afterOf fresh (load 2 (twoByTwo (pos 50) (pos 25) (pos 50)))
+unfolding afterOfUnder acceptedOfUnder samplesRecord fresh refusalUnder samplesRefusal numberRefusal within allWithin entriesWithin symmetric equal
+    matrixOf tabulate rowMajor samples sampleAt total z S scatter largest smallestShift shiftUnder entriesUnder rnd
+loaded = refl
 
 ran : runFor job ≡ threeRun
-unfolding runFor
-ran = rw (table .1)
+unfolding runFor runAfter
+ran = ap (runFrom 1 0 false 0) loaded
 
-first : lineR job ≡ ascii "R\t2\t3\t0\t1\t1\tspent\n"
+first : lineR 3 threeRun ≡ ascii "R\t2\t3\t0\t1\t1\tspent\n"
 unfolding ascii lineR headOf outcomeWord wordLine line further number digits digitsBy
-first = rw (ran, table .0, spends .sweeps, spends .turns, spends .outcome)
+first = rw (spends .channels, spends .shift, spends .sweeps, spends .turns, spends .outcome)
 
-axis-1 : lineA 2 (threeRun .last) 1 ≡ ascii "A\t1\t26624\t7172\t644245094\t-858993459\n"
+axis-1 : lineA (threeRun .last) 1 ≡ ascii "A\t1\t26624\t7172\t644245094\t-858993459\n"
 unfolding ascii lineA axisValues numberLine line further number digits digitsBy
-axis-1 = rw (spends .axis-1, spends .row-1)
+axis-1 = rw (spends .channels, spends .axis-1, spends .row-1)
 
-axis-2 : lineA 2 (threeRun .last) 2 ≡ ascii "A\t2\t75776\t7172\t858993459\t644245094\n"
+axis-2 : lineA (threeRun .last) 2 ≡ ascii "A\t2\t75776\t7172\t858993459\t644245094\n"
 unfolding ascii lineA axisValues numberLine line further number digits digitsBy
-axis-2 = rw (spends .axis-2, spends .row-2)
+axis-2 = rw (spends .channels, spends .axis-2, spends .row-2)
 
 report : reportOf job ≡ reportText
-unfolding ascii reportOf lines
-report = rw (first, ran, axis-1, axis-2)
+unfolding ascii reportOf runReport lines
+report = rw (ran, first, spends .channels, axis-1, axis-2)
 
 pub prints-the-report : printedOf reportOf jobText ≡ reportText
 unfolding printedOf printedBy

@@ -11,13 +11,13 @@ use Rattle.integer.specs.Matrix.{diagonal, matrixOf}
 use Rattle.integer.specs.RoundedUp.{roundedUp}
 use Rattle.integer.specs.Sum.{sumℕ}
 use Rattle.integer.specs.Tabulate.{tabulate}
-use Rattle.ledger.specs.Axis.{errorOf}
+use Rattle.ledger.specs.Axis.{errorOf, tableError}
 use Rattle.ledger.specs.Call.{axis, load, loosePair, sweep}
 use Rattle.ledger.specs.Pairs.{cyclic, row, rowsFrom}
 use Rattle.ledger.specs.Refusal.{equal, refusalUnder, symmetric, entriesWithin}
 use Rattle.record.specs.Flat.{entriesOf, flatOf, keptEntry, rowsOf}
 use Rattle.record.specs.Loose.{looseOf}
-use Rattle.record.specs.Record.{acceptedOf, afterOf, afterOfUnder, answerOf, axisOf, fresh, loadedRecord, sweptOf, valueOf, workOf, workedOf}
+use Rattle.record.specs.Record.{acceptedOfUnder, afterOf, afterOfUnder, answerOf, axisOf, fresh, loadedRecord, sweptOf, valueOf, workOf, workedOf}
 use Rattle.record.specs.Work.{chosen, workBy, workPair, workPairs}
 use Rattle.record.specs.declared.Record.{Record}
 use Rattle.record.specs.declared.query.Answer.the-variants.{Axis}
@@ -26,7 +26,7 @@ use Rattle.record.specs.Run.{noPair, noTurn, runFrom, tried}
 use Rattle.record.specs.declared.run.Outcome.the-variants.{Spent, Still}
 use Rattle.record.specs.declared.run.Run.{Run}
 use Rattle.record.specs.laws.Running.{run-still, run-sweeps}
-use Rattle.run.specs.Run.{runOf}
+use Rattle.run.specs.Run.{runAfter, runOf}
 use Rattle.turn.specs.InUse.{inUse}
 use Rattle.turn.specs.Rotation.{first, rotationOf, second}
 use Rattle.integer.specs.Signed.{signed}
@@ -40,13 +40,13 @@ stuck = afterOf fresh (load 2 (twoByTwo (pos 0) (pos 1) (pos 1_048_576)))
 -- its pair is loose before and after a sweep, which makes no turn
 stays : (noPair (answerOf stuck (loosePair 0)) ≡ false) × (noTurn (answerOf stuck sweep) ≡ true) ×
     (noPair (answerOf (afterOf stuck sweep) (loosePair 0)) ≡ false)
-unfolding noPair noTurn answerOf valueOf afterOfUnder acceptedOf fresh loadedRecord inUse sweptOf workOf workedOf looseOf tabulate keptEntry entriesOf
-    rowsOf flatOf chosen workBy workPair workPairs cyclic rowsFrom row matrixOf equal symmetric entriesWithin refusalUnder diagonal choose smallestFit
-    fits threshold roundedUp u w minusSign negative eight at
+unfolding noPair noTurn answerOf valueOf afterOfUnder acceptedOfUnder fresh loadedRecord inUse sweptOf workOf workedOf looseOf tabulate keptEntry
+    entriesOf rowsOf flatOf chosen workBy workPair workPairs cyclic rowsFrom row matrixOf equal symmetric entriesWithin refusalUnder diagonal choose
+    smallestFit fits threshold roundedUp u w minusSign negative eight at
 stays = (refl, refl, refl)
 
 pub still : (limit : ℕ) → 1 ≤ limit → runOf 2 (twoByTwo (pos 0) (pos 1) (pos 1_048_576)) limit 0 .outcome ≡ Still
-unfolding runOf
+unfolding runAfter
 still limit h =
     ap (λ (run : Run). run .outcome)
     (run-sweeps limit 0 0 false stuck (stays .0) refl (limit - 1) (omega arith)
@@ -61,14 +61,27 @@ pub record Spends : Type 0 where
   pub outcome : threeRun .outcome ≡ Spent
   pub sweeps : threeRun .sweeps ≡ 1
   pub turns : threeRun .last .m ≡ 1
+  pub channels : threeRun .last .n ≡ 2
+  pub shift : threeRun .last .e ≡ 0
   pub axis-1 : answerOf (threeRun .last) (axis 1) ≡ Axis (pos 26624) 7172
   pub row-1 : axisOf (threeRun .last) 1 ≡ pos 644245094 ∷ neg 858993459 ∷ pos 0 ∷ pos 0 ∷ pos 0 ∷ pos 0 ∷ pos 0 ∷ pos 0 ∷ []
   pub axis-2 : answerOf (threeRun .last) (axis 2) ≡ Axis (pos 75776) 7172
   pub row-2 : axisOf (threeRun .last) 2 ≡ pos 858993459 ∷ pos 644245094 ∷ pos 0 ∷ pos 0 ∷ pos 0 ∷ pos 0 ∷ pos 0 ∷ pos 0 ∷ []
 
 pub spends : Spends
-unfolding runOf runFrom tried noPair noTurn answerOf valueOf afterOfUnder acceptedOf axisOf fresh loadedRecord inUse sweptOf workOf workedOf looseOf
-    tabulate keptEntry entriesOf rowsOf flatOf chosen workBy workPair workPairs errorOf cyclic rowsFrom row matrixOf equal symmetric entriesWithin
-    refusalUnder diagonal sumℕ choose smallestFit fits threshold roundedUp u w minusSign negative rotationOf signed first second turnMatrix turnAxes
-    turnedAxes array eight at turned newp newq newpp newpq newqq hpp hpq hqp hqq atPair rnd
-spends = record { outcome = refl; sweeps = refl; turns = refl; axis-1 = refl; row-1 = refl; axis-2 = refl; row-2 = refl }
+unfolding runAfter runFrom tried noPair noTurn answerOf valueOf afterOfUnder acceptedOfUnder axisOf fresh loadedRecord inUse sweptOf workOf workedOf
+    looseOf tabulate keptEntry entriesOf rowsOf flatOf chosen workBy workPair workPairs errorOf tableError cyclic rowsFrom row matrixOf equal
+    symmetric entriesWithin refusalUnder diagonal sumℕ choose smallestFit fits threshold roundedUp u w minusSign negative rotationOf signed first
+    second turnMatrix turnAxes turnedAxes array eight at turned newp newq newpp newpq newqq hpp hpq hqp hqq atPair rnd
+spends =
+    record {
+      outcome = refl;
+      sweeps = refl;
+      turns = refl;
+      channels = refl;
+      shift = refl;
+      axis-1 = refl;
+      row-1 = refl;
+      axis-2 = refl;
+      row-2 = refl;
+    }

@@ -8,6 +8,8 @@ use Rattle.integer.specs.Within.{within, allWithin}
 use Rattle.integer.specs.laws.Within.{all-at, both, is-within}
 use Rattle.limits.specs.Limits.{leastDilution, mostDilution, mostCount}
 use Rattle.readings.specs.Ranges.{Readings, parametersInRange}
+use Rattle.readings.specs.Refusal.{samplesRefusal}
+use Rattle.readings.specs.laws.Refusal.{samples-not-refused}
 use Rattle.job.specs.Job.{Job}
 use Rattle.job.specs.Values.{Proper, inRange}
 
@@ -26,6 +28,16 @@ module _ (j : Job) (p : Proper j) where
       let b = both _ _ (ranges .0) in
       let d = both _ _ (b .0) in
       (d .0, d .1, b .1)
+
+  -- its samples are such as are taken wherever samples are handed over
+  pub samples-taken : samplesRefusal (j .n) (j .dilutions) (j .counts) ≡ 0
+  samples-taken =
+      samples-not-refused (j .n) (j .dilutions) (j .counts)
+      (record {
+        ranges = simp (parameters .0, ranges .1, ranges .2);
+        counted = p .counted ∙ mul-comm (length (j .dilutions)) (j .n);
+        number = p .samples;
+      })
 
   pub channels : (2 ≤ j .n) × (j .n ≤ 8)
   channels = is-within 2 8 (j .n) (parameters .0)

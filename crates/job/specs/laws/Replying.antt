@@ -8,7 +8,11 @@ use native.Mathlib.Omega.{arith}
 use borrow.Author.Tests.{le-leb, leb-false, leb-true, lt-leb}
 use lib.Dec.{leb}
 use lib.ListN.{drop, length}
+use Rattle.limits.specs.Unless.{unless}
 use Rattle.text.specs.Put.{Put, fitted}
+use Rattle.text.specs.Written.{Writes, lentAfter, orShort, writtenOf}
+use Rattle.text.specs.declared.written.Written as Written
+use Rattle.text.specs.declared.written.Written.the-variants.{Length, Refused as TooShort}
 use Rattle.text.specs.laws.Put.{front-length}
 use Rattle.text.specs.Line.{lineX}
 use Rattle.job.specs.Job.{Answer, Job, accepted, jobOf, refused}
@@ -17,6 +21,11 @@ use Rattle.job.specs.Reply.{Answers, Replies, Short, bufferBy, bufferOf,
 use Rattle.job.specs.declared.Outcome.the-variants as Outcome
 use Rattle.job.specs.declared.reply.Reply.{Reply}
 use Rattle.job.specs.declared.reply.Reply.the-variants.{Refused, Written}
+
+-- a writer's answer, as that to a job text: its one refusal is of no line
+unfoldable pub asReply : Written.Written → Reply
+asReply (Length length) = Written length
+asReply (TooShort number) = Refused 12 0
 
 module _ (f : Job → List ℕ) where
   -- an accepted job, by its text's length
@@ -33,6 +42,16 @@ module _ (f : Job → List ℕ) where
         let e = front-length p in
         let test = le-leb (length (f j)) (length entry) (omega (arith, p .within, e)) in
         record { answer = rw (test, e); buffer = rw test (p .leaves); short = short }
+
+    -- the same of a writer that has no line to tell
+    pub written-answers : {exit : List ℕ} {w : Written.Written} → Writes 0 (f j) entry exit w → Answers f (accepted j) entry exit (asReply w)
+    unfolding replyBy bufferBy fitted Short orShort writtenOf lentAfter asReply
+    written-answers {exit} {w} h = by (leb (length (f j)) (length entry)) refl (h .answer) (h .buffer)
+      where
+        by : (b : Bool) → leb (length (f j)) (length entry) ≡ b → w ≡ writtenOf (unless b 12 0) (f j) → exit ≡ lentAfter (unless b 12 0) (f j) entry →
+            Answers f (accepted j) entry exit (asReply w)
+        by true t e g = rw e (record { answer = rw t; buffer = rw t g; short = short })
+        by false t e g = rw e (record { answer = rw t; buffer = rw t g; short = short })
 
   -- what a reading of a text tells
   pub replies-answered : (text entry exit : List ℕ) (a : Answer) (r : Reply) → jobOf text ≡ a → Answers f a entry exit r → Replies f text entry exit r

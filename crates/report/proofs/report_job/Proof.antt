@@ -1,156 +1,88 @@
--- `report::report_job` meets its contract: the text that is written is the report of the job.
-use Prim.Native.Nat.{ℕ, _≤_}
-use mathlib.Core.Path.{_≡_, refl, sym, ap, _∙_}
-use mathlib.Core.List.{List, [], _∷_}
-use native.Mathlib.Omega.{arith}
-use lib.IntN.{ℤ, pos}
+-- `report::report_job` meets its contract: the report of the job's table is the job's.
+use Prim.Native.Nat.{ℕ}
+use mathlib.Core.Path.{_≡_}
+use mathlib.Core.List.{List}
 use lib.ListN.{length}
-use mir.Syntax.{w64}
-use mir.Val.{toZ, SFits}
-use mir.Facts.{toZ-ofZ}
 use borrow.Author.Needs.{needs}
-use Rattle.job.specs.Job.{Job}
-use Rattle.job.specs.laws.Replying.{put-whole, too-short}
-use Rattle.job_table.specs.Held.{jobIn}
-use Rattle.job_table.specs.laws.Laws.{channels-held, samples-few, samples-held}
-use Rattle.report.specs.inner.AxisNumbers.{axesNumbers}
-use Rattle.text.specs.Put.{Sized}
-use Rattle.record.specs.declared.run.Run.{Run}
-use Rattle.text.specs.Rows.{Wide}
-use Rattle.report.specs.inner.Text.{textOf}
-use Rattle.report.specs.Report.{headOf, reportOf, runFor}
-use Rattle.report.proofs.Bounds.{sweeps-most, turns-most}
-use Rattle.report.proofs.Same.{axes-wide, text-same}
+use Rattle.job.specs.Job.{Job, accepted}
+use Rattle.job.specs.Reply.{Answers}
+use Rattle.job.specs.Values.{Proper}
+use Rattle.job.specs.laws.Proper.{channels, limit-most, tolerance-most}
+use Rattle.job.specs.laws.Replying.{asReply, written-answers}
+use Rattle.job_table.specs.Held.{Held, jobIn, samplesOf, tableFor}
+use Rattle.job_table.specs.laws.Laws.{samples-few, samples-held}
+use Rattle.job.specs.declared.Job as arrays
+use Rattle.limits.specs.laws.Values.{some-entry}
+use Rattle.run.specs.laws.Table.{table-allowed}
+use Rattle.scatter.specs.declared.table.Table.{Table}
+use Rattle.scatter.specs.laws.Table.{table-is}
+use Rattle.text.specs.declared.written.Written.{Written}
+use Rattle.report.specs.Done.{ReportsRun, TableReportable, runOfTable}
+use Rattle.report.specs.Report.{reportOf}
+use Rattle.report.proofs.Bounds.{table-is-run}
 use Rattle.report.proofs.report_job.Statement.{statement}
 use Rattle.report.proofs.report_job.Tie as tie
 
-high : (s : tie.Start) → s .args .job .n ≤ 8
-high s = channels-held (s .args .job) (s .pre)
+-- the report of the job's table is the job's
+table-answers : (j : Job) → Proper j → (t : Table) → t ≡ tableFor j → (k : ℕ) → length (j .dilutions) ≡ k → {entry exit : List ℕ} {w : Written} →
+    ReportsRun (runOfTable (j .n) (j .limit) (j .tolerance) t) k entry exit w → Answers reportOf (accepted j) entry exit (asReply w)
+unfolding reportOf
+table-answers j p t e k many {entry} r =
+    let held = rw (e, table-is-run j p, ← many) at r in
+    written-answers reportOf j (held .short) entry (held .writes)
 
-number : (s : tie.Start) → SFits w64 (pos (s .args .job .n))
-number s = record { sfits = omega (arith, high s) }
+-- arrays that hold a job, and the job's table
+module _ (a : arrays.Job) (h : Held a) (t : Table) (e : t ≡ tableFor (jobIn a)) where
+  reportable : TableReportable (a .n) (a .k) (a .limit) (a .tolerance) t
+  unfolding jobIn tableFor
+  reportable =
+      let j = jobIn a in
+      let c = channels j (h .proper) in
+      record {
+        allowed =
+            rw e
+            (table-allowed (j .n) (samplesOf j) (c .0) (c .1) (j .limit) (j .tolerance) (limit-most j (h .proper)) (tolerance-most j (h .proper)));
+        size = rw e (table-is (j .n) (c .1) some-entry (samplesOf j) .entries .size);
+        samples = samples-few a h;
+      }
 
-samples : (s : tie.Start) → SFits w64 (pos (s .args .job .k))
-samples s = record { sfits = omega (arith, samples-few (s .args .job) (s .pre)) }
+  answers : {entry exit : List ℕ} {w : Written} → ReportsRun (runOfTable (a .n) (a .limit) (a .tolerance) t) (a .k) entry exit w →
+      Answers reportOf (accepted (jobIn a)) entry exit (asReply w)
+  unfolding jobIn
+  answers r = table-answers (jobIn a) (h .proper) t e (a .k) (samples-held a h) r
 
-module _ (c : tie.After-solve) where
-  abbrev start : tie.Start
-  start = c .before .before
-
-  abbrev j : Job
-  j = jobIn (start .args .job)
-
-  abbrev solved-run : Run
-  solved-run = c .solve .result .run
-
-  sweeps : SFits w64 (pos (solved-run .sweeps))
-  sweeps = record { sfits = rw (c .solve .ensures .runs) (omega (arith, sweeps-most j (start .pre .proper))) }
-
-  module _ (m : ℕ) (made : m ≡ solved-run .last .m) where
-    turns : SFits w64 (pos m)
-    turns = record { sfits = rw (made, c .solve .ensures .runs) (omega (arith, turns-most j)) }
-
-    abbrev head : List ℤ
-    head =
-        toZ w64 (start .args .job .n)
-        ∷ toZ w64 (start .args .job .k)
-        ∷ toZ w64 (c .solve .result .e)
-        ∷ toZ w64 (solved-run .sweeps)
-        ∷ toZ w64 m
-        ∷ []
-
-    head-same : head ≡ headOf j
-    unfolding headOf jobIn
-    head-same =
-        let s = c .solve .ensures in
-        let e-fits : SFits w64 (pos (c .solve .result .e)) = search needs in
-        let k-same = samples-held (start .args .job) (start .pre) in
-        λ k.
-        toZ-ofZ (number start) k
-        ∷ (toZ-ofZ (samples start) ∙ ap pos (sym k-same)) k
-        ∷ (toZ-ofZ e-fits ∙ ap pos (s .shift)) k
-        ∷ (toZ-ofZ sweeps ∙ ap (λ (z : Run). pos (z .sweeps)) (s .runs)) k
-        ∷ (toZ-ofZ turns ∙ ap pos made ∙ ap (λ (z : Run). pos (z .last .m)) (s .runs)) k
-        ∷ []
-
-    module _ (axes : List (List ℤ)) (answers : axes ≡ axesNumbers (solved-run .last)) where
-      text : textOf head (solved-run .outcome) axes (start .args .job .n) ≡ reportOf j
-      unfolding jobIn
-      text =
-          (λ k. textOf (head-same k) (c .solve .ensures .runs k .outcome)
-          ((answers ∙ ap (λ (z : Run). axesNumbers (z .last)) (c .solve .ensures .runs)) k) (start .args .job .n))
-          ∙ text-same j (high start) (start .pre .proper)
-
-      axes-are-wide : Wide axes
-      axes-are-wide = rw answers (axes-wide (solved-run .last))
-
--- what is known where the length is asked for
-module _ (c : tie.After-turns) where
-  abbrev listed : tie.After-axes-numbers
-  listed = c .before .before .before .before
-
-  abbrev solved : tie.After-solve
-  solved = listed .before .before .before
-
-  abbrev job : Job
-  job = j solved
-
-  report-text : textOf (head solved (c .turns .result) (c .turns .ensures)) (solved-run solved .outcome) (listed .axes-numbers .result)
-      (start solved .args .job .n) ≡ reportOf job
-  report-text = text solved (c .turns .result) (c .turns .ensures) (listed .axes-numbers .result) (listed .axes-numbers .ensures)
-
-  wide : Wide (listed .axes-numbers .result)
-  wide = axes-are-wide solved (c .turns .result) (c .turns .ensures) (listed .axes-numbers .result) (listed .axes-numbers .ensures)
-
-text-length-requires : tie.Need-text-length-requires
-text-length-requires c κs = let t = c .before .before in (refl, high (start (solved t)), wide t)
-
-told : tie.After-text-length → tie.After-turns
-told c = c .before .before .before
-
-sized : (c : tie.After-text-length) → Sized (reportOf (job (told c))) 2048 (c .text-length .result)
-unfolding told
-sized c = rw (report-text (told c)) at (c .text-length .ensures)
-
-short : (c : tie.After-text-length) → length (reportOf (job (told c))) ≤ 2048
-short c = omega (arith, sized c .exact, sized c .bounded)
+report-table-requires : tie.Need-report-table-requires
+report-table-requires c κs =
+    let t = c .before in
+    let s = t .before .before in
+    reportable (s .args .job) (s .pre) _ (t .table-of .ensures)
 
 returns : tie.Need-returns
-unfolding told
+unfolding asReply
 returns c =
-    let l = c .before in
-    too-short reportOf (job (told l)) (short l) (start (solved (told l)) .args .buf .now) (omega (arith, c .if1 .taken, sized l .exact))
-
-put-text-requires : tie.Need-put-text-requires
-unfolding told
-put-text-requires c κs =
-    let l = c .before .before .before .before in
-    let t = told l in
-    (high (start (solved t)), wide t, omega (arith, c .before .before .before .if1 .left, l .text-length .ensures .exact))
+    let told = c .before in
+    let d = told .before .before .before .before in
+    let t = d .before .before in
+    let s = t .before .before in
+    rw (told .done .given .1) at (answers (s .args .job) (s .pre) _ (t .table-of .ensures) (d .report-table .ensures))
 
 returns-2 : tie.Need-returns-2
-unfolding told
+unfolding asReply
 returns-2 c =
-    let l = c .before .before .before .before .before .before .before in
-    let t = told l in
-    put-whole reportOf (job t) (short l) (start (solved t) .args .buf .now) _ _ (rw (report-text t) at (c .before .before .put-text .ensures))
+    let d = c .before .before .before .before in
+    let t = d .before .before in
+    let s = t .before .before in
+    rw (c .enum-told .given .1) at (answers (s .args .job) (s .pre) _ (t .table-of .ensures) (d .report-table .ensures))
 
 pub report-job-spec : {M : Type 1} → statement M
 report-job-spec =
     tie.close
     (tie.spec
     (λ c κs. search needs)
-    (λ c κs. search needs)
-    (λ c. number (start (c .before .before .before)))
-    (λ c. samples (start (c .before .before .before .before)))
+    report-table-requires
     (λ c. search needs)
-    (λ c. sweeps (c .before .before .before .before .before .before))
-    (λ c κs. search needs)
-    (λ c. turns (c .before .before .before .before .before .before .before) _ (c .turns .ensures))
     (λ c. search needs)
-    text-length-requires
+    (λ c. search needs)
     returns
-    (λ c. search needs)
-    put-text-requires
     (λ c. search needs)
     returns-2)

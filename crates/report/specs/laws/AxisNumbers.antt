@@ -1,6 +1,6 @@
 -- Laws of this subject: The numbers of an axis: a_ii and r_i, which an axis call answers, and the row beside them. How many they are, and that
 -- r_i is below 2^63.
-use Prim.Native.Nat.{ℕ, suc, _+_, _-_, _^_, _<_, _≤_}
+use Prim.Native.Nat.{ℕ, suc, _+_, _-_, _*_, _^_, _<_, _≤_}
 use mathlib.Core.Path.{_≡_, refl}
 use mathlib.Core.Bool.{Bool, true, false, cond}
 use mathlib.Core.List.{List, [], _∷_, _++_}
@@ -15,13 +15,14 @@ use Rattle.integer.specs.laws.Sum.{sumℕ-≤, sumℕ-const}
 use Rattle.integer.specs.laws.Tests.{cond-≤}
 use Rattle.ledger.specs.laws.Accepted.{axis-taken}
 use Rattle.integer.specs.RoundedUp.{roundedUp}
-use Rattle.ledger.specs.Axis.{errorOf}
+use Rattle.ledger.specs.Axis.{errorOf, tableError}
+use Rattle.limits.specs.Limits.{halfEntry}
 use Rattle.ledger.specs.Call.{axis}
 use Rattle.ledger.specs.Refusal.{refusalOf}
 use Rattle.turn.specs.laws.Eight.{getD-eight, length-eight}
 use Rattle.record.specs.laws.Turning.{matrix-small}
 use Rattle.record.specs.declared.query.Answer.{Answer}
-use Rattle.record.specs.declared.query.Answer.the-variants.{Loaded, Turned, Swept, TournamentSwept, Pair, NoPair, Axis, Refused}
+use Rattle.record.specs.declared.query.Answer.the-variants.{Loaded, SamplesLoaded, Turned, Swept, TournamentSwept, Pair, NoPair, Axis, Refused}
 use Rattle.choice.specs.Widest.{widest}
 use Rattle.record.specs.laws.Fill.{at-rowsOf}
 use Rattle.record.specs.Flat.{entriesOf, keptEntry}
@@ -34,6 +35,7 @@ use Rattle.report.specs.inner.AxisNumbers.{axisNumbers, axesNumbers}
 pub length-values : (answer : Answer) → length (axisValues answer) ≡ 2
 unfolding axisValues
 length-values Loaded = refl
+length-values (SamplesLoaded e) = refl
 length-values (Turned made) = refl
 length-values (Swept made) = refl
 length-values (TournamentSwept made) = refl
@@ -76,7 +78,7 @@ axes-row r i l h = rw (getD-eight (λ k. cond (ltb k (r .n)) (axisNumbers r (suc
 
 -- an axis call that names an axis is not refused
 pub axis-answer : (r : Record) (i : ℕ) → 1 ≤ i → i ≤ r .n →
-    answerOf r (axis i) ≡ Axis (keptEntry (r .a) (i - 1) (i - 1)) (errorOf (r .n) (keptEntry (r .a)) (r .m) (i - 1))
+    answerOf r (axis i) ≡ Axis (keptEntry (r .a) (i - 1) (i - 1)) (errorOf (r .n) (r .e) (keptEntry (r .a)) (r .m) (i - 1))
 unfolding answerOf valueOf
 axis-answer r i h k = rw (eq-eqb (refusalOf (r .n) (r .m) (axis i)) 0 (axis-taken (r .n) (r .m) i h k))
 
@@ -94,13 +96,14 @@ module _ (r : Record) (i : ℕ) (h : i < r .n) where
   place : suc i - 1 ≡ i
   place = omega arith
 
-  pub error-small : Kept r → errorOf (r .n) (keptEntry (r .a)) (r .m) i < 2 ^ 63
-  unfolding errorOf roundedUp workOf
+  pub error-small : Kept r → errorOf (r .n) (r .e) (keptEntry (r .a)) (r .m) i < 2 ^ 63
+  unfolding errorOf roundedUp tableError workOf
   error-small k =
       omega (
         arith,
         sumℕ-≤ (r .n) {g = λ j. widest} (λ j l. cond-≤ (eqb j i) {x = 0} (omega arith) (small j l)),
         sumℕ-const (r .n) widest,
+        cond-≤ (ltb 0 (r .e)) {x = halfEntry * r .n} {y = 0} {n = halfEntry * 8} (omega (arith, k .size)) (omega arith),
         k .size,
         k .turns,
       )

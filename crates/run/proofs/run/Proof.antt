@@ -7,10 +7,10 @@ use borrow.Author.Tests.{eq-eqb}
 use Rattle.ledger.specs.Call.{load}
 use Rattle.ledger.specs.Refusal.{refusalOf}
 use Rattle.ledger.specs.laws.Accepted.{Loads, load-accepted}
-use Rattle.record.specs.Record.{acceptedOf, afterOf, afterOfUnder, fresh, loadedRecord}
+use Rattle.record.specs.Record.{acceptedOfUnder, afterOf, afterOfUnder, fresh, loadedRecord}
 use Rattle.record.specs.RunDone.{Runnable}
 use Rattle.record.specs.Run.{runFrom}
-use Rattle.run.specs.Run.{runOf}
+use Rattle.run.specs.Run.{runAfter}
 use Rattle.run.proofs.run.Statement.{statement}
 use Rattle.run.proofs.run.Tie as tie
 
@@ -26,7 +26,7 @@ module _ (c : tie.After-load) where
   is-loaded = c .load .ensures .leaves ∙ ap (λ r. afterOf r (load (start .args .n) (start .args .numbers .now))) (c .before .new .ensures .is)
 
   runnable : Runnable (c .load .result .next) (start .args .limit) (start .args .tolerance)
-  unfolding afterOfUnder acceptedOf loadedRecord fresh
+  unfolding afterOfUnder acceptedOfUnder loadedRecord fresh
   runnable =
       let taken = eq-eqb (refusalOf 0 0 (load (start .args .n) (start .args .numbers .now))) 0 (start .pre .matrix) in
       record {
@@ -38,7 +38,7 @@ module _ (c : tie.After-load) where
       }
 
 returns : tie.Need-returns
-unfolding runOf
+unfolding runAfter
 returns c =
     let s = start (c .before .before) in
     record {

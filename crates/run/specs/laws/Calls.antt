@@ -6,23 +6,29 @@ use Prim.Native.Nat.{ℕ, zero, suc, _+_, _-_, _*_, _/_, _<_, _≤_}
 use native.Mathlib.Nat.{add-zero, zero-add}
 use native.Mathlib.Omega.{arith}
 use lib.IntN.{ℤ}
-use lib.ListN.{length}
+use lib.ListN.{length, take}
 use Rattle.ledger.specs.laws.Accepted as given
 use Rattle.ledger.specs.declared.Order.the-variants.{Cyclic}
-use Rattle.ledger.specs.Call.{Call, axis, load, loosePair, sweep}
+use Rattle.ledger.specs.Call.{Call, axis, load, loadSamples, loosePair, sweep}
 use Rattle.ledger.specs.laws.Cyclic.{cyclic-length}
-use Rattle.limits.specs.Limits.{toleranceLimit, mostSweeps}
+use Rattle.limits.specs.Limits.{entryLimit, toleranceLimit, mostSweeps}
 use Rattle.ledger.specs.Pairs.{cyclic}
 use Rattle.ledger.specs.Refusal.{refusalOf}
 use Rattle.record.specs.laws.Accepted.{after-accepted, loose-pair-taken, sweep-taken, turns-suffice}
 use Rattle.record.specs.laws.Loading.{load-refusal-alone}
-use Rattle.record.specs.Record.{acceptedOf, after, afterFrom, afterFromUnder, afterOf, fresh, loadedRecord, sweptOf, workOf, workedOf}
+use Rattle.record.specs.Record.{acceptedOf, acceptedOfUnder, after, afterFrom, afterFromUnder, afterOf, fresh, loadedRecord, samplesRecord}
+use Rattle.record.specs.Record.{sweptOf, workOf, workedOf}
 use Rattle.record.specs.declared.Record.{Record}
 use Rattle.record.specs.laws.Turning.{works-grow}
 use Rattle.run.specs.laws.Course.{Course, settles, is-still, is-spent, sweeps-on, course}
 use Rattle.record.specs.declared.run.Run.{Run}
-use Rattle.run.specs.Run.{runOf}
-use Rattle.run.specs.Run.{Allowed}
+use Rattle.readings.specs.Refusal.{samplesRefusal}
+use Rattle.readings.specs.Samples.{samples}
+use Rattle.readings.specs.laws.Refusal.{are-readings, two-channels}
+use Rattle.scatter.specs.Table.{scatter, shift, tableFromUnder, tableOf, tableUnder}
+use Rattle.scatter.specs.laws.Entries.{table-entries}
+use Rattle.record.specs.Run.{runFrom}
+use Rattle.run.specs.Run.{Allowed, runAfter, tableRun}
 use Rattle.run.specs.Calls.{rounds, callsOf}
 
 -- axis i, axis i + 1, .., `count` of them
@@ -36,10 +42,10 @@ NoneRefused r [] = Unit
 NoneRefused r (call ∷ calls) = (refusalOf (r .n) (r .m) call ≡ 0) × NoneRefused (afterOf r call) calls
 
 -- the calls of a run and of its report's A lines, 'for i = 1 to n'
-pub record AsCalls (n : ℕ) (numbers : List ℤ) (t : ℕ) (z : Run) : Type 0 where
-  pub accepted : NoneRefused fresh (callsOf n numbers t (z .sweeps) ++ axesFrom 1 n)
-  pub leaves : after (callsOf n numbers t (z .sweeps)) ≡ z .last
-  pub axes-leave : after (callsOf n numbers t (z .sweeps) ++ axesFrom 1 n) ≡ z .last
+pub record AsCalls (first : Call) (n t : ℕ) (z : Run) : Type 0 where
+  pub accepted : NoneRefused fresh (callsOf first t (z .sweeps) ++ axesFrom 1 n)
+  pub leaves : after (callsOf first t (z .sweeps)) ≡ z .last
+  pub axes-leave : after (callsOf first t (z .sweeps) ++ axesFrom 1 n) ≡ z .last
   pub channels : z .last .n ≡ n
   pub turns : z .last .m ≤ z .sweeps * (n * (n - 1) / 2)
 
@@ -57,7 +63,7 @@ none-refused-++ r (call ∷ xs) ys h g = (h .0, none-refused-++ (afterOf r call)
 -- the axes
 module _ (r : Record) (h : 1 ≤ r .n) where
   axis-leaves : (i : ℕ) → refusalOf (r .n) (r .m) (axis i) ≡ 0 → afterOf r (axis i) ≡ r
-  unfolding acceptedOf
+  unfolding acceptedOfUnder
   axis-leaves i e = after-accepted r (axis i) e
 
   axes-accepted : (i count : ℕ) → 1 ≤ i → i + count ≤ r .n + 1 → NoneRefused r (axesFrom i count) × (afterFrom r (axesFrom i count) ≡ r)
@@ -75,14 +81,14 @@ module _ (n t : ℕ) (low : 1 ≤ n) (high : n ≤ 8) (h : t ≤ toleranceLimit)
     turns : r .m ≤ sweeps * (n * (n - 1) / 2)
 
   loose-leaves : (r : Record) → r .n ≡ n → (refusalOf (r .n) (r .m) (loosePair t) ≡ 0) × (afterOf r (loosePair t) ≡ r)
-  unfolding acceptedOf
+  unfolding acceptedOfUnder
   loose-leaves r e =
       let a = loose-pair-taken (r .n) (r .m) (omega (arith, e)) t h in
       (a, after-accepted r (loosePair t) a)
 
   sweep-leaves : (sweeps : ℕ) (r : Record) → Swept sweeps r → sweeps < mostSweeps →
       (refusalOf (r .n) (r .m) sweep ≡ 0) × Swept (suc sweeps) (afterOf r sweep)
-  unfolding acceptedOf sweptOf workedOf workOf
+  unfolding acceptedOfUnder sweptOf workedOf workOf
   sweep-leaves sweeps r s l = (a, rw (after-accepted r sweep a) (record { channels = s .channels; turns = grown }))
     where
       a : refusalOf (r .n) (r .m) sweep ≡ 0
@@ -132,32 +138,37 @@ module _ (n t : ℕ) (low : 1 ≤ n) (high : n ≤ 8) (h : t ≤ toleranceLimit)
         swept = on .swept;
       }
 
-module _ (n : ℕ) (numbers : List ℤ) (limit t : ℕ) (a : Allowed n numbers limit t) where
-  matrix-loads : given.Loads n numbers
-  matrix-loads = given.load-accepted 0 0 n numbers (a .matrix)
+-- a load of n channels that is not refused, a sweep limit of at most 16, a tolerance within its range
+pub record Begins (first : Call) (n limit t : ℕ) : Type 0 where
+  pub low : 2 ≤ n
+  pub high : n ≤ 8
+  pub taken : refusalOf (fresh .n) (fresh .m) first ≡ 0
+  pub channels : acceptedOf fresh first .n ≡ n
+  pub unturned : acceptedOf fresh first .m ≡ 0
+  pub sweeps : limit ≤ mostSweeps
+  pub tolerance : t ≤ toleranceLimit
 
-  low : 1 ≤ n
-  low = omega (arith, matrix-loads .low)
+module _ (first : Call) (n limit t : ℕ) (b : Begins first n limit t) where
+  some : 1 ≤ n
+  some = omega (arith, b .low)
 
   loaded : Record
-  loaded = afterOf fresh (load n numbers)
+  loaded = afterOf fresh first
 
-  load-taken : refusalOf (fresh .n) (fresh .m) (load n numbers) ≡ 0
-  load-taken = load-refusal-alone (fresh .n) (fresh .m) n numbers ∙ a .matrix
+  loaded-swept : Swept n t some (b .high) (b .tolerance) 0 loaded
+  unfolding loaded
+  loaded-swept =
+      rw (after-accepted fresh first (b .taken)) (record { channels = b .channels; turns = omega (arith, b .unturned) })
 
-  loaded-swept : Swept n t low (matrix-loads .high) (a .tolerance) 0 loaded
-  unfolding loaded acceptedOf loadedRecord
-  loaded-swept = rw (after-accepted fresh (load n numbers) load-taken) (record { channels = refl; turns = omega arith })
+  run-rounds : Rounds n t some (b .high) (b .tolerance) 0 loaded (runAfter first limit t)
+  unfolding runAfter loaded
+  run-rounds = course-rounds n t some (b .high) (b .tolerance) (course t limit 0 false loaded) loaded-swept (omega (arith, b .sweeps))
 
-  run-rounds : Rounds n t low (matrix-loads .high) (a .tolerance) 0 loaded (runOf n numbers limit t)
-  unfolding runOf loaded
-  run-rounds = course-rounds n t low (matrix-loads .high) (a .tolerance) (course t limit 0 false loaded) loaded-swept (omega (arith, a .sweeps))
-
-  pub run-calls : AsCalls n numbers t (runOf n numbers limit t)
+  pub run-calls : AsCalls first n t (runAfter first limit t)
   unfolding callsOf after afterFromUnder NoneRefused loaded
   run-calls =
       record {
-        accepted = none-refused-++ fresh calls (axesFrom 1 n) (load-taken, taken) (rw leaves (axes .0));
+        accepted = none-refused-++ fresh calls (axesFrom 1 n) (b .taken, taken) (rw leaves (axes .0));
         leaves = leaves;
         axes-leave = after-++ fresh calls (axesFrom 1 n) ∙ ap (λ r. afterFrom r (axesFrom 1 n)) leaves ∙ axes .1;
         channels = run-rounds .swept .channels;
@@ -165,10 +176,10 @@ module _ (n : ℕ) (numbers : List ℤ) (limit t : ℕ) (a : Allowed n numbers l
       }
     where
       z : Run
-      z = runOf n numbers limit t
+      z = runAfter first limit t
 
       calls : List Call
-      calls = callsOf n numbers t (z .sweeps)
+      calls = callsOf first t (z .sweeps)
 
       same : z .sweeps ≡ run-rounds .more
       same = run-rounds .counted ∙ zero-add (run-rounds .more)
@@ -180,4 +191,45 @@ module _ (n : ℕ) (numbers : List ℤ) (limit t : ℕ) (a : Allowed n numbers l
       leaves = ap (λ k. afterFrom loaded (rounds t k)) same ∙ run-rounds .leaves
 
       axes : NoneRefused (z .last) (axesFrom 1 n) × (afterFrom (z .last) (axesFrom 1 n) ≡ z .last)
-      axes = axes-accepted (z .last) (omega (arith, low, run-rounds .swept .channels)) 1 n (omega arith) (omega (arith, run-rounds .swept .channels))
+      axes = axes-accepted (z .last) (omega (arith, some, run-rounds .swept .channels)) 1 n (omega arith) (omega (arith, run-rounds .swept .channels))
+
+-- a load of a matrix, and of samples
+pub matrix-begins : (n : ℕ) (numbers : List ℤ) (limit t : ℕ) → Allowed n numbers limit t → Begins (load n numbers) n limit t
+unfolding acceptedOfUnder loadedRecord
+matrix-begins n numbers limit t a =
+    let l = given.load-accepted 0 0 n numbers (a .matrix) in
+    record {
+      low = l .low;
+      high = l .high;
+      taken = load-refusal-alone (fresh .n) (fresh .m) n numbers ∙ a .matrix;
+      channels = refl;
+      unturned = refl;
+      sweeps = a .sweeps;
+      tolerance = a .tolerance;
+    }
+
+pub samples-begin : (n : ℕ) (dilutions counts : List ℕ) (limit t : ℕ) → samplesRefusal n dilutions counts ≡ 0 → limit ≤ mostSweeps →
+    t ≤ toleranceLimit → Begins (loadSamples n dilutions counts) n limit t
+unfolding acceptedOfUnder loadedRecord samplesRecord
+samples-begin n dilutions counts limit t e sweeps tolerance =
+    record {
+      low = two-channels n dilutions counts e;
+      high = are-readings n dilutions counts e .channels;
+      taken = given.samples-alone (fresh .n) (fresh .m) n dilutions counts ∙ e;
+      channels = refl;
+      unturned = refl;
+      sweeps = sweeps;
+      tolerance = tolerance;
+    }
+
+-- the run of a table is that of the samples that it is made from
+pub table-run-is : (n : ℕ) (dilutions counts : List ℕ) (limit t : ℕ) → samplesRefusal n dilutions counts ≡ 0 →
+    (let table = tableOf n (samples n dilutions counts) in
+    tableRun n (take (n * n) (table .entries)) (table .e) limit t ≡ runAfter (loadSamples n dilutions counts) limit t)
+unfolding tableRun runAfter acceptedOfUnder samplesRecord tableUnder tableFromUnder
+table-run-is n dilutions counts limit t e =
+    let ss = samples n dilutions counts in
+    let taken = given.samples-alone (fresh .n) (fresh .m) n dilutions counts ∙ e in
+    ap (runFrom limit 0 false t)
+    (ap (λ l. loadedRecord fresh n l (shift (scatter n ss))) (table-entries n ss entryLimit)
+    ∙ sym (after-accepted fresh (loadSamples n dilutions counts) taken))

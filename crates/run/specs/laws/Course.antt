@@ -6,14 +6,14 @@ use Prim.Native.Nat.{ℕ, zero, suc, _+_, _≤_}
 use native.Mathlib.Nat.{add-suc, suc-add, zero-add}
 use native.Mathlib.Omega.{arith}
 use lib.IntN.{ℤ}
-use Rattle.ledger.specs.Call.{load, sweep, loosePair}
+use Rattle.ledger.specs.Call.{Call, sweep, loosePair}
 use Rattle.record.specs.laws.After.{after-kept, fresh-kept}
 use Rattle.record.specs.Kept.{Kept}
-use Rattle.record.specs.Record.{afterOf, answerOf, fresh}
+use Rattle.record.specs.Record.{afterOf, answerOf, fresh, loadedRecord}
 use Rattle.record.specs.declared.Record.{Record}
 use Rattle.record.specs.Run.{noPair, noTurn, runFrom, stop, tried}
 use Rattle.record.specs.declared.run.Run.{Run}
-use Rattle.run.specs.Run.{runOf}
+use Rattle.run.specs.Run.{runAfter, tableRun}
 use Rattle.record.specs.declared.run.Outcome.{Outcome}
 use Rattle.record.specs.declared.run.Outcome.the-variants.{Settled, Still, Spent}
 
@@ -67,9 +67,15 @@ course-ends (is-spent e) h = record { within = omega arith; says = (e, omega ari
 course-ends {t} {left} {sweeps} {r = r} {z = z} (sweeps-on {left = later} e c) h =
     rw (add-suc sweeps later, ← suc-add sweeps later) (course-ends c (λ i. (omega arith, record { before = r; left = refl; idle = i })))
 
-pub run-ends : (n : ℕ) (numbers : List ℤ) (limit t : ℕ) → Ends limit t (runOf n numbers limit t)
-unfolding runOf
-run-ends n numbers limit t = rw zero-add at (course-ends (course t limit 0 false (afterOf fresh (load n numbers))) (λ e. absurd (true≢false (sym e))))
+pub run-ends : (first : Call) (limit t : ℕ) → Ends limit t (runAfter first limit t)
+unfolding runAfter
+run-ends first limit t = rw zero-add at (course-ends (course t limit 0 false (afterOf fresh first)) (λ e. absurd (true≢false (sym e))))
+
+-- and of a table
+pub table-ends : (n : ℕ) (numbers : List ℤ) (e limit t : ℕ) → Ends limit t (tableRun n numbers e limit t)
+unfolding tableRun
+table-ends n numbers e limit t =
+    rw zero-add at (course-ends (course t limit 0 false (loadedRecord fresh n numbers e)) (λ i. absurd (true≢false (sym i))))
 
 pub course-kept : {t left sweeps : ℕ} {idle : Bool} {r : Record} {z : Run} → Course t left sweeps idle r z → Kept r → Kept (z .last)
 course-kept (settles e) k = k
@@ -77,6 +83,6 @@ course-kept (is-still e) k = k
 course-kept (is-spent e) k = k
 course-kept (sweeps-on e c) k = course-kept c (after-kept _ sweep k)
 
-pub run-kept : (n : ℕ) (numbers : List ℤ) (limit t : ℕ) → Kept (runOf n numbers limit t .last)
-unfolding runOf
-run-kept n numbers limit t = course-kept (course t limit 0 false _) (after-kept fresh (load n numbers) fresh-kept)
+pub run-kept : (first : Call) (limit t : ℕ) → Kept (runAfter first limit t .last)
+unfolding runAfter
+run-kept first limit t = course-kept (course t limit 0 false _) (after-kept fresh first fresh-kept)

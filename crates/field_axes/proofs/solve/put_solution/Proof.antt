@@ -9,9 +9,10 @@ use mir.Facts.{toZ-ofZ, toZ-pos}
 use borrow.Author.Needs.{needs}
 use Rattle.integer.specs.laws.Word.{held}
 use Rattle.report.specs.laws.AxisNumbers.{length-axes-row}
-use Rattle.run.specs.laws.Calls.{run-calls}
+use Rattle.run.specs.laws.Calls.{matrix-begins, run-calls}
 use Rattle.run.specs.laws.Course.{run-ends, run-kept}
 use Rattle.text.specs.laws.Put.{put-then, same-size}
+use Rattle.ledger.specs.Call.{load}
 use Rattle.run.specs.Run.{runOf}
 use Rattle.field_axes.specs.Solution.{solution, solutionOf}
 use Rattle.field_axes.specs.laws.Solvable.{channels}
@@ -23,7 +24,7 @@ sweeps : (c : tie.After-run) → c .run .result .sweeps < 2 ^ 63
 sweeps c =
     let s = c .before in
     let a = s .args in
-    rw (c .run .ensures .is) (omega (arith, run-ends (a .n) (a .numbers .now) (a .limit) (a .tolerance) .within, s .pre .allowed .sweeps))
+    rw (c .run .ensures .is) (omega (arith, run-ends (load (a .n) (a .numbers .now)) (a .limit) (a .tolerance) .within, s .pre .allowed .sweeps))
 
 turns : (c : tie.After-run) (m : ℕ) → m ≡ c .run .result .last .m → m < 2 ^ 63
 turns c m made = rw made (omega (arith, c .run .ensures .keeps .turns))
@@ -50,7 +51,8 @@ returns c =
     let s = run .before in
     let a = s .args in
     let f : SFits w64 (outcome .outcome-number .result) = search needs in
-    let as-calls = run-calls (a .n) (a .numbers .now) (a .limit) (a .tolerance) (s .pre .allowed) in
+    let begins = matrix-begins (a .n) (a .numbers .now) (a .limit) (a .tolerance) (s .pre .allowed) in
+    let as-calls = run-calls (load (a .n) (a .numbers .now)) (a .n) (a .limit) (a .tolerance) begins in
     let axes-are = used-axes (a .n) (runOf (a .n) (a .numbers .now) (a .limit) (a .tolerance) .last) (as-calls .channels)
     (channels _ _ _ _ _ (s .pre)) (a .n) (omega arith) in
     put-then

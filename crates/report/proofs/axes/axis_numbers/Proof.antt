@@ -25,12 +25,12 @@ module _ (c : tie.After-axis) where
 
   answer-is : c .axis .result .answer .value ≡
       Axis (keptEntry (start .args .r .a) (start .args .i - 1) (start .args .i - 1))
-      (errorOf (start .args .r .n) (keptEntry (start .args .r .a)) (start .args .r .m) (start .args .i - 1))
+      (errorOf (start .args .r .n) (start .args .r .e) (keptEntry (start .args .r .a)) (start .args .r .m) (start .args .i - 1))
   answer-is = c .axis .ensures .answers ∙ axis-answer (start .args .r) (start .args .i) (start .pre .1) (start .pre .2)
 
   -- the entry and the error that stand in the answer
   module _ (entry : ℤ) (error : ℕ) (e : c .axis .result .answer .value ≡ Axis entry error) where
-    error-is : error ≡ errorOf (start .args .r .n) (keptEntry (start .args .r .a)) (start .args .r .m) (start .args .i - 1)
+    error-is : error ≡ errorOf (start .args .r .n) (start .args .r .e) (keptEntry (start .args .r .a)) (start .args .r .m) (start .args .i - 1)
     error-is = let same = sym e ∙ answer-is in cc
 
     small : error < 2 ^ 63
