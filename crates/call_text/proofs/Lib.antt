@@ -4,3 +4,4 @@ mod Digits
 mod Lines
 mod Asking
 mod Lists
+mod Readings

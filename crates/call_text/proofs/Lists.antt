@@ -1,26 +1,26 @@
 -- A line's call by its fields as they were read, and where the call's list stands in the array.
-use Prim.Native.Nat.{ℕ, zero, suc, _+_, _-_, _≤_}
+use Prim.Native.Nat.{ℕ, suc, _+_, _-_, _≤_}
 use mathlib.Core.Path.{_≡_, refl, sym, ap, _∙_}
 use mathlib.Core.Bool.{Bool, true, false, cond}
-use mathlib.Core.List.{List, [], _∷_, _++_}
+use mathlib.Core.List.{List, [], _∷_, _++_, append-assoc, map, map-append}
 use mathlib.Core.Option.{Option, none, some}
 use native.Mathlib.Omega.{arith}
 use borrow.Author.Tests.{leb-true}
 use lib.Dec.{eqb, leb}
-use lib.IntN.{ℤ}
-use lib.ListN.{length, take, drop, length-append}
-use lib.Seq.{take-all, take-append-seam}
+use lib.IntN.{ℤ, pos, negsuc}
+use lib.ListN.{length, take, drop, length-append, length-map, take-append-drop}
+use lib.Seq.{drop-append-seam, drop-drop, take-all, take-append-seam}
 use Rattle.text.specs.Parts.{before, split}
-use Rattle.ledger.specs.Call.{Call, loosePair, axis}
+use Rattle.ledger.specs.Call.{Call, load, loadSamples, loosePair, axis}
 use Rattle.ledger.specs.declared.Order.{Order}
 use Rattle.ledger.specs.declared.Order.the-variants.{Cyclic, Tournament}
-use Rattle.call_text.specs.Calls.{argument, callBy, callOfFields, callWithin, loadBy, oneBy, sweepBy, turnBy, withNumbers}
+use Rattle.call_text.specs.Calls.{argument, callBy, callOfFields, callWithin, loadBy, oneBy, reading, samplesBy, sweepBy, turnBy, withNumbers}
 use Rattle.call_text.specs.Numbers.{eachNumber, signedOf}
-use Rattle.call_text.specs.Requests.{Asks, askedFor, leading, leftBy, leftIn, listOf, onward, requested}
+use Rattle.call_text.specs.Requests.{Asks, Placed, askedFor, leading, leftBy, leftIn, onward, part, requestCall}
 use Rattle.call_text.specs.inner.Read.{FieldsRead, counted, fieldsBy}
 use Rattle.call_text.specs.declared.line.Fields.{Fields}
 use Rattle.call_text.specs.declared.line.Fields.the-variants.{Are, No}
-use Rattle.call_text.specs.declared.request.Asked.{Asked}
+use Rattle.call_text.specs.declared.request.Request.{Request}
 use Rattle.call_text.specs.declared.request.Request.the-variants.{NoCall}
 
 -- where every field is a number, all of them lead
@@ -82,35 +82,82 @@ no-call most ((t ∷ []) ∷ fs) e = by (leb (length fs) most) (eachNumber fs) e
     by true none e = refl
     by true (some ys) e = absurd (let z : _≡_ {A = ℕ} 0 1 = cc in omega arith)
 
--- the list of a call stands where the request says
+-- a request with the numbers of its line is the line's call, and its places are among them
 abbrev Stands : List ℤ → List ℤ → Option Call → Type 0
 Stands ys rest o =
-    (take (askedFor o .to - askedFor o .from) (drop (askedFor o .from) (ys ++ rest)) ≡ listOf o) × (askedFor o .from ≤ askedFor o .to)
-    × (askedFor o .to ≤ length (ys ++ rest))
+    (requestCall (askedFor o) (ys ++ rest) (map reading (ys ++ rest)) ≡ o) × Placed (length (ys ++ rest)) (askedFor o)
+
+-- two lists that follow two numbers
+module _ (us vs ws : List ℕ) (a b : ℕ) where
+  first-part : part 2 (2 + length us) (a ∷ b ∷ (us ++ vs) ++ ws) ≡ us
+  first-part =
+      let z : 2 + length us - 2 ≡ length us = omega arith in
+      rw (z, append-assoc) (take-append-seam us (vs ++ ws))
+
+  second-part : part (2 + length us) (2 + length us + length vs) (a ∷ b ∷ (us ++ vs) ++ ws) ≡ vs
+  second-part =
+      let z : 2 + length us + length vs - (2 + length us) ≡ length vs = omega arith in
+      rw (z, append-assoc, ← drop-drop (length us) 2, drop-append-seam) (take-append-seam vs ws)
 
 module _ (rest : List ℤ) where
   none-stands : (ys : List ℤ) → Stands ys rest none
-  unfolding askedFor listOf requested
-  none-stands ys = (refl, omega arith, omega arith)
+  unfolding askedFor requestCall
+  none-stands ys = (refl, tt)
 
   load-stands : (ys : List ℤ) → Stands ys rest (loadBy ys)
-  unfolding askedFor listOf loadBy
+  unfolding askedFor requestCall loadBy
   load-stands [] = none-stands []
   load-stands (n ∷ ys) =
-      let z : suc (length ys) - 1 ≡ length ys = omega arith in
-      (rw z (take-append-seam ys rest), omega arith, rw length-append (omega arith))
+      let z : 1 + length ys - 1 ≡ length ys = omega arith in
+      (rw z (ap (λ (xs : List ℤ). some (load (argument n) xs)) (take-append-seam ys rest)), (omega arith, rw length-append (omega arith)))
+
+  -- k samples, where as many dilutions and the counts follow
+  module _ (n : ℤ) (k : ℕ) (ys : List ℤ) where
+    abbrev us : List ℕ
+    us = map reading (take k ys)
+
+    abbrev vs : List ℕ
+    vs = map reading (drop k ys)
+
+    joined : map reading (n ∷ pos k ∷ ys ++ rest) ≡ reading n ∷ reading (pos k) ∷ (us ++ vs) ++ map reading rest
+    joined =
+        let a : us ++ vs ≡ map reading ys = sym (map-append reading (take k ys) (drop k ys)) ∙ rw (take-append-drop k ys) in
+        rw (map-append, a)
+
+    sizes : length us + length vs ≡ length ys
+    sizes = rw (length-map (take k ys) reading, length-map (drop k ys) reading, ← length-append (take k ys) (drop k ys), take-append-drop k ys)
+
+    some-stands : Stands (n ∷ pos k ∷ ys) rest (some (loadSamples (argument n) us vs))
+    unfolding askedFor requestCall
+    some-stands = (
+      ap (λ (xs : List ℕ). requestCall (askedFor (some (loadSamples (argument n) us vs))) (n ∷ pos k ∷ ys ++ rest) xs) joined
+          ∙ (λ i. some (loadSamples (argument n) (first-part us vs (map reading rest) (reading n) (reading (pos k)) i)
+          (second-part us vs (map reading rest) (reading n) (reading (pos k)) i))),
+      (omega arith, omega arith, rw length-append (omega (arith, sizes))),
+    )
+
+  samples-stands : (ys : List ℤ) → Stands ys rest (samplesBy ys)
+  unfolding samplesBy
+  samples-stands [] = none-stands []
+  samples-stands (n ∷ []) = none-stands (n ∷ [])
+  samples-stands (n ∷ negsuc k ∷ ys) = none-stands (n ∷ negsuc k ∷ ys)
+  samples-stands (n ∷ pos k ∷ ys) = by (leb k (length ys))
+    where
+      by : (b : Bool) → Stands (n ∷ pos k ∷ ys) rest (cond b (some (loadSamples (argument n) (us n k ys) (vs n k ys))) none)
+      by true = some-stands n k ys
+      by false = none-stands (n ∷ pos k ∷ ys)
 
   turn-stands : (ys : List ℤ) → Stands ys rest (turnBy ys)
-  unfolding askedFor listOf turnBy requested
+  unfolding askedFor requestCall turnBy
   turn-stands [] = none-stands []
   turn-stands (x ∷ []) = none-stands (x ∷ [])
-  turn-stands (x ∷ y ∷ []) = (refl, omega arith, omega arith)
+  turn-stands (x ∷ y ∷ []) = (refl, tt)
   turn-stands (x ∷ y ∷ z ∷ ys) = none-stands (x ∷ y ∷ z ∷ ys)
 
   sweep-stands : (order : Order) (ys : List ℤ) → Stands ys rest (sweepBy order ys)
-  unfolding askedFor listOf sweepBy requested
-  sweep-stands Cyclic [] = (refl, omega arith, omega arith)
-  sweep-stands Tournament [] = (refl, omega arith, omega arith)
+  unfolding askedFor requestCall sweepBy
+  sweep-stands Cyclic [] = (refl, tt)
+  sweep-stands Tournament [] = (refl, tt)
   sweep-stands order (x ∷ ys) = none-stands (x ∷ ys)
 
   one-stands : (call : ℕ → Call) → ((ys : List ℤ) (x : ℕ) → Stands ys rest (some (call x))) → (ys : List ℤ) → Stands ys rest (oneBy call ys)
@@ -120,12 +167,12 @@ module _ (rest : List ℤ) where
   one-stands call h (x ∷ y ∷ ys) = none-stands (x ∷ y ∷ ys)
 
   pair-stands : (ys : List ℤ) (x : ℕ) → Stands ys rest (some (loosePair x))
-  unfolding askedFor listOf requested
-  pair-stands ys x = (refl, omega arith, omega arith)
+  unfolding askedFor requestCall
+  pair-stands ys x = (refl, tt)
 
   axis-stands : (ys : List ℤ) (x : ℕ) → Stands ys rest (some (axis x))
-  unfolding askedFor listOf requested
-  axis-stands ys x = (refl, omega arith, omega arith)
+  unfolding askedFor requestCall
+  axis-stands ys x = (refl, tt)
 
   either : (ys : List ℤ) (b : Bool) (o p : Option Call) → Stands ys rest o → Stands ys rest p → Stands ys rest (cond b o p)
   either ys true o p h k = h
@@ -134,24 +181,19 @@ module _ (rest : List ℤ) where
   pub stands : (tag : ℕ) (ys : List ℤ) → Stands ys rest (callBy tag ys)
   unfolding callBy
   stands tag ys =
-      either ys (eqb tag 76) _ _ (load-stands ys) (either ys (eqb tag 84) _ _ (turn-stands ys) (either ys (eqb tag 87) _ _ (sweep-stands Cyclic ys)
+      either ys (eqb tag 76) _ _ (load-stands ys) (either ys (eqb tag 77) _ _ (samples-stands ys)
+      (either ys (eqb tag 84) _ _ (turn-stands ys) (either ys (eqb tag 87) _ _ (sweep-stands Cyclic ys)
       (either ys (eqb tag 81) _ _ (one-stands loosePair pair-stands ys)
       (either ys (eqb tag 65) _ _ (one-stands axis axis-stands ys)
-      (either ys (eqb tag 79) _ _ (sweep-stands Tournament ys) (none-stands ys))))))
+      (either ys (eqb tag 79) _ _ (sweep-stands Tournament ys) (none-stands ys)))))))
 
 -- the reader's answer, by what was read of the fields
 module _ (line : List ℕ) (entry exit : List ℤ) (z : Fields) (r : FieldsRead line entry exit z) where
-  pub asks-none : z ≡ No → (a : Asked) → a ≡ requested NoCall → Asks line entry exit a
-  unfolding callWithin askedFor listOf requested
-  asks-none e a q =
+  pub asks-none : z ≡ No → Asks line entry exit NoCall
+  unfolding callWithin askedFor requestCall
+  asks-none e =
       let n = no-call (length entry) (split 9 line) (sym (r .is) ∙ e) in
-      record {
-        is = rw (n, q);
-        leaves = r .leaves;
-        list = rw (n, q);
-        ordered = rw q (omega arith);
-        within = rw q (omega arith);
-      }
+      record { is = rw n; leaves = r .leaves; calls = rw n; placed = tt }
 
 -- a line with a tag and numbers
 module _ (line : List ℕ) (entry exit : List ℤ) (tag count : ℕ) (k : Tagged (length entry) (split 9 line) tag count)
@@ -160,7 +202,7 @@ module _ (line : List ℕ) (entry exit : List ℤ) (tag count : ℕ) (k : Tagged
   unfolding leftIn
   parted = l ∙ rw (k .lead, k .size)
 
-  asks-tagged : (a : Asked) → a ≡ askedFor (callBy tag (take count exit)) → Asks line entry exit a
+  asks-tagged : (a : Request) → a ≡ askedFor (callBy tag (take count exit)) → Asks line entry exit a
   unfolding callWithin
   asks-tagged a q =
       let t : take count exit ≡ k .numbers = rw (parted, ← k .size) (take-append-seam (k .numbers) _) in
@@ -169,9 +211,8 @@ module _ (line : List ℕ) (entry exit : List ℤ) (tag count : ℕ) (k : Tagged
       record {
         is = w;
         leaves = l;
-        list = rw (w, k .call, parted) (s .0);
-        ordered = rw (w, k .call) (s .1);
-        within = rw (w, k .call, parted) (s .2);
+        calls = rw (w, k .call, parted) (s .0);
+        placed = rw (w, k .call, parted) (s .1);
       }
 
 module _ (line : List ℕ) (entry exit : List ℤ) (z : Fields) (r : FieldsRead line entry exit z) (tag count : ℕ) (e : z ≡ Are tag count) where
@@ -181,5 +222,5 @@ module _ (line : List ℕ) (entry exit : List ℤ) (z : Fields) (r : FieldsRead 
   pub in-array : count ≤ length exit
   in-array = rw (parted line entry exit tag count known (r .leaves), length-append) (omega (arith, known .size))
 
-  pub asks-some : (a : Asked) → a ≡ askedFor (callBy tag (take count exit)) → Asks line entry exit a
+  pub asks-some : (a : Request) → a ≡ askedFor (callBy tag (take count exit)) → Asks line entry exit a
   asks-some = asks-tagged line entry exit tag count known (r .leaves)

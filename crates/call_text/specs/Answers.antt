@@ -4,20 +4,21 @@ use mathlib.Core.Bool.{true, false}
 use mathlib.Core.List.{List, [], _∷_, _++_, map}
 use lib.IntN.{ℤ, pos}
 use lib.ListN.{length, take, drop, replicate}
-use Rattle.ledger.specs.Call.{Call, load, turn, sweepIn, loosePair, axis}
+use Rattle.ledger.specs.Call.{Call, load, loadSamples, turn, sweepIn, loosePair, axis}
 use Rattle.record.specs.Record.{afterOf, answerOf, axisOf}
 use Rattle.record.specs.declared.Record.{Record}
 use Rattle.text.specs.Decimal.{digits, number}
 use Rattle.record.specs.declared.query.Answer.{Answer}
-use Rattle.record.specs.declared.query.Answer.the-variants.{Loaded, Turned, Swept, TournamentSwept, Pair, NoPair, Axis, Refused}
+use Rattle.record.specs.declared.query.Answer.the-variants.{Loaded, SamplesLoaded, Turned, Swept, TournamentSwept, Pair, NoPair, Axis, Refused}
 use Rattle.text.specs.Line.{line}
 use Rattle.call_text.specs.declared.answer.Printed.{Printed}
 use Rattle.call_text.specs.declared.answer.Told.{Told}
 
--- `L`; `T` and 1 or 0; `W` or `O` and the number of turns; `Q` p q, or `Q` none; `A` a_ii r_i and the n numbers of row i; of a refused call `X`,
--- its number, and the count of refused calls
+-- `L`; `M` and e; `T` and 1 or 0; `W` or `O` and the number of turns; `Q` p q, or `Q` none; `A` a_ii r_i and the n numbers of row i; of a refused
+-- call `X`, its number, and the count of refused calls
 unfoldable pub shownAs : Answer → Told → List ℕ
 shownAs Loaded t = line ((76 ∷ []) ∷ [])
+shownAs (SamplesLoaded e) t = line ((77 ∷ []) ∷ digits e ∷ [])
 shownAs (Turned true) t = line ((84 ∷ []) ∷ digits 1 ∷ [])
 shownAs (Turned false) t = line ((84 ∷ []) ∷ digits 0 ∷ [])
 shownAs (Swept k) t = line ((87 ∷ []) ∷ digits k ∷ [])
@@ -33,6 +34,7 @@ shown t = shownAs (t .answer) t
 -- row i of v, of an axis call
 unfoldable pub rowFor : Record → Call → List ℤ
 rowFor r (load n numbers) = replicate 8 (pos 0)
+rowFor r (loadSamples n dilutions counts) = replicate 8 (pos 0)
 rowFor r (turn p q) = replicate 8 (pos 0)
 rowFor r (sweepIn order) = replicate 8 (pos 0)
 rowFor r (loosePair t) = replicate 8 (pos 0)

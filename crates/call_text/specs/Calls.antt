@@ -1,13 +1,13 @@
 -- The call that a line gives: its tag, then its numbers, fields parted by one tab.
 use Prim.Native.Nat.{ℕ}
 use mathlib.Core.Bool.{cond}
-use mathlib.Core.List.{List, [], _∷_}
+use mathlib.Core.List.{List, [], _∷_, map}
 use mathlib.Core.Option.{Option, none, some}
 use lib.Dec.{eqb, leb}
 use lib.IntN.{ℤ, pos, negsuc}
-use lib.ListN.{length}
+use lib.ListN.{length, take, drop}
 use Rattle.text.specs.Parts.{split}
-use Rattle.ledger.specs.Call.{Call, load, turn, sweepIn, loosePair, axis}
+use Rattle.ledger.specs.Call.{Call, load, loadSamples, turn, sweepIn, loosePair, axis}
 use Rattle.ledger.specs.declared.Order.{Order}
 use Rattle.ledger.specs.declared.Order.the-variants.{Cyclic, Tournament}
 use Rattle.call_text.specs.Numbers.{beyond, eachNumber}
@@ -21,6 +21,22 @@ argument (negsuc x) = beyond
 unfoldable pub loadBy : List ℤ → Option Call
 loadBy [] = none
 loadBy (n ∷ numbers) = some (load (argument n) numbers)
+
+-- README: 'A dilution or a count that is negative or above 4,294,967,295 stands for 4,294,967,295, which is beyond every range'
+abbrev pub mostReading : ℕ
+mostReading = 4_294_967_295
+
+unfoldable pub reading : ℤ → ℕ
+reading (pos x) = cond (leb x mostReading) x mostReading
+reading (negsuc x) = mostReading
+
+-- `M` n k, then k dilutions, then the counts: 'k has no minus', and 'fewer than k numbers after k make the line no call'
+unfoldable pub samplesBy : List ℤ → Option Call
+samplesBy [] = none
+samplesBy (n ∷ []) = none
+samplesBy (n ∷ negsuc k ∷ numbers) = none
+samplesBy (n ∷ pos k ∷ numbers) =
+    cond (leb k (length numbers)) (some (loadSamples (argument n) (map reading (take k numbers)) (map reading (drop k numbers)))) none
 
 -- `T` p q
 unfoldable pub turnBy : List ℤ → Option Call
@@ -40,15 +56,16 @@ oneBy call [] = none
 oneBy call (x ∷ []) = some (call (argument x))
 oneBy call (x ∷ y ∷ xs) = none
 
--- The call of a tag and numbers: 76 is `L`, 84 `T`, 87 `W`, 81 `Q`, 65 `A`, 79 `O`.
+-- The call of a tag and numbers: 76 is `L`, 77 `M`, 84 `T`, 87 `W`, 81 `Q`, 65 `A`, 79 `O`.
 unfoldable pub callBy : ℕ → List ℤ → Option Call
 callBy tag numbers =
     cond (eqb tag 76) (loadBy numbers)
+    (cond (eqb tag 77) (samplesBy numbers)
     (cond (eqb tag 84) (turnBy numbers)
     (cond (eqb tag 87) (sweepBy Cyclic numbers)
     (cond (eqb tag 81) (oneBy loosePair numbers)
     (cond (eqb tag 65) (oneBy axis numbers)
-    (cond (eqb tag 79) (sweepBy Tournament numbers) none)))))
+    (cond (eqb tag 79) (sweepBy Tournament numbers) none))))))
 
 unfoldable pub withNumbers : ℕ → Option (List ℤ) → Option Call
 withNumbers tag none = none

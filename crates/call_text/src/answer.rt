@@ -117,6 +117,7 @@ pub fn answer_line(told: Told) -> Printed
     let row = told.row;
     match answer {
         Answer::Loaded => loaded_line(),
+        Answer::SamplesLoaded(e) => one_number(b'M', e as u64),
         Answer::Turned(made) => {
             if made {
                 one_number(b'T', 1)

@@ -3,4 +3,5 @@ pub mod answer;
 mod field;
 pub mod find;
 mod line;
+pub mod reading;
 pub mod request;

@@ -7,12 +7,23 @@ ghost use Prim.Native.Nat.{_≤_};
 ghost use lib.ListN.{length, take};
 ghost use Rattle.ledger.specs.Call.{axis, loosePair};
 ghost use Rattle.ledger.specs.declared.Order.the-variants.{Cyclic, Tournament};
-ghost use Rattle.call_text.specs.Calls.{argument, callBy, loadBy, oneBy, sweepBy, turnBy};
-ghost use Rattle.call_text.specs.Requests.{Asks, askedFor, requested};
+ghost use Rattle.call_text.specs.Calls.{argument, callBy, loadBy, oneBy, samplesBy, sweepBy, turnBy};
+ghost use Rattle.call_text.specs.Requests.{Asks, askedFor};
 
-// A call with its arguments, but for a load's numbers; or no call.
+// A call with its arguments, or no call. Of a load's list it has the places among the line's numbers: from `from` to before `to`; of samples the
+// dilutions stand before `middle` and the counts from there on.
 pub enum Request {
-    Load(usize),
+    Load {
+        n: usize,
+        from: usize,
+        to: usize,
+    },
+    LoadSamples {
+        n: usize,
+        from: usize,
+        middle: usize,
+        to: usize,
+    },
     Turn(usize, usize),
     Sweep,
     LoosePair(u64),
@@ -21,28 +32,11 @@ pub enum Request {
     TournamentSweep,
 }
 
-// A request, and which of the numbers that were read are its list: from `from` to before `to`.
-pub struct Asked {
-    pub request: Request,
-    pub from: usize,
-    pub to: usize,
-}
-
 // The most numbers of a line.
 pub const NUMBERS: usize = 4096;
 
-fn bare(request: Request) -> Asked
-    ensures { λ z. ⌜ z ≡ requested request ⌝ }
-{
-    Asked {
-        request,
-        from: 0,
-        to: 0,
-    }
-}
-
 // An argument whose range has no negative number: a negative one is out of it.
-fn argument(x: i64) -> u64
+pub(crate) fn argument(x: i64) -> u64
     ensures { λ r. ⌜ r ≡ argument x ⌝ }
 {
     if x < 0 {
@@ -51,76 +45,102 @@ fn argument(x: i64) -> u64
     x as u64
 }
 
-fn load(numbers: &[i64], count: usize) -> Asked
+fn load(numbers: &[i64], count: usize) -> Request
     requires { ⌜ count ≤ length (now numbers) ⌝ }
     ensures { λ z. ⌜ z ≡ askedFor (loadBy (take count (now (numbers .entry)))) ⌝ }
 {
     if count < 1 {
-        return bare(Request::NoCall);
+        return Request::NoCall;
     }
-    Asked {
-        request: Request::Load(argument(numbers[0]) as usize),
+    Request::Load {
+        n: argument(numbers[0]) as usize,
         from: 1,
         to: count,
     }
 }
 
-fn turn(numbers: &[i64], count: usize) -> Asked
+// n and k, the number of samples; then k dilutions, then the counts.
+fn load_samples(numbers: &[i64], count: usize) -> Request
+    requires { ⌜ count ≤ length (now numbers) ⌝ }
+    ensures { λ z. ⌜ z ≡ askedFor (samplesBy (take count (now (numbers .entry)))) ⌝ }
+{
+    if count < 2 {
+        return Request::NoCall;
+    }
+    if numbers[1] < 0 {
+        return Request::NoCall;
+    }
+    let k = argument(numbers[1]) as usize;
+    if count - 2 < k {
+        return Request::NoCall;
+    }
+    Request::LoadSamples {
+        n: argument(numbers[0]) as usize,
+        from: 2,
+        middle: 2 + k,
+        to: count,
+    }
+}
+
+fn turn(numbers: &[i64], count: usize) -> Request
     requires { ⌜ count ≤ length (now numbers) ⌝ }
     ensures { λ z. ⌜ z ≡ askedFor (turnBy (take count (now (numbers .entry)))) ⌝ }
 {
     if count != 2 {
-        return bare(Request::NoCall);
+        return Request::NoCall;
     }
-    bare(Request::Turn(argument(numbers[0]) as usize, argument(numbers[1]) as usize))
+    Request::Turn(argument(numbers[0]) as usize, argument(numbers[1]) as usize)
 }
 
-fn sweep(numbers: &[i64], count: usize) -> Asked
+fn sweep(numbers: &[i64], count: usize) -> Request
     requires { ⌜ count ≤ length (now numbers) ⌝ }
     ensures { λ z. ⌜ z ≡ askedFor (sweepBy Cyclic (take count (now (numbers .entry)))) ⌝ }
 {
     if count != 0 {
-        return bare(Request::NoCall);
+        return Request::NoCall;
     }
-    bare(Request::Sweep)
+    Request::Sweep
 }
 
-fn tournament_sweep(numbers: &[i64], count: usize) -> Asked
+fn tournament_sweep(numbers: &[i64], count: usize) -> Request
     requires { ⌜ count ≤ length (now numbers) ⌝ }
     ensures { λ z. ⌜ z ≡ askedFor (sweepBy Tournament (take count (now (numbers .entry)))) ⌝ }
 {
     if count != 0 {
-        return bare(Request::NoCall);
+        return Request::NoCall;
     }
-    bare(Request::TournamentSweep)
+    Request::TournamentSweep
 }
 
-fn loose_pair(numbers: &[i64], count: usize) -> Asked
+fn loose_pair(numbers: &[i64], count: usize) -> Request
     requires { ⌜ count ≤ length (now numbers) ⌝ }
     ensures { λ z. ⌜ z ≡ askedFor (oneBy loosePair (take count (now (numbers .entry)))) ⌝ }
 {
     if count != 1 {
-        return bare(Request::NoCall);
+        return Request::NoCall;
     }
-    bare(Request::LoosePair(argument(numbers[0])))
+    Request::LoosePair(argument(numbers[0]))
 }
 
-fn axis(numbers: &[i64], count: usize) -> Asked
+fn axis(numbers: &[i64], count: usize) -> Request
     requires { ⌜ count ≤ length (now numbers) ⌝ }
     ensures { λ z. ⌜ z ≡ askedFor (oneBy axis (take count (now (numbers .entry)))) ⌝ }
 {
     if count != 1 {
-        return bare(Request::NoCall);
+        return Request::NoCall;
     }
-    bare(Request::Axis(argument(numbers[0]) as usize))
+    Request::Axis(argument(numbers[0]) as usize)
 }
 
-fn by_tag(tag: u8, numbers: &[i64], count: usize) -> Asked
+fn by_tag(tag: u8, numbers: &[i64], count: usize) -> Request
     requires { ⌜ count ≤ length (now numbers) ⌝ }
     ensures { λ z. ⌜ z ≡ askedFor (callBy tag (take count (now (numbers .entry)))) ⌝ }
 {
     if tag == b'L' {
         return load(numbers, count);
+    }
+    if tag == b'M' {
+        return load_samples(numbers, count);
     }
     if tag == b'T' {
         return turn(numbers, count);
@@ -137,15 +157,15 @@ fn by_tag(tag: u8, numbers: &[i64], count: usize) -> Asked
     if tag == b'O' {
         return tournament_sweep(numbers, count);
     }
-    bare(Request::NoCall)
+    Request::NoCall
 }
 
 // The request of a line, whose numbers are in the lent array then. A line has at most as many as the array has places.
-pub fn read_line(line: &[u8], numbers: &mut [i64]) -> Asked
+pub fn read_line(line: &[u8], numbers: &mut [i64]) -> Request
     ensures { λ z. ⌜ Asks (now (line .entry)) (now (numbers .entry)) (now (numbers .exit)) z ⌝ }
 {
     let Fields::Are { tag, count } = read_fields(line, numbers) else {
-        return bare(Request::NoCall);
+        return Request::NoCall;
     };
     by_tag(tag, numbers, count)
 }

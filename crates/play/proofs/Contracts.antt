@@ -1,14 +1,13 @@
 -- The contracts of functions whose first parameter is a lent record, as their callers cite them.
 use Prim.Native.Nat.{ℕ}
 use mathlib.Core.List.{[], _∷_, List}
-use denote.Builtin.{bool, i64, u8, usize, SliceRefOf}
-use denote.Exit.{yes}
+use lib.ListN.{length}
+use denote.Builtin.{bool, i64, u8, u32, usize, SliceRefOf}
 use denote.Ref.{now}
 use denote.Signature.{Slot, plain, typesAt}
 use denote.RattleType.{Denots}
-use denote.Triple.End.{Kepts}
 use contract.Lifetimes.{Lfts}
-use Rattle.ledger.specs.Call.{load, loosePair, sweep, tournamentSweep, turn}
+use Rattle.ledger.specs.Call.{load, loadSamples, sweep, tournamentSweep, turn}
 use Rattle.record.specs.Done.{AxisDone, Done, LooseDone}
 use Rattle.record.specs.Kept.{Kept}
 use Rattle.record.specs.declared.AxisAnswer.{AxisAnswer}
@@ -17,7 +16,8 @@ use Rattle.record.specs.declared.query.Answer.{Answer}
 use Rattle.call_text.proofs.request.Request as Req
 use Rattle.play.specs.Steps.{Reached, Steps}
 use Rattle.play.specs.declared.step.Stepped.{Stepped}
-use Rattle.play.specs.inner.Calls.{Answers, requestCall}
+use Rattle.call_text.specs.Requests.{Placed, requestCall}
+use Rattle.play.specs.inner.Calls.{Answers}
 use Rattle.play.proofs.cursor.Cursor as Cur
 
 abbrev pub word : {n : ℕ} → Slot n
@@ -36,6 +36,13 @@ load-slots = word ∷ integers ∷ []
 
 abbrev pub load-done : (κs : Lfts 2) → Denots (typesAt load-slots κs) → Record → Answer → Record → Type 0
 load-done κs a r z next = Done r (load (a .0) (now (a .1 .0))) z next
+
+-- two slices of readings, at the second lifetime and at the third
+abbrev pub samples-slots : List (Slot 3)
+samples-slots = word ∷ SliceRefOf (1 ∷ []) tt (plain (λ κs. u32)) (λ κs. tt) ∷ SliceRefOf (2 ∷ []) tt (plain (λ κs. u32)) (λ κs. tt) ∷ []
+
+abbrev pub samples-done : (κs : Lfts 3) → Denots (typesAt samples-slots κs) → Record → Answer → Record → Type 0
+samples-done κs a r z next = Done r (loadSamples (a .0) (now (a .1 .0)) (now (a .1 .1 .0))) z next
 
 abbrev pub turn-slots : List (Slot 1)
 turn-slots = word ∷ word ∷ []
@@ -61,12 +68,21 @@ pair-done κs a r z next = LooseDone r (a .0) z next
 abbrev pub axis-done : (κs : Lfts 1) → Denots (typesAt one-slots κs) → Record → AxisAnswer → Record → Type 0
 axis-done κs a r z next = AxisDone r (a .0) z next
 
--- `play::call`
-abbrev pub call-slots : List (Slot 2)
-call-slots = plain (λ κs. Req.the-row) ∷ integers ∷ []
+-- `play::call`: the request; the numbers, at the second lifetime; their readings, at the third
+abbrev pub call-numbers : Slot 3
+call-numbers = SliceRefOf (1 ∷ []) tt (plain (λ κs. i64)) (λ κs. tt)
 
-abbrev pub call-done : (κs : Lfts 2) → Denots (typesAt call-slots κs) → Record → AxisAnswer → Record → Type 0
-call-done κs a r z next = Answers r (requestCall (a .0) (now (a .1 .0))) z next
+abbrev pub call-readings : Slot 3
+call-readings = SliceRefOf (2 ∷ []) tt (plain (λ κs. u32)) (λ κs. tt)
+
+abbrev pub call-slots : List (Slot 3)
+call-slots = plain (λ κs. Req.the-row) ∷ call-numbers ∷ call-readings ∷ []
+
+abbrev pub call-asks : (κs : Lfts 3) → Denots (typesAt call-slots κs) → Record → Type 0
+call-asks κs a r = Kept r × Placed (length (now (a .1 .0))) (a .0) × Placed (length (now (a .1 .1 .0))) (a .0)
+
+abbrev pub call-done : (κs : Lfts 3) → Denots (typesAt call-slots κs) → Record → AxisAnswer → Record → Type 0
+call-done κs a r z next = Answers r (requestCall (a .0) (now (a .1 .0)) (now (a .1 .1 .0))) z next
 
 -- `play::step::step`: the text, at the second lifetime; whether input is left; the cursor
 abbrev pub step-slots : List (Slot 2)

@@ -6,5 +6,6 @@ mod LentCalls
 pub mod Contracts
 mod Switching
 mod Arrays
+mod Parts
 mod Stepping
 mod Passing

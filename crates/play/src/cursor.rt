@@ -1,13 +1,13 @@
 // Where a text of calls is read: the place at which a line starts, and the line's number.
 use call_text::find::find;
+use call_text::reading::put_readings;
 use call_text::request::Request;
 use call_text::request::read_line;
 ghost use mathlib.Core.Path.{_≡_};
-ghost use Prim.Native.Nat.{_-_, _≤_};
-ghost use lib.ListN.{drop, length, take};
+ghost use lib.ListN.{length};
 ghost use Rattle.call_text.specs.Calls.{numberLimit};
 ghost use Rattle.play.specs.Steps.{startCursor};
-ghost use Rattle.play.specs.inner.Lines.{Reads, Within, endAt};
+ghost use Rattle.play.specs.inner.Lines.{Reads, Within, endAt, samplesEnd};
 
 // Only the text's start and a line that was played give one.
 pub struct Cursor {
@@ -33,8 +33,6 @@ impl Cursor {
 // What the line at a cursor asks for, and the cursor after it; `ended` says that there is no line.
 pub struct NextLine {
     pub request: Request,
-    pub from: usize,
-    pub to: usize,
     pub ended: bool,
     pub here: Cursor,
     pub next: Cursor,
@@ -45,18 +43,39 @@ fn end_at(here: Cursor, ended: bool) -> NextLine
 {
     NextLine {
         request: Request::NoCall,
-        from: 0,
-        to: 0,
         ended,
         here,
         next: here,
     }
 }
 
-// `left` says that input is left after the text, so that a line at its end is not whole. The line's numbers go into the lent array.
-pub(crate) fn next_line(text: &[u8], left: bool, here: Cursor, numbers: &mut [i64]) -> NextLine
-    requires { ⌜ Within (now text) here × (length (now numbers) ≡ numberLimit) ⌝ }
-    ensures { λ z. ⌜ Reads (now (text .entry)) left here (now (numbers .exit)) z ⌝ }
+// The place after a request's samples, of whose numbers the readings are wanted.
+fn samples_end(request: Request) -> usize
+    ensures { λ r. ⌜ r ≡ samplesEnd request ⌝ }
+{
+    match request {
+        Request::Load { .. } => 0,
+        Request::LoadSamples { to, .. } => to,
+        Request::Turn(_, _) => 0,
+        Request::Sweep => 0,
+        Request::LoosePair(_) => 0,
+        Request::Axis(_) => 0,
+        Request::NoCall => 0,
+        Request::TournamentSweep => 0,
+    }
+}
+
+// `left` says that input is left after the text, so that a line at its end is not whole. The line's numbers go into the first lent array, and of a
+// load of samples their readings into the second, at the same places.
+pub(crate) fn next_line(
+    text: &[u8],
+    left: bool,
+    here: Cursor,
+    numbers: &mut [i64],
+    readings: &mut [u32],
+) -> NextLine
+    requires { ⌜ Within (now text) here × (length (now numbers) ≡ numberLimit) × (length (now readings) ≡ numberLimit) ⌝ }
+    ensures { λ z. ⌜ Reads (now (text .entry)) left here (now (numbers .exit)) (now (readings .exit)) z ⌝ }
 {
     let at = here.at;
     let line = here.line;
@@ -67,12 +86,10 @@ pub(crate) fn next_line(text: &[u8], left: bool, here: Cursor, numbers: &mut [i6
     if text.len() <= end {
         return end_at(here, false);
     }
-    let asked = read_line(&text[at..end], numbers);
-    let request = asked.request;
+    let request = read_line(&text[at..end], numbers);
+    put_readings(numbers, samples_end(request), readings);
     NextLine {
         request,
-        from: asked.from,
-        to: asked.to,
         ended: false,
         here,
         next: Cursor {
@@ -80,14 +97,4 @@ pub(crate) fn next_line(text: &[u8], left: bool, here: Cursor, numbers: &mut [i6
             line: line + 1,
         },
     }
-}
-
-// The numbers of a request's list.
-pub(crate) fn list(numbers: &[i64], line: NextLine) -> &[i64]
-    requires { ⌜ (line .from ≤ line .to) × (line .to ≤ length (now numbers)) ⌝ }
-    ensures { λ r. ⌜ now r ≡ take (line .to - line .from) (drop (line .from) (now (numbers .entry))) ⌝ }
-{
-    let from = line.from;
-    let to = line.to;
-    &numbers[from..to]
 }

@@ -2,7 +2,6 @@
 use crate::call::call;
 use crate::cursor::Cursor;
 use crate::cursor::NextLine;
-use crate::cursor::list;
 use crate::cursor::next_line;
 use call_text::answer::Printed;
 use call_text::answer::Told;
@@ -52,7 +51,8 @@ fn is_call(request: Request) -> bool
     ensures { λ r. ⌜ r ≡ isCall request ⌝ }
 {
     match request {
-        Request::Load(_) => true,
+        Request::Load { .. } => true,
+        Request::LoadSamples { .. } => true,
         Request::Turn(_, _) => true,
         Request::Sweep => true,
         Request::LoosePair(_) => true,
@@ -97,7 +97,8 @@ pub fn step(r: &mut Record, text: &[u8], left: bool, here: Cursor) -> Stepped
     ensures { λ z. ⌜ Steps (now (text .entry)) left here (now (r .entry)) z (now (r .exit)) ⌝ }
 {
     let mut numbers = [0i64; NUMBERS];
-    let line = next_line(text, left, here, &mut numbers);
-    let answer = call(r, line.request, list(&numbers, line));
+    let mut readings = [0u32; NUMBERS];
+    let line = next_line(text, left, here, &mut numbers, &mut readings);
+    let answer = call(r, line.request, &numbers, &readings);
     said(line, answer, *r)
 }

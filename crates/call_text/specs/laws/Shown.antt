@@ -1,21 +1,22 @@
--- The line of each answer, and of the two sweeps, as README has them.
+-- The line of each answer, of the two sweeps and of a load of samples, as README has them.
 use mathlib.Core.Path.{_≡_, refl}
 use mathlib.Core.Bool.{true, false}
 use mathlib.Core.List.{[], _∷_}
 use lib.IntN.{pos, negℤ}
 use mathlib.Core.Option.{none, some}
-use Rattle.ledger.specs.Call.{sweep, tournamentSweep}
+use Rattle.ledger.specs.Call.{loadSamples, sweep, tournamentSweep}
 use Rattle.record.specs.declared.query.Answer.{Answer}
-use Rattle.record.specs.declared.query.Answer.the-variants.{Loaded, Turned, Swept, TournamentSwept, Pair, NoPair, Axis, Refused}
+use Rattle.record.specs.declared.query.Answer.the-variants.{Loaded, SamplesLoaded, Turned, Swept, TournamentSwept, Pair, NoPair, Axis, Refused}
 use Rattle.text.specs.Ascii.{ascii}
 use Rattle.text.specs.Decimal.{digits, digitsBy, number}
-use Rattle.text.specs.Line.{line, further}
+use Rattle.text.specs.Numeral.{leadingZero, valueFrom}
 use Rattle.integer.specs.Within.{allWithin, within}
-use Rattle.text.specs.Numeral.{leadingZero}
+use Rattle.text.specs.Line.{line, further}
 use Rattle.text.specs.Parts.{before, onto, split}
 use Rattle.call_text.specs.Answers.{shown, shownAs}
-use Rattle.call_text.specs.Calls.{callBy, callOf, callOfFields, callWithin, numberLimit, sweepBy, withNumbers}
-use Rattle.call_text.specs.Numbers.{eachNumber, numeral, signedOf, unsignedOf, withoutMinus}
+use Rattle.call_text.specs.Calls.{argument, callBy, callOf, callOfFields, callWithin, mostReading, numberLimit, reading, samplesBy, sweepBy}
+use Rattle.call_text.specs.Calls.{withNumbers}
+use Rattle.call_text.specs.Numbers.{eachNumber, numeral, signedOf, standsFor, unsignedOf, withMinus, withoutMinus}
 use Rattle.call_text.specs.declared.answer.Told.{Told}
 
 -- an answer on two channels, after 3 refused calls
@@ -29,13 +30,14 @@ told answer =
     }
 
 -- p before q; a_ii, its error, and as many numbers of the row as there are channels; the refusal before the count
-lines : (shown (told Loaded) ≡ ascii "L\n") × (shown (told (Turned true)) ≡ ascii "T\t1\n") × (shown (told (Turned false)) ≡ ascii "T\t0\n") ×
-    (shown (told (Swept 28)) ≡ ascii "W\t28\n") × (shown (told (TournamentSwept 27)) ≡ ascii "O\t27\n") ×
-    (shown (told (Pair 3 7)) ≡ ascii "Q\t3\t7\n") × (shown (told NoPair) ≡ ascii "Q\tnone\n") ×
+lines : (shown (told Loaded) ≡ ascii "L\n") × (shown (told (SamplesLoaded 25)) ≡ ascii "M\t25\n") × (shown (told (Turned true)) ≡ ascii "T\t1\n") ×
+    (shown (told (Turned false)) ≡ ascii "T\t0\n") × (shown (told (Swept 28)) ≡ ascii "W\t28\n") ×
+    (shown (told (TournamentSwept 27)) ≡ ascii "O\t27\n") × (shown (told (Pair 3 7)) ≡ ascii "Q\t3\t7\n") ×
+    (shown (told NoPair) ≡ ascii "Q\tnone\n") ×
     (shown (told (Axis (negℤ (pos 26624)) 7172)) ≡ ascii "A\t-26624\t7172\t644245094\t-858993459\n") ×
     (shown (told (Refused 10)) ≡ ascii "X\t10\t3\n")
 unfolding ascii shown shownAs line further number digits digitsBy
-lines = (refl, refl, refl, refl, refl, refl, refl, refl, refl)
+lines = (refl, refl, refl, refl, refl, refl, refl, refl, refl, refl)
 
 -- `W` is the cyclic sweep, and `O` the tournament sweep; neither has a number
 sweeps : (callOf (ascii "W") ≡ some sweep) × (callOf (ascii "O") ≡ some tournamentSweep) × (callOf (ascii "W\t1") ≡ none) ×
@@ -43,3 +45,11 @@ sweeps : (callOf (ascii "W") ≡ some sweep) × (callOf (ascii "O") ≡ some tou
 unfolding ascii callOf callWithin callOfFields withNumbers callBy sweepBy eachNumber signedOf withoutMinus unsignedOf numeral numberLimit split onto
     before leadingZero allWithin within
 sweeps = (refl, refl, refl, refl)
+
+-- k dilutions and then the counts; a negative count is a call, and so is a k of 0; a k with a minus and too few numbers after k are none
+samples : (callOf (ascii "M\t2\t2\t1\t100\t3\t0\t5\t7") ≡ some (loadSamples 2 (1 ∷ 100 ∷ []) (3 ∷ 0 ∷ 5 ∷ 7 ∷ []))) ×
+    (callOf (ascii "M\t2\t1\t1\t3\t-1") ≡ some (loadSamples 2 (1 ∷ []) (3 ∷ mostReading ∷ []))) ×
+    (callOf (ascii "M\t2\t0") ≡ some (loadSamples 2 [] [])) × (callOf (ascii "M\t2\t-1\t1") ≡ none) × (callOf (ascii "M\t2\t3\t1\t1") ≡ none)
+unfolding ascii callOf callWithin callOfFields withNumbers callBy samplesBy argument reading eachNumber before numberLimit split onto signedOf
+    withMinus withoutMinus unsignedOf standsFor numeral leadingZero valueFrom allWithin within
+samples = (refl, refl, refl, refl, refl)

@@ -1,20 +1,19 @@
 -- What private functions promise of the line at a cursor.
-use Prim.Native.Nat.{ℕ, _+_, _-_, _≤_}
+use Prim.Native.Nat.{ℕ, _+_, _≤_}
 use mathlib.Core.Path.{_≡_}
 use mathlib.Core.Bool.{Bool, true, false, cond, not}
 use mathlib.Core.List.{List, [], _∷_}
 use lib.Dec.{eqb}
 use lib.IntN.{ℤ}
-use lib.ListN.{drop, length, take}
+use lib.ListN.{length}
 use Rattle.record.specs.declared.AxisAnswer.{AxisAnswer}
 use Rattle.record.specs.declared.Record.{Record}
 use Rattle.call_text.specs.Answers.{linePrinted, shown}
 use Rattle.call_text.specs.Calls.{callOf}
-use Rattle.call_text.specs.Requests.{askedFor, listOf}
+use Rattle.call_text.specs.Requests.{Placed, askedFor, requestCall}
 use Rattle.call_text.specs.declared.answer.Told.{Told}
-use Rattle.call_text.specs.declared.request.Asked.{Asked}
 use Rattle.call_text.specs.declared.request.Request.{Request}
-use Rattle.call_text.specs.declared.request.Request.the-variants.{Load, Turn, Sweep, LoosePair, Axis, NoCall, TournamentSweep}
+use Rattle.call_text.specs.declared.request.Request.the-variants.{Load, LoadSamples, Turn, Sweep, LoosePair, Axis, NoCall, TournamentSweep}
 use Rattle.play.specs.Steps.{firstCall, linesFrom, pastLine, stoppedAt}
 use Rattle.play.specs.Text.{unknownLine}
 use Rattle.play.specs.declared.cursor.Cursor.{Cursor}
@@ -27,26 +26,37 @@ pub record Within (text : List ℕ) (here : Cursor) : Type 0 where
   pub number : here .line ≤ here .at + 1
 
 unfoldable pub endAt : Cursor → Bool → NextLine
-endAt here ended = record { request = NoCall; from = 0; to = 0; ended = ended; here = here; next = here }
+endAt here ended = record { request = NoCall; ended = ended; here = here; next = here }
 
-unfoldable pub lineAt : Cursor → ℕ → Asked → NextLine
-lineAt here size asked =
-    record { request = asked .request; from = asked .from; to = asked .to; ended = false; here = here; next = pastLine here size }
+unfoldable pub lineAt : Cursor → ℕ → Request → NextLine
+lineAt here size request = record { request = request; ended = false; here = here; next = pastLine here size }
 
 unfoldable pub nextLine : Bool → Cursor → List (List ℕ) → NextLine
 nextLine left here [] = endAt here true
 nextLine left here (part ∷ []) = cond (eqb (length part) 0) (endAt here (not left)) (endAt here false)
 nextLine left here (line ∷ part ∷ parts) = lineAt here (length line) (askedFor (callOf line))
 
--- the line, and its call's list in the array
-pub record Reads (text : List ℕ) (left : Bool) (here : Cursor) (numbers : List ℤ) (z : NextLine) : Type 0 where
+-- the place after a request's samples
+unfoldable pub samplesEnd : Request → ℕ
+samplesEnd (Load n from to) = 0
+samplesEnd (LoadSamples n from middle to) = to
+samplesEnd (Turn p q) = 0
+samplesEnd Sweep = 0
+samplesEnd (LoosePair t) = 0
+samplesEnd (Axis i) = 0
+samplesEnd NoCall = 0
+samplesEnd TournamentSweep = 0
+
+-- the line; its request is its call, with the numbers and readings in the arrays
+pub record Reads (text : List ℕ) (left : Bool) (here : Cursor) (numbers : List ℤ) (readings : List ℕ) (z : NextLine) : Type 0 where
   pub is : z ≡ nextLine left here (linesFrom text here)
-  pub list : take (z .to - z .from) (drop (z .from) numbers) ≡ listOf (firstCall (linesFrom text here))
-  pub ordered : z .from ≤ z .to
-  pub within : z .to ≤ length numbers
+  pub calls : requestCall (z .request) numbers readings ≡ firstCall (linesFrom text here)
+  pub in-numbers : Placed (length numbers) (z .request)
+  pub in-readings : Placed (length readings) (z .request)
 
 unfoldable pub isCall : Request → Bool
-isCall (Load n) = true
+isCall (Load n from to) = true
+isCall (LoadSamples n from middle to) = true
 isCall (Turn p q) = true
 isCall Sweep = true
 isCall (LoosePair t) = true

@@ -1,4 +1,4 @@
--- Short texts of calls and what they print, as one theorem about the definitions. A text is written here with its bytes.
+-- Short texts of calls and what they print, as theorems about the definitions. A text is written here with its bytes.
 use Prim.Native.Nat.{ℕ}
 use mathlib.Core.Path.{_≡_, refl}
 use mathlib.Core.Bool.{true, false}
@@ -7,12 +7,14 @@ use Rattle.integer.specs.Matrix.{matrixOf}
 use Rattle.text.specs.Numeral.{leadingZero, valueFrom}
 use Rattle.text.specs.Parts.{before, onto, split}
 use Rattle.integer.specs.Within.{allWithin, within}
+use Rattle.readings.specs.Refusal.{numberRefusal, samplesRefusal}
 use Rattle.ledger.specs.Refusal.{equal, refusalUnder, symmetric}
 use Rattle.ledger.specs.Refusal.{entriesWithin}
-use Rattle.record.specs.Record.{acceptedOf, afterOfUnder, answerOf, counted, fresh, loadedRecord, refusedOf, valueOf}
+use Rattle.record.specs.Record.{acceptedOfUnder, afterOfUnder, answerOf, counted, fresh, loadedRecord, refusedOf, valueOf}
 use Rattle.text.specs.Decimal.{digits, digitsBy}
 use Rattle.call_text.specs.Answers.{answerLine, rowFor, shown, shownAs, toldOf}
-use Rattle.call_text.specs.Calls.{argument, callBy, callOf, callOfFields, callWithin, loadBy, numberLimit, oneBy, sweepBy, turnBy, withNumbers}
+use Rattle.call_text.specs.Calls.{argument, callBy, callOf, callOfFields, callWithin, loadBy, numberLimit, oneBy, reading, samplesBy, sweepBy, turnBy}
+use Rattle.call_text.specs.Calls.{withNumbers}
 use Rattle.call_text.specs.Numbers.{eachNumber, numeral, signedOf, standsFor, unsignedOf, withMinus, withoutMinus}
 use Rattle.text.specs.Line.{further, line}
 use Rattle.play.specs.Text.{lineThen, played, playedFrom, unknownLine}
@@ -27,6 +29,10 @@ one tag number = tag ∷ 9 ∷ number ++ 10 ∷ []
 
 abbrev load-2 : List ℕ → List ℕ
 load-2 entry = 76 ∷ 9 ∷ 50 ∷ 9 ∷ entry ++ 9 ∷ 48 ∷ 9 ∷ 48 ∷ 9 ∷ 49 ∷ 10 ∷ []
+
+-- `M`, 2 channels, 1 sample, its dilution 1, a count 0, and what follows
+abbrev samples-2 : List ℕ → List ℕ
+samples-2 rest = 77 ∷ 9 ∷ 50 ∷ 9 ∷ 49 ∷ 9 ∷ 49 ∷ 9 ∷ 48 ∷ rest ++ 10 ∷ []
 
 -- 10,000,000,000, and 18,446,744,073,709,551,617, which is 2^64 + 1
 abbrev ten-billion : List ℕ
@@ -73,8 +79,23 @@ examples :
     -- after a load: `Q -1` and `Q` 10,000,000,000: 2; `A -1` and `A` 2^64 + 1: 9
     × (played false (load-2 (49 ∷ []) ++ one 81 (45 ∷ 49 ∷ []) ++ one 81 ten-billion) ≡ 76 ∷ 10 ∷ refused 50 49 ++ refused 50 50)
     × (played false (load-2 (49 ∷ []) ++ one 65 (45 ∷ 49 ∷ []) ++ one 65 past-64-bits) ≡ 76 ∷ 10 ∷ refused 57 49 ++ refused 57 50)
-unfolding played playedFrom lineThen unknownLine split onto callOf callWithin numberLimit callOfFields withNumbers callBy loadBy turnBy sweepBy oneBy
-    argument eachNumber before signedOf withMinus withoutMinus unsignedOf standsFor numeral leadingZero valueFrom allWithin within answerLine toldOf
-    shown shownAs rowFor afterOfUnder answerOf acceptedOf loadedRecord valueOf refusedOf counted fresh refusalUnder entriesWithin symmetric equal
-    matrixOf line further digits digitsBy
+unfolding played playedFrom lineThen unknownLine split onto callOf callWithin numberLimit callOfFields withNumbers callBy loadBy turnBy sweepBy
+    oneBy argument eachNumber before signedOf withMinus withoutMinus unsignedOf standsFor numeral leadingZero valueFrom allWithin within answerLine
+    toldOf shown shownAs rowFor afterOfUnder answerOf acceptedOfUnder loadedRecord valueOf refusedOf counted fresh refusalUnder entriesWithin
+    symmetric equal matrixOf line further digits digitsBy
 examples = (refl, refl, refl, refl, refl, refl, refl, refl, refl, refl, refl, refl, refl, refl, refl, refl, refl, refl, refl, refl, refl)
+
+-- Loads of samples
+samples :
+    -- `M 2 1 1 0 -1`, a negative count, and `M 2 1 1 0` and 2^64 + 1: 2; `M 2 1 1 0`: 6; `M 2 1 1 0 0`, one sample: 3
+    (played false (samples-2 (9 ∷ 45 ∷ 49 ∷ []) ++ samples-2 (9 ∷ past-64-bits)) ≡ refused 50 49 ++ refused 50 50)
+    × (played false (samples-2 [] ++ samples-2 (9 ∷ 48 ∷ [])) ≡ refused 54 49 ++ refused 51 50)
+    -- no k; `M 2 -1`, a k with a minus; `M 2 2 1`, fewer than k numbers after it
+    × (played false (one 77 (50 ∷ [])) ≡ unknown 49)
+    × (played false (one 77 (50 ∷ 9 ∷ 45 ∷ 49 ∷ [])) ≡ unknown 49)
+    × (played false (one 77 (50 ∷ 9 ∷ 50 ∷ 9 ∷ 49 ∷ [])) ≡ unknown 49)
+unfolding played playedFrom lineThen unknownLine split onto callOf callWithin numberLimit callOfFields withNumbers callBy samplesBy reading
+    samplesRefusal numberRefusal argument eachNumber before signedOf withMinus withoutMinus unsignedOf standsFor numeral leadingZero valueFrom
+    allWithin within answerLine toldOf shown shownAs rowFor afterOfUnder answerOf acceptedOfUnder valueOf refusedOf counted fresh refusalUnder line
+    further digits digitsBy
+samples = (refl, refl, refl, refl, refl)

@@ -1,5 +1,4 @@
 -- `request::axis` meets its contract: other than one number, or i.
-use mathlib.Core.Path.{_∙_}
 use lib.IntN.{pos}
 use lib.ListN.{getD}
 use mir.Syntax.{w64}
@@ -11,16 +10,14 @@ use Rattle.call_text.proofs.request.axis.Statement.{statement}
 use Rattle.call_text.proofs.request.axis.Tie as tie
 
 returns : tie.Need-returns
-returns c = c .bare .ensures ∙ no-one _ _ (c .before .before .pre) _ (c .before .if1 .taken)
+returns c = no-one _ _ (c .before .pre) _ (c .if1 .taken)
 
 returns-2 : tie.Need-returns-2
 returns-2 c =
-    let a = c .before in
-    let s = a .before .before .before in
+    let s = c .before .before .before in
     let f : SFits w64 (getD (s .args .numbers .now) 0 (pos 0)) = search needs in
-    c .bare2 .ensures ∙ an-axis _ _ (s .pre) _ (rw (toZ-ofZ f) at (a .argument .ensures)) (a .before .before .if1 .left)
+    an-axis _ _ (s .pre) _ (rw (toZ-ofZ f) at (c .argument .ensures)) (c .before .before .if1 .left)
 
 pub axis-spec : {M : Type 1} → statement M
 axis-spec =
-    tie.close
-    (tie.spec (λ c κs. search needs) returns (λ c. search needs) (λ c κs. search needs) (λ c κs. search needs) returns-2)
+    tie.close (tie.spec returns (λ c. search needs) (λ c κs. search needs) returns-2)

@@ -1,47 +1,54 @@
 -- `request::by_tag` meets its contract: the tag decides.
 use borrow.Author.Needs.{needs}
 use Rattle.call_text.specs.Requests.{askedFor}
-use Rattle.call_text.proofs.Asking.{of-axis, of-load, of-none, of-pair, of-sweep, of-tournament-sweep, of-turn}
+use Rattle.call_text.proofs.Asking.{of-axis, of-load, of-none, of-pair, of-samples, of-sweep, of-tournament-sweep, of-turn}
 use Rattle.call_text.proofs.request.by_tag.Statement.{statement}
 use Rattle.call_text.proofs.request.by_tag.Tie as tie
 
 load : tie.Need-returns
-load c = rw (of-load _ _ (c .before .if1 .taken)) (c .load .ensures)
+load c =
+    let t = c .before in
+    rw (of-load _ _ (t .if1 .taken)) (c .load .ensures)
 
-turn : tie.Need-returns-2
+samples : tie.Need-returns-2
+samples c =
+    let t = c .before in
+    rw (of-samples _ _ (t .before .if1 .left) (t .if2 .taken)) (c .load-samples .ensures)
+
+turn : tie.Need-returns-3
 turn c =
     let t = c .before in
-    rw (of-turn _ _ (t .before .if1 .left) (t .if2 .taken)) (c .turn .ensures)
+    rw (of-turn _ _ (t .before .before .if1 .left) (t .before .if2 .left) (t .if3 .taken)) (c .turn .ensures)
 
-sweep : tie.Need-returns-3
+sweep : tie.Need-returns-4
 sweep c =
     let t = c .before in
-    rw (of-sweep _ _ (t .before .before .if1 .left) (t .before .if2 .left) (t .if3 .taken)) (c .sweep .ensures)
+    rw (of-sweep _ _ (t .before .before .before .if1 .left) (t .before .before .if2 .left) (t .before .if3 .left) (t .if4 .taken)) (c .sweep .ensures)
 
-loose-pair : tie.Need-returns-4
+loose-pair : tie.Need-returns-5
 loose-pair c =
     let t = c .before in
-    rw (of-pair _ _ (t .before .before .before .if1 .left) (t .before .before .if2 .left) (t .before .if3 .left) (t .if4 .taken))
-    (c .loose-pair .ensures)
+    rw (of-pair _ _ (t .before .before .before .before .if1 .left) (t .before .before .before .if2 .left) (t .before .before .if3 .left)
+    (t .before .if4 .left) (t .if5 .taken)) (c .loose-pair .ensures)
 
-axis : tie.Need-returns-5
+axis : tie.Need-returns-6
 axis c =
     let t = c .before in
-    rw (of-axis _ _ (t .before .before .before .before .if1 .left) (t .before .before .before .if2 .left) (t .before .before .if3 .left)
-    (t .before .if4 .left) (t .if5 .taken)) (c .axis .ensures)
+    rw (of-axis _ _ (t .before .before .before .before .before .if1 .left) (t .before .before .before .before .if2 .left)
+    (t .before .before .before .if3 .left) (t .before .before .if4 .left) (t .before .if5 .left) (t .if6 .taken)) (c .axis .ensures)
 
-tournament-sweep : tie.Need-returns-6
+tournament-sweep : tie.Need-returns-7
 tournament-sweep c =
     let t = c .before in
-    rw (of-tournament-sweep _ _ (t .before .before .before .before .before .if1 .left) (t .before .before .before .before .if2 .left)
-    (t .before .before .before .if3 .left) (t .before .before .if4 .left) (t .before .if5 .left) (t .if6 .taken)) (c .tournament-sweep .ensures)
+    rw (of-tournament-sweep _ _ (t .before .before .before .before .before .before .if1 .left)
+    (t .before .before .before .before .before .if2 .left) (t .before .before .before .before .if3 .left) (t .before .before .before .if4 .left)
+    (t .before .before .if5 .left) (t .before .if6 .left) (t .if7 .taken)) (c .tournament-sweep .ensures)
 
-other : tie.Need-returns-7
+other : tie.Need-returns-8
 unfolding askedFor
-other c =
-    let t = c .before in
-    rw (of-none _ _ (t .before .before .before .before .before .if1 .left) (t .before .before .before .before .if2 .left)
-    (t .before .before .before .if3 .left) (t .before .before .if4 .left) (t .before .if5 .left) (t .if6 .left)) (c .bare .ensures)
+other c = rw (of-none _ _ (c .before .before .before .before .before .before .if1 .left) (c .before .before .before .before .before .if2 .left)
+    (c .before .before .before .before .if3 .left) (c .before .before .before .if4 .left) (c .before .before .if5 .left) (c .before .if6 .left)
+    (c .if7 .left))
 
 pub by-tag-spec : {M : Type 1} → statement M
 by-tag-spec =
@@ -49,6 +56,8 @@ by-tag-spec =
     (tie.spec
     (λ c κs. search needs)
     load
+    (λ c κs. search needs)
+    samples
     (λ c κs. search needs)
     turn
     (λ c κs. search needs)
@@ -59,5 +68,4 @@ by-tag-spec =
     axis
     (λ c κs. search needs)
     tournament-sweep
-    (λ c κs. search needs)
     other)

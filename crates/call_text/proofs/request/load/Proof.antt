@@ -1,5 +1,4 @@
 -- `request::load` meets its contract: no number, or n and the list.
-use mathlib.Core.Path.{_∙_}
 use lib.IntN.{pos}
 use lib.ListN.{getD}
 use mir.Syntax.{w64}
@@ -11,7 +10,7 @@ use Rattle.call_text.proofs.request.load.Statement.{statement}
 use Rattle.call_text.proofs.request.load.Tie as tie
 
 returns : tie.Need-returns
-returns c = c .bare .ensures ∙ no-load _ _ (c .before .before .pre) (c .before .if1 .taken)
+returns c = no-load _ _ (c .before .pre) (c .if1 .taken)
 
 returns-2 : tie.Need-returns-2
 returns-2 c =
@@ -20,4 +19,4 @@ returns-2 c =
     a-load _ _ (s .pre) _ (rw (toZ-ofZ f) at (c .argument .ensures)) (c .before .before .if1 .left)
 
 pub load-spec : {M : Type 1} → statement M
-load-spec = tie.close (tie.spec (λ c κs. search needs) returns (λ c. search needs) (λ c κs. search needs) returns-2)
+load-spec = tie.close (tie.spec returns (λ c. search needs) (λ c κs. search needs) returns-2)

@@ -6,8 +6,7 @@ use Rattle.call_text.proofs.request.read_line.Tie as tie
 
 returns : tie.Need-returns
 returns c =
-    let f = c .before .before .before .before in
-    asks-none _ _ _ _ (f .read-fields .ensures) (c .before .enum-told .given .1) _ (c .bare .ensures)
+    asks-none _ _ _ _ (c .before .before .before .read-fields .ensures) (c .enum-told .given .1)
 
 by-tag-requires : tie.Need-by-tag-requires
 by-tag-requires c κs =
@@ -26,7 +25,6 @@ read-line-spec =
     (λ c κs. search needs)
     (λ c. search needs)
     (λ c. search needs)
-    (λ c κs. search needs)
     (λ c. search needs)
     returns
     by-tag-requires

@@ -1,5 +1,4 @@
 -- `request::turn` meets its contract: other than two numbers, or p and q.
-use mathlib.Core.Path.{_∙_}
 use lib.IntN.{pos}
 use lib.ListN.{getD}
 use mir.Syntax.{w64}
@@ -11,27 +10,24 @@ use Rattle.call_text.proofs.request.turn.Statement.{statement}
 use Rattle.call_text.proofs.request.turn.Tie as tie
 
 returns : tie.Need-returns
-returns c = c .bare .ensures ∙ no-turn _ _ (c .before .before .pre) (c .before .if1 .taken)
+returns c = no-turn _ _ (c .before .pre) (c .if1 .taken)
 
 returns-2 : tie.Need-returns-2
 returns-2 c =
-    let b = c .before in
-    let a = b .before .before in
+    let a = c .before .before in
     let s = a .before .before .before in
     let f : SFits w64 (getD (s .args .numbers .now) 0 (pos 0)) = search needs in
     let g : SFits w64 (getD (s .args .numbers .now) 1 (pos 0)) = search needs in
-    c .bare2 .ensures ∙ a-turn _ _ (s .pre) _ (rw (toZ-ofZ f) at (a .argument .ensures)) _ (rw (toZ-ofZ g) at (b .argument2 .ensures))
+    a-turn _ _ (s .pre) _ (rw (toZ-ofZ f) at (a .argument .ensures)) _ (rw (toZ-ofZ g) at (c .argument2 .ensures))
     (a .before .before .if1 .left)
 
 pub turn-spec : {M : Type 1} → statement M
 turn-spec =
     tie.close
     (tie.spec
-    (λ c κs. search needs)
     returns
     (λ c. search needs)
     (λ c κs. search needs)
     (λ c. search needs)
-    (λ c κs. search needs)
     (λ c κs. search needs)
     returns-2)
