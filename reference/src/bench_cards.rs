@@ -1,4 +1,5 @@
-//! Document 01's bench cards 1 to 12 and its printed example, the orders of its refusals, and document 02's loose pair and tournament sweep.
+//! Document 01's bench cards 1 to 12 and its printed example, the orders of its refusals, and document 02's loose pair, tournament
+//! sweep and load of samples.
 
 use crate::calls::play;
 use crate::choice::{choose, Choice};
@@ -7,7 +8,7 @@ use crate::job;
 use crate::matrix::Matrix;
 use crate::pairs;
 use crate::record::{Record, AXIS_ONE, REFUSED_LIMIT, TURN_LIMIT, UNITS};
-use crate::report::{axes_program, report_into, table_program, Denied, Outcome};
+use crate::report::{axes_program, job_run, report_into, table_program, Denied, Outcome};
 use crate::rounding::rnd;
 use crate::scatter::{shift, table, Sample};
 use crate::thresholds::threshold;
@@ -323,6 +324,62 @@ fn calls_are_refused_in_their_order() {
     assert_eq!(record.loose_pair(1024), Ok(None));
 }
 
+/// Document 02, W5: "A second load, beside the plain one, takes n and samples, is refused as W1's writer refuses them, and loads their table. The
+/// record remembers its e, which is 0 for a plain load."
+#[test]
+fn a_load_of_samples_remembers_its_shift() {
+    let mut record = Record::fresh();
+    assert_eq!(record.load_samples(9, &[1], &[0]), Err(2));
+    assert_eq!(record.load_samples(2, &[1], &[65_536]), Err(2));
+    assert_eq!(record.load_samples(2, &[1], &[0]), Err(6));
+    assert_eq!(record.load_samples(2, &[1], &[0, 0]), Err(3));
+    assert_eq!((record.kept(), record.refused()), (None, 4));
+    let e = |record: &Record| record.kept().unwrap().e;
+    let strong = [100, 100];
+    let counts = [65_535, 65_535, 0, 0];
+    assert_eq!(record.load_samples(2, &strong, &counts), Ok(25));
+    assert_eq!(e(&record), 25);
+    // "r_i gains 512 × n units", beside the entry 1,279,961 in units and no turn.
+    assert_eq!(record.axis(1).unwrap().r_i, 1_279_961 * UNITS + 2 * 512);
+    record.sweep().unwrap();
+    let before = record.kept().cloned();
+    assert_eq!(e(&record), 25);
+    assert_eq!(record.load_samples(2, &strong, &counts[..3]), Err(6));
+    assert_eq!(record.load(2, &[0, 1, 2, 0]), Err(7));
+    assert_eq!(record.kept(), before.as_ref());
+    record.load(2, &[1_279_961; 4]).unwrap();
+    assert_eq!(e(&record), 0);
+    assert_eq!(record.axis(1).unwrap().r_i, 1_279_961 * UNITS);
+    // Equal tables, one of samples with e = 0: nothing is gained.
+    let printed = ([1, 5, 1], [0, 0, 1, 0, 5, 5]);
+    assert_eq!(record.load_samples(2, &printed.0, &printed.1), Ok(0));
+    let mut plain = Record::fresh();
+    plain.load(2, &[50, 25, 25, 50]).unwrap();
+    assert_eq!(record.kept(), plain.kept());
+}
+
+/// A job's run starts from the record that the load of its samples leaves.
+#[test]
+fn reports_have_the_larger_error() {
+    for seed in 0..300 {
+        let Ok(job) = job::read(&generate_job(seed)) else {
+            continue;
+        };
+        let table = table(job.n, &job.samples);
+        let n = job.n as i128;
+        let numbers = table.entries.numbers();
+        let plain = solve(n, numbers, job.sweep_limit, job.tolerance).unwrap();
+        let (e, run) = job_run(&job);
+        assert_eq!(e, table.e);
+        let gained = if e > 0 { 512 * n } else { 0 };
+        for (axis, plain) in run.axes.iter().zip(&plain.axes) {
+            assert_eq!(axis.r_i, plain.r_i + gained);
+            assert_eq!((axis.a_ii, &axis.row), (plain.a_ii, &plain.row));
+        }
+        assert_eq!((run.m, run.outcome), (plain.m, plain.outcome));
+    }
+}
+
 /// Document 02, W2: "the first in row order, (1,2), (1,3) and on to (n−1,n), whose entry exceeds the tolerance in size, whatever
 /// its sign". By columns (2,3) comes before (1,4), and from the end (3,4) before both.
 #[test]
@@ -550,6 +607,17 @@ fn a_text_of_calls_is_played_to_its_first_line_that_is_no_call() {
         "L 2 -0\n",
         "L 2 01\n",
         "L 2 -01\n",
+        "M\n",
+        "M 2\n",
+        "M 2 -1\n",
+        "M 2 1\n",
+        "M 2 3 1 1\n",
+        "M 2 3 -1 99999999999\n",
+        "M 2 00 1 1\n",
+        "M 2 2 1 1 0 0 0 -0\n",
+        "M 2 10000000000 1 1 0 0 0 0\n",
+        "M 2 99999999999999999999999999 1 1 0 0 0 0\n",
+        "m 2 2 1 1 0 0 0 0\n",
         "T 1\n",
         "T 1 2 3\n",
         "A 1 2\n",
@@ -583,6 +651,16 @@ fn a_wrong_call_gets_its_number() {
         ("L -1 0", 5),
         ("L 9 0", 5),
         ("L 2 0", 6),
+        ("M -1 0", 2),
+        ("M 10000000000 2 1 1 0 0 0 0", 2),
+        ("M 2 2 1 1 0 0 0 10000000000", 2),
+        ("M 2 2 -1 1 0 0 0 0", 2),
+        ("M 2 2 1 1 0 0 0 -1", 2),
+        ("M 2 2 1 1 0 0 0", 6),
+        ("M 2 2 1 1", 6),
+        ("M 2 1 1 0 0", 3),
+        ("M 2 0", 3),
+        (&format!("M 2 2 1 1 0 0 {digits} 0"), 2),
         ("L 2 10000000000 0 0 0", 8),
         ("L 2 -10000000000 0 0 0", 8),
         (&format!("L 2 -{digits} 0 0 0"), 8),
@@ -597,6 +675,12 @@ fn a_wrong_call_gets_its_number() {
 fn a_line_has_at_most_4096_numbers() {
     assert_eq!(played(&format!("L 2{}\n", " 0".repeat(4_095))), "X 6 1\n");
     assert_eq!(played(&format!("L 2{}\n", " 0".repeat(4_096))), "? 1\n");
+    assert_eq!(
+        played(&format!("M 2 4094{}\n", " 1".repeat(4_094))),
+        "X 6 1\n"
+    );
+    assert_eq!(played(&format!("M 2 2{}\n", " 1".repeat(4_094))), "X 6 1\n");
+    assert_eq!(played(&format!("M 2 2{}\n", " 1".repeat(4_095))), "? 1\n");
 }
 
 /// "If input is left after 65,536 bytes, the last line says so"

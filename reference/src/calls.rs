@@ -11,10 +11,12 @@ pub const MOST_NUMBERS: usize = 4_096;
 const DIGITS: usize = 10;
 const BEYOND: i128 = 9_999_999_999;
 
-/// Document 01, "The record and its calls", and document 02's tournament sweep.
+/// Document 01, "The record and its calls", and document 02's tournament sweep and load of samples.
 #[derive(Clone, Debug, PartialEq, Eq)]
 pub enum Call {
     Load(i128, Vec<i128>),
+    /// n, the dilutions, the counts.
+    LoadSamples(i128, Vec<i128>, Vec<i128>),
     Turn(i128, i128),
     Sweep,
     TournamentSweep,
@@ -45,7 +47,7 @@ pub fn play(input: &[u8]) -> String {
     answers
 }
 
-/// The call that a line's fields give. A negative n, p, q, t or i is a value out of its range, which the record refuses.
+/// The call that a line's fields give. A negative n, dilution, count, p, q, t or i is a value out of its range, which the record refuses.
 fn call(fields: &[&[u8]]) -> Option<Call> {
     let (tag, fields) = fields.split_first()?;
     if fields.len() > MOST_NUMBERS {
@@ -57,6 +59,11 @@ fn call(fields: &[&[u8]]) -> Option<Call> {
         .collect::<Option<Vec<_>>>()?;
     match (*tag, &numbers[..]) {
         (b"L", [n, numbers @ ..]) => Some(Call::Load(*n, numbers.to_vec())),
+        (b"M", [n, k, numbers @ ..]) => {
+            // k has no minus, and k dilutions follow it.
+            let (dilutions, counts) = numbers.split_at_checked(usize::try_from(*k).ok()?)?;
+            Some(Call::LoadSamples(*n, dilutions.to_vec(), counts.to_vec()))
+        }
         (b"T", [p, q]) => Some(Call::Turn(*p, *q)),
         (b"W", []) => Some(Call::Sweep),
         (b"O", []) => Some(Call::TournamentSweep),
@@ -88,6 +95,9 @@ fn answer(record: &mut Record, call: &Call) -> Result<String, Number> {
         Call::Load(n, numbers) => {
             record.load(*n, numbers)?;
             line(["L"])
+        }
+        Call::LoadSamples(n, dilutions, counts) => {
+            tagged("M", &[record.load_samples(*n, dilutions, counts)?.into()])
         }
         Call::Turn(p, q) => tagged("T", &[i128::from(record.turn(*p, *q)?)]),
         Call::Sweep => tagged("W", &[record.sweep()?]),

@@ -5,7 +5,7 @@ use crate::job::{Job, TEXT_LIMIT};
 use crate::random::Random;
 use crate::record::{Record, TURN_LIMIT};
 use crate::scatter::Sample;
-use crate::{calls, text};
+use crate::{calls, job, text};
 
 /// A name and its text.
 pub struct Example {
@@ -25,6 +25,7 @@ pub const JOBS: &[Example] = &[
         tabs("P 3 5 0\nS 2 7 8 9\nS 2 7 8 9\nS 2 7 8 9\nE 3\n")
     }),
     example("still", || tabs("P 2 16 0\nS 64 1 16384\nS 1 63 0\nE 2\n")),
+    example("strong", || tabs(STRONG)),
     example("empty", Vec::new),
     example("malformed", || tabs("P 2 1 0\nS 1 0 0\nS 5 1 00\n")),
     example("no_line_feed", || tabs("P 2 1 0\nS 1 0 0\nS 5 1 0\nE 2")),
@@ -56,10 +57,14 @@ pub const CALLS: &[Example] = &[
     }),
     example("pairs", every_pair),
     example("tournament", tournament),
+    example("samples", sample_loads),
 ];
 
 /// Document 01's printed example, blanks for tabs.
 pub const PRINTED: &str = "P 2 1 0\nS 1 0 0\nS 5 1 0\nS 1 5 5\nE 3\n";
+
+/// A job with e = 1, of which the error without 512 units a channel is exceeded, blanks for tabs.
+pub const STRONG: &str = "P 2 1 0\nS 1 1449 0\nS 1 0 0\nE 2\n";
 
 /// Calls at their refusals and beside them, blanks for tabs: 10 first, then 5, 6, 8 and 7, alone and in their order, then 2 and 9.
 const REFUSED: &str = "W\nT 1 2\nT 2 1\nQ 0\nQ 1048577\nA 1\nA 0\nL 1 5\nL 9\nL 0\nL 2 1 2 3\nL 2 1 2 3 4 5\nL 2\n\
@@ -102,7 +107,7 @@ fn field() -> Vec<u8> {
         (10, [5_490, 1_548, 4_871, 1_553]),
         (5, [7_258, 2_061, 12_796, 3_628]),
     ];
-    job(
+    job_text(
         4,
         16,
         200_000,
@@ -144,7 +149,7 @@ fn full() -> Vec<u8> {
             }
         })
         .collect();
-    job(8, 16, 1024, samples)
+    job_text(8, 16, 1024, samples)
 }
 
 /// The longest job there is: 256 samples on 8 channels, and every number as long as it may be.
@@ -156,7 +161,7 @@ pub fn longest() -> Vec<u8> {
             counts: (0..8).map(|_| random.between(10_000, 65_535)).collect(),
         })
         .collect();
-    job(8, 16, 1_000_000, samples)
+    job_text(8, 16, 1_000_000, samples)
 }
 
 /// The longest text that is judged otherwise than its beginning: in place of the longest job's last line a 257th sample of
@@ -177,7 +182,7 @@ fn beyond_limit() -> Vec<u8> {
     text
 }
 
-fn job(n: usize, sweep_limit: i128, tolerance: i128, samples: Vec<Sample>) -> Vec<u8> {
+fn job_text(n: usize, sweep_limit: i128, tolerance: i128, samples: Vec<Sample>) -> Vec<u8> {
     Job {
         n,
         sweep_limit,
@@ -259,9 +264,35 @@ fn tournament() -> Vec<u8> {
     tabs(&lines)
 }
 
+/// Loads of samples, blanks for tabs: refused 2, 6 and 3, alone and in their order, before a matrix is loaded and after; with e = 0, 1 and 25,
+/// where each error gains 512 units a channel; then a plain load, which has e = 0 again. The certificate's job is the second that is loaded.
+const SAMPLE_LOADS: &str = "M 1 2 1 1 0 0\nM 9 0\nM 0 0\nM -2 0\nM 2 2 0 1 0 0 0 0\nM 2 2 1 101 0 0 0 0\nM 2 2 1 -1 0 0 0 0\n\
+M 2 2 1 1 65536 0 0 0\nM 2 2 1 1 0 0 0 -1\nM 2 2 1 1 0 0 0 10000000000\nM 2 2 1 1 0 0 0\nM 2 2 1 1 0 0 0 0 0\nM 2 2 1 1 0 0 0 0 65536\n\
+M 2 0\nM 2 1 1 0 0\nM 2 1 1 0\nM 2 1 101 0\nM 2 3 1 1 1\nA 1\nM 2 3 1 5 1 0 0 1 0 5 5\nA 1\nA 2\nW\nA 1\nA 2\n\
+M 2 2 1 1 1449 0 0 0\nA 1\nA 2\nM 2 2 100 100 65535 65535 0 0\nQ 0\nA 1\nO\nA 1\nA 2\nM 2 1 1 0 0\nA 1\nL 2 1 2 3 4\nA 1\n\
+L 2 50 25 25 50\nA 1\nT 1 2\nA 1\n\
+M 8 2 100 100 65535 0 65535 0 65535 0 65535 0 0 65535 0 65535 0 65535 0 65535\nA 1\nW\nA 1\nA 8\n";
+
+/// Those, then 257 samples, the strongest 256 that there are, with e = 39, and the longest job's.
+fn sample_loads() -> Vec<u8> {
+    let mut lines = SAMPLE_LOADS.to_string();
+    let load = |n: usize, dilutions: &[i128], counts: &[i128]| {
+        let k = dilutions.len() as i128;
+        text::tagged("M", &[&[n as i128, k], dilutions, counts].concat())
+    };
+    lines += &load(2, &[1; 257], &[0; 514]);
+    lines += &load(2, &[100; 256], &[65_535, 0, 0, 65_535].repeat(128));
+    lines += "A 1\nW\nA 1\nA 2\n";
+    let job = job::read(&longest()).expect("a good job");
+    let (dilutions, counts) = job.handed_over();
+    lines += &load(job.n, &dilutions, &counts);
+    lines += "A 1\nO\nW\nA 1\nA 8\nQ 1048576\n";
+    tabs(&lines)
+}
+
 /// As many bytes of calls as are read.
 pub fn longest_calls() -> Vec<u8> {
-    let text = [tabs(REFUSED), used_up(), tournament()].concat();
+    let text = [tabs(REFUSED), used_up(), tournament(), sample_loads()].concat();
     with_calls(text, calls::TEXT_LIMIT, 1)
 }
 
@@ -315,7 +346,7 @@ fn every_pair() -> Vec<u8> {
 #[cfg(test)]
 mod tests {
     use super::*;
-    use crate::{calls_of, job, report_of, table_of};
+    use crate::{calls_of, report_of, table_of};
     use std::collections::BTreeSet;
 
     fn answers(text: &[u8]) -> String {
@@ -394,6 +425,7 @@ mod tests {
                 ["X", number, _] => number.to_string(),
                 ["Q", "none"] => "none".to_string(),
                 ["T", made] => format!("T {made}"),
+                ["M", e] => format!("M {}", if e == "0" { "0" } else { "above 0" }),
                 [tag, ..] => tag.to_string(),
                 [] => unreachable!("a line has a field"),
             })
@@ -408,7 +440,25 @@ mod tests {
         let lines = text.iter().filter(|&&byte| byte == b'\n').count();
         assert_eq!(answers.lines().count(), lines);
         let expected = [
-            "10", "11", "2", "5", "6", "7", "8", "9", "A", "L", "O", "Q", "T 0", "T 1", "W", "none",
+            "10",
+            "11",
+            "2",
+            "3",
+            "5",
+            "6",
+            "7",
+            "8",
+            "9",
+            "A",
+            "L",
+            "M 0",
+            "M above 0",
+            "O",
+            "Q",
+            "T 0",
+            "T 1",
+            "W",
+            "none",
         ];
         assert!(kinds(&answers).iter().eq(expected), "{:?}", kinds(&answers));
     }
@@ -430,6 +480,13 @@ mod tests {
         assert!(tournament.starts_with("X 10 1\nL\nO 1\n"));
         assert!(tournament.contains("\nX 11 2\nX 11 3\nX 11 4\nA "));
         assert_eq!(tournament.matches('X').count(), 4);
+        let samples = of("samples");
+        assert!(["2", "3", "6", "10"]
+            .iter()
+            .all(|&number| kinds(&samples).contains(number)));
+        for e in [0, 1, 25, 37, 39] {
+            assert!(samples.contains(&format!("\nM {e}\n")), "{e}");
+        }
         assert_eq!(of("empty"), "");
         assert_eq!(of("no_call"), "L\nW 1\n? 3\n");
         assert_eq!(of("no_line_feed"), "L\nW 1\n? 3\n");

@@ -180,16 +180,24 @@ fn any_calls(random: &mut Random) -> Lines {
     let mut n = random.between(2, 8);
     let careful = random.one_in(2);
     if careful {
-        lines.push(good_load(random, n));
+        lines.push(match random.one_in(2) {
+            true => good_load(random, n),
+            false => good_sample_load(random, n),
+        });
     }
     for _ in 0..random.between(0, 60) {
         let wild = !careful && random.one_in(3);
-        lines.push(match random.between(0, 19) {
+        lines.push(match random.between(0, 21) {
             0 => {
                 n = random.between(2, 8);
                 good_load(random, n)
             }
+            20 => {
+                n = random.between(2, 8);
+                good_sample_load(random, n)
+            }
             1 if !careful => refused_load(random),
+            21 if !careful => refused_sample_load(random),
             2..=5 => fields(random.pick(&SWEEPS), &[]),
             6..=8 => {
                 let t = if wild {
@@ -340,6 +348,52 @@ fn refused_load(random: &mut Random) -> Vec<String> {
     load_fields(n, &numbers)
 }
 
+/// n, k, the dilutions and the counts of samples, of which some lines are long.
+fn good_sample_load(random: &mut Random, n: i128) -> Vec<String> {
+    let k = match random.between(0, 20) {
+        0 => 256,
+        1..=6 => 2,
+        7 => random.sized(256).max(2),
+        _ => random.between(2, 6),
+    };
+    let (dilutions, counts) = handed_over(random, n, k);
+    sample_load_fields(n, &dilutions, &counts)
+}
+
+/// A load of samples that one or more of the refusals 2, 6 and 3 apply to, or that is at the end of a range.
+fn refused_sample_load(random: &mut Random) -> Vec<String> {
+    let mut n = random.between(2, 8);
+    let k = random.pick(&[0, 1, 2, 2, 3, 3, 3, 3, 257]);
+    let (mut dilutions, mut counts) = handed_over(random, n, k);
+    for _ in 0..random.between(1, 2) {
+        match random.between(0, 5) {
+            0 => n = random.pick(&[0, 1, 8, 9, -1, -2, 9_999_999_999, 10_000_000_000]),
+            1 if !dilutions.is_empty() => {
+                let place = random.index(dilutions.len());
+                dilutions[place] = random.pick(&[0, 100, 101, -1, 9_999_999_999, -(1 << 64)]);
+            }
+            2 if !counts.is_empty() => {
+                let place = random.index(counts.len());
+                counts[place] = random.pick(&[65_535, 65_536, -1, 9_999_999_999, 1 << 64]);
+            }
+            3 => drop(counts.pop()),
+            4 => counts.push(random.pick(&[0, 65_536])),
+            _ => {
+                let most = MOST_NUMBERS - 2 - dilutions.len();
+                counts.resize(random.pick(&[0, 1, 2048, most]), 0);
+            }
+        }
+    }
+    sample_load_fields(n, &dilutions, &counts)
+}
+
+fn handed_over(random: &mut Random, n: i128, k: i128) -> (Vec<i128>, Vec<i128>) {
+    let samples = samples(random, n as usize, k as usize);
+    let dilutions = samples.iter().map(|sample| sample.dilution).collect();
+    let counts = samples.iter().flat_map(|sample| sample.counts.clone());
+    (dilutions, counts.collect())
+}
+
 fn symmetric(
     random: &mut Random,
     n: usize,
@@ -375,12 +429,19 @@ fn damage_line(random: &mut Random, lines: &mut Lines, line: usize, most_digits:
     let gap = random.index(lines[line].len() + 1);
     let other = random.index(lines.len());
     let single = lines[line].len() == 1;
+    // The number of samples at its own bound: as many dilutions as numbers follow it, one more, and others.
+    if lines[line][0] == "M" && lines[line].len() > 2 && random.one_in(3) {
+        let after = lines[line].len() as i128 - 3;
+        let k = random.pick(&[after, after + 1, 0, -1, 9_999_999_999, 10_000_000_000]);
+        lines[line][2] = k.to_string();
+        return;
+    }
     let field = &mut lines[line][place];
     match random.between(0, 13) {
         0 => {
             lines[line][0] = random
                 .pick(&[
-                    "P", "S", "E", "L", "T", "W", "O", "Q", "A", "X", "", "s", "SS",
+                    "P", "S", "E", "L", "M", "T", "W", "O", "Q", "A", "X", "", "s", "SS",
                 ])
                 .to_string()
         }
@@ -431,6 +492,11 @@ fn fields(tag: &str, numbers: &[i128]) -> Vec<String> {
 
 fn load_fields(n: i128, numbers: &[i128]) -> Vec<String> {
     fields("L", &[&[n], numbers].concat())
+}
+
+fn sample_load_fields(n: i128, dilutions: &[i128], counts: &[i128]) -> Vec<String> {
+    let k = dilutions.len() as i128;
+    fields("M", &[&[n, k], dilutions, counts].concat())
 }
 
 fn joined(lines: &Lines) -> Vec<u8> {

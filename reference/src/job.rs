@@ -27,6 +27,15 @@ impl Job {
         }
         text + &tagged("E", &[self.samples.len() as i128])
     }
+
+    /// The samples as they are handed over: a dilution each, and n counts each, sample after sample.
+    pub fn handed_over(&self) -> (Vec<i128>, Vec<i128>) {
+        let samples = self.samples.iter();
+        (
+            samples.clone().map(|sample| sample.dilution).collect(),
+            samples.flat_map(|sample| sample.counts.clone()).collect(),
+        )
+    }
 }
 
 /// A refusal of job text: its number and the line, from 1.

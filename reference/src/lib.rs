@@ -25,6 +25,10 @@ pub mod turn_vectors;
 
 #[cfg(test)]
 mod bench_cards;
+#[cfg(test)]
+mod certificate;
+#[cfg(test)]
+mod whole;
 
 pub use record::{Axis, Number};
 pub use report::{Outcome, Run};

@@ -2,7 +2,7 @@
 
 use crate::matrix::Matrix;
 use crate::record::{Record, ENTRY_LIMIT};
-use crate::report::{run_by, Outcome, Run, Sweep};
+use crate::report::{run_from, Outcome, Run, Sweep};
 
 const ORDERS: [(&str, Sweep); 2] = [
     ("cyclic", Record::sweep),
@@ -21,7 +21,10 @@ pub fn figures() -> String {
             let runs: Vec<Run> = matrices(n)
                 .iter()
                 .map(|matrix| {
-                    run_by(sweep, n as i128, matrix.numbers(), SWEEP_LIMIT, TOLERANCE)
+                    let mut record = Record::fresh();
+                    record
+                        .load(n as i128, matrix.numbers())
+                        .and_then(|()| run_from(record, sweep, SWEEP_LIMIT, TOLERANCE))
                         .expect("a run that nothing refuses")
                 })
                 .collect();

@@ -119,12 +119,7 @@ mod tests {
             let text = generate_job(seed);
             let Ok(job) = job::read(&text) else { continue };
             read += 1;
-            let dilutions: Vec<i128> = job.samples.iter().map(|sample| sample.dilution).collect();
-            let counts: Vec<i128> = job
-                .samples
-                .iter()
-                .flat_map(|sample| sample.counts.clone())
-                .collect();
+            let (dilutions, counts) = job.handed_over();
             let written = job_text(
                 job.n as i128,
                 job.sweep_limit,

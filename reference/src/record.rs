@@ -1,8 +1,11 @@
-//! Document 01, "The record and its calls", with the refusals 2 and 5 to 11 of its last sections, and document 02's tournament sweep.
+//! Document 01, "The record and its calls", with the refusals 2 and 5 to 11 of its last sections, and document 02's tournament sweep and load of
+//! samples.
 
 use crate::choice::choose;
 use crate::matrix::Matrix;
 use crate::pairs::{self, Pair};
+use crate::readings;
+use crate::scatter::table;
 use crate::turn::turn;
 
 /// Units in one: kept entries are the loaded ones times this.
@@ -26,6 +29,8 @@ pub struct Kept {
     pub a: Matrix,
     pub v: Matrix,
     pub m: i128,
+    /// The shift of a table made from samples; 0 after a plain load.
+    pub e: u32,
 }
 
 #[derive(Clone, Debug, PartialEq, Eq)]
@@ -65,6 +70,23 @@ impl Record {
         let kept = self.counted(loaded)?;
         self.kept = Some(kept);
         Ok(())
+    }
+
+    /// The second load (document 02, W5): "takes n and samples, is refused as W1's writer refuses them, and loads their table". The answer is its e.
+    pub fn load_samples(
+        &mut self,
+        n: i128,
+        dilutions: &[i128],
+        counts: &[i128],
+    ) -> Result<u32, Number> {
+        let loaded = readings::samples(n, dilutions, counts).map(|samples| {
+            let table = table(n as usize, &samples);
+            Kept::fresh(&table.entries, table.e)
+        });
+        let kept = self.counted(loaded)?;
+        let e = kept.e;
+        self.kept = Some(kept);
+        Ok(e)
     }
 
     /// **Turn** p, q. Refusals in the order 10, 9, 11. The answer says whether a turn was made.
@@ -135,9 +157,11 @@ impl Record {
                 .map(|j| kept.a.at(i, j).abs())
                 .sum();
             let rounding = (7 * kept.m + 1) / 2;
+            // "For a table made from readings with e > 0, r_i gains 512 × n units."
+            let loading = if kept.e > 0 { 512 * n as i128 } else { 0 };
             Ok(Axis {
                 a_ii: kept.a.at(i, i),
-                r_i: beside + rounding,
+                r_i: beside + rounding + loading,
                 row: kept.v.row(i).to_vec(),
             })
         });
@@ -167,6 +191,17 @@ impl Record {
 }
 
 impl Kept {
+    /// What a load keeps of these entries.
+    fn fresh(entries: &Matrix, e: u32) -> Kept {
+        let n = entries.n();
+        Kept {
+            a: Matrix::by_rule(n, |i, j| entries.at(i, j) * UNITS),
+            v: Matrix::by_rule(n, |i, j| if i == j { AXIS_ONE } else { 0 }),
+            m: 0,
+            e,
+        }
+    }
+
     /// "choose, then turn if one was chosen. m counts turns made."
     fn turn_if_chosen(&mut self, p: usize, q: usize) -> bool {
         match choose(self.a.at(p, p), self.a.at(q, q), self.a.at(p, q)) {
@@ -191,16 +226,11 @@ fn loaded(n: i128, numbers: &[i128]) -> Result<Kept, Number> {
     if numbers.iter().any(|number| number.abs() > ENTRY_LIMIT) {
         return Err(8);
     }
-    let n = n as usize;
-    let given = Matrix::of_rows(n, numbers);
+    let given = Matrix::of_rows(n as usize, numbers);
     if !given.is_symmetric() {
         return Err(7);
     }
-    Ok(Kept {
-        a: Matrix::by_rule(n, |i, j| given.at(i, j) * UNITS),
-        v: Matrix::by_rule(n, |i, j| if i == j { AXIS_ONE } else { 0 }),
-        m: 0,
-    })
+    Ok(Kept::fresh(&given, 0))
 }
 
 fn index_within(i: i128, n: usize) -> Option<usize> {
