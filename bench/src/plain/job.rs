@@ -144,6 +144,11 @@ pub fn report(text: &[u8], out: &mut [u8]) -> Result<usize, (u32, usize)> {
     let entries = &table[1 + n * n..][..n * n];
     let mut solution = [0; 3 + 8 * 10];
     let count = super::solve::<false>(n, entries, job.limit, job.tolerance, &mut solution);
+    if table[0] > 0 {
+        for axis in solution[3..count].chunks_mut(n + 2) {
+            axis[1] += 512 * n as i64;
+        }
+    }
     let report = write(&job, table[0], &solution[..count]).expect("a vector takes all bytes");
     out.get_mut(..report.len())
         .ok_or((12, 0))?
