@@ -1,5 +1,5 @@
 /* Three samples of two channels: their table and its axes, then their job text and its report, samples that are no job, and a job that is
-   refused; then some calls. It prints what example.out has. At the repository's root:
+   refused; then some calls, and a load of strong samples. It prints what example.out has. At the repository's root:
    rt staticlib field_axes && cc -o target/example bindings/c/example.c target/staticlib/libfield_axes.a && target/example */
 #include "field_axes.h"
 #include <stdio.h>
@@ -77,5 +77,5 @@ int main(void) {
     write_job(5);
     const char *job = "P\t2\t1\t0\nS\t101\t0\t0\n";
     report((const uint8_t *)job, strlen(job));
-    return play("L\t2\t50\t25\t25\t50\nT\t1\t2\nA\t1\n");
+    return play("L\t2\t50\t25\t25\t50\nT\t1\t2\nA\t1\n") || play("M\t2\t2\t100\t100\t65535\t65535\t0\t0\nA\t1\n");
 }

@@ -1,5 +1,5 @@
 //! Three samples of two channels: their table and its axes, then their job text and its report, samples that are no job, and a job that is
-//! refused; then some calls.
+//! refused; then some calls, and a load of strong samples.
 //! It prints what solve.out has. At the repository's root:
 //! `rt staticlib field_axes && cargo run --release --offline --manifest-path bindings/rust/Cargo.toml --example solve`
 
@@ -21,6 +21,8 @@ fn main() {
     }
     show_report("P\t2\t1\t0\nS\t101\t0\t0\n");
     print!("{}", calls(b"L\t2\t50\t25\t25\t50\nT\t1\t2\nA\t1\n"));
+    let strong = b"M\t2\t2\t100\t100\t65535\t65535\t0\t0\nA\t1\n";
+    print!("{}", calls(strong));
 }
 
 fn show_report(job: &str) {
