@@ -39,11 +39,11 @@ pub data Ledger : Type 0 where
 -- 'Load: n and A are as given, B is A times 1024, V is 2^30 on the diagonal and 0 elsewhere, m = 0, Q is 1 on the diagonal and 0 elsewhere'; with
 -- the S and e that it keeps
 unfoldable pub loadedState : ℕ → List ℤ → Matrix → ℕ → State
-loadedState n numbers given shift =
+loadedState n numbers scattered shift =
     record {
       n = n;
       A = matrixOf n numbers;
-      S = given;
+      S = scattered;
       e = shift;
       B = λ i j. pos units *ℤ matrixOf n numbers i j;
       axes = diagonal (pos whole);

@@ -12,3 +12,4 @@ pub mod Rows
 pub mod Invariant
 pub mod Gain
 pub mod GainExample
+pub mod NearExample

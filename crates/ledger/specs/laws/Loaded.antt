@@ -52,10 +52,10 @@ load-size n numbers h =
     widest = omega (arith, h .high)
 
 -- B is 1024 × A and V is 2^30 × Q exactly, with P the identity and D = 1
-sound-load : (n : ℕ) (numbers : List ℤ) (given : Matrix) (shift : ℕ) → Loads n numbers → Rounded n (matrixOf n numbers) given shift →
-    Sound (loadedState n numbers given shift)
+sound-load : (n : ℕ) (numbers : List ℤ) (scattered : Matrix) (shift : ℕ) → Loads n numbers → Rounded n (matrixOf n numbers) scattered shift →
+    Sound (loadedState n numbers scattered shift)
 unfolding loadedState matrixOf I
-sound-load n numbers given shift h near = record {
+sound-load n numbers scattered shift h near = record {
   low = h .low;
   high = h .high;
   entries = small;

@@ -14,7 +14,7 @@ use Rattle.limits.specs.laws.Unless.{passed}
 use Rattle.limits.specs.Limits.{leastChannels, leastSamples, leastDilution, mostChannels, mostCount, mostDilution, mostSamples}
 use Rattle.integer.specs.Within.{allWithin, within}
 use Rattle.integer.specs.laws.Within.{all-at, both, is-within}
-use Rattle.readings.specs.Ranges.{Readings, jobWithin, samplesWithin, valuesWithin}
+use Rattle.readings.specs.Ranges.{Readings, jobWithin, parametersInRange, samplesWithin, valuesWithin}
 use Rattle.readings.specs.Refusal.{areCounted, areSoMany, jobRefusal, numberRefusal, samplesRefusal}
 
 -- `ok` is whether every value is in its range.
@@ -109,6 +109,12 @@ module _ (n : ℕ) (dilutions counts : List ℕ) where
         jobRefusal n limit tolerance dilutions counts ≡ 3
     unfolding jobRefusal
     job-number-third = then-number (jobWithin n limit tolerance dilutions counts)
+
+    -- with limit and tolerance in their ranges a job is refused as its samples are
+    pub job-as-samples : parametersInRange n limit tolerance ≡ true → within leastChannels mostChannels n ≡ true →
+        jobRefusal n limit tolerance dilutions counts ≡ samplesRefusal n dilutions counts
+    unfolding jobRefusal samplesRefusal
+    job-as-samples e f = rw (e, f)
 
     -- one that is not refused
     pub job-taken : jobRefusal n limit tolerance dilutions counts ≡ 0 → Taken (jobWithin n limit tolerance dilutions counts) n dilutions counts

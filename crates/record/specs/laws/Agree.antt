@@ -129,10 +129,10 @@ unfolding Agrees refusedOf
 agree-refused r empty a = a
 agree-refused r (loaded s) a = record { size = a .size; turns = a .turns; shift = a .shift; matrix = a .matrix; axes = a .axes }
 
-agree-loaded : (r : Record) (n : ℕ) (numbers : List ℤ) (given : Matrix) (shift : ℕ) → n ≤ 8 →
-    Agree (loadedRecord r n numbers shift) (L.loadedState n numbers given shift)
+agree-loaded : (r : Record) (n : ℕ) (numbers : List ℤ) (scattered : Matrix) (shift : ℕ) → n ≤ 8 →
+    Agree (loadedRecord r n numbers shift) (L.loadedState n numbers scattered shift)
 unfolding loadedRecord L.loadedState
-agree-loaded r n numbers given shift b =
+agree-loaded r n numbers scattered shift b =
     record {
       size = refl;
       turns = refl;

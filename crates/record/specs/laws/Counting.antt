@@ -1,23 +1,27 @@
--- What a turn and a sweep answer is what they add to m: 'm counts turns made', 'The answer is how many turns it made'.
+-- What a turn and a sweep answer is what they add to m: 'm counts turns made', 'The answer is how many turns it made'; and a load of samples answers
+-- the record's e.
 use mathlib.Core.Path.{_≡_, refl}
 use mathlib.Core.Bool.{Bool, true, false}
 use Prim.Native.Nat.{ℕ, _+_, _-_}
+use mathlib.Core.List.{List}
 use native.Mathlib.Omega.{arith}
 use borrow.Author.Tests.{eq-eqb}
 use Rattle.choice.specs.declared.Choice.{Choice}
 use Rattle.choice.specs.declared.Choice.the-variants.{NoTurn, Turn}
-use Rattle.ledger.specs.Call.{sweepIn, turn}
+use Rattle.ledger.specs.Call.{loadSamples, sweepIn, turn}
 use Rattle.ledger.specs.Order.{pairsIn}
 use Rattle.ledger.specs.Pairs.{Pair}
 use Rattle.ledger.specs.declared.Order.{Order}
 use Rattle.ledger.specs.declared.Order.the-variants.{Cyclic, Tournament}
 use Rattle.ledger.specs.Refusal.{refusalOf}
-use Rattle.record.specs.Record.{acceptedOfUnder, afterOf, answerOf, sweptIn, sweptOf, turnedOf, valueOf, workOf, workedOf}
+use Rattle.record.specs.Record.{acceptedOfUnder, afterOf, answerOf, loadedRecord, samplesRecord, sweptIn, sweptOf, turnedOf, valueOf, workOf, workedOf}
+use Rattle.readings.specs.Samples.{samples}
+use Rattle.scatter.specs.Table.{scatter, shift}
 use Rattle.record.specs.Work.{Work, isTurn, workBy, workPair}
 use Rattle.record.specs.laws.Accepted.{after-accepted}
 use Rattle.record.specs.laws.Turning.{works-least}
 use Rattle.record.specs.declared.Record.{Record}
-use Rattle.record.specs.declared.query.Answer.the-variants.{Swept, TournamentSwept, Turned}
+use Rattle.record.specs.declared.query.Answer.the-variants.{SamplesLoaded, Swept, TournamentSwept, Turned}
 
 same-count : (order : Order) (j k : ℕ) → sweptIn order j ≡ sweptIn order k → j ≡ k
 same-count Cyclic j k e = cc
@@ -54,3 +58,12 @@ unfolding answerOf valueOf acceptedOfUnder turnedOf workedOf workPair workOf
 turn-counts r p q e b a =
     let told = rw (eq-eqb (refusalOf (r .n) (r .m) (turn p q)) 0 e) at a in
     rw (after-accepted r (turn p q) e) (by-choice (r .n) (workOf r) (record { p = p - 1; q = q - 1 }) _ b told)
+
+-- a load of samples that is not refused answers the e that the record then has
+pub samples-counts : (r : Record) (n : ℕ) (dilutions counts : List ℕ) → refusalOf (r .n) (r .m) (loadSamples n dilutions counts) ≡ 0 → (e : ℕ) →
+    answerOf r (loadSamples n dilutions counts) ≡ SamplesLoaded e → afterOf r (loadSamples n dilutions counts) .e ≡ e
+unfolding answerOf valueOf acceptedOfUnder samplesRecord loadedRecord
+samples-counts r n dilutions counts taken e a =
+    let told = rw (eq-eqb (refusalOf (r .n) (r .m) (loadSamples n dilutions counts)) 0 taken) at a in
+    let same : shift (scatter n (samples n dilutions counts)) ≡ e = cc in
+    rw (after-accepted r (loadSamples n dilutions counts) taken) same
