@@ -29,7 +29,8 @@ not-near-511 h = let above : 1_048_576 ≤ 1_044_484 = h in omega (arith, above)
 -- the clause before document 02's W5: |1024 × Q_i A − entry × Q_i| ≤ error, times D
 pub plain-row : (n D : ℕ) (P A : Matrix) (i : ℕ) (entry : ℤ) (error : ℕ) → RowNear n D P A 0 i entry error →
     sumℕ n (λ k. sq (pos units *ℤ product n P A i k -ℤ entry *ℤ P i k)) ≤ D * error * (D * error)
-plain-row n D P A i entry error h = omega (arith, h, sumℕ-cong n {f = whole} {g = plain} (λ k l. ap (λ z. sq (left k -ℤ z)) (one-*ℤ (entry *ℤ P i k))))
+plain-row n D P A i entry error h =
+    omega (arith, h, sumℕ-cong n {f = whole} {g = plain} (λ k l. ap (λ z. sq (left k -ℤ z)) (one-*ℤ (entry *ℤ P i k))))
   where
     left : ℕ → ℤ
     left k = pos units *ℤ product n P A i k

@@ -14,7 +14,8 @@ use Rattle.ledger.specs.Pairs.{Pair}
 use Rattle.ledger.specs.declared.Order.{Order}
 use Rattle.ledger.specs.declared.Order.the-variants.{Cyclic, Tournament}
 use Rattle.ledger.specs.Refusal.{refusalOf}
-use Rattle.record.specs.Record.{acceptedOfUnder, afterOf, answerOf, loadedRecord, samplesRecord, sweptIn, sweptOf, turnedOf, valueOf, workOf, workedOf}
+use Rattle.record.specs.Record.{acceptedOfUnder, afterOf, answerOf, loadedRecord, samplesRecord, sweptIn, sweptOf}
+use Rattle.record.specs.Record.{turnedOf, valueOf, workOf, workedOf}
 use Rattle.readings.specs.Samples.{samples}
 use Rattle.scatter.specs.Table.{scatter, shift}
 use Rattle.record.specs.Work.{Work, isTurn, workBy, workPair}
