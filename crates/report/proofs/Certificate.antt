@@ -49,7 +49,7 @@ use Rattle.turn.specs.Turn.{eight}
 use Rattle.report.specs.AxisNumbers.{axisValues}
 use Rattle.report.specs.Certificate.{Certificate, JobCertificate}
 use Rattle.report.specs.Report.{headOf, lineA, lineR, loadFor, reportOf, runReport, runFor}
-use Rattle.report.specs.Text.{outcomeWord}
+use Rattle.run.specs.Word.{outcomeWord}
 use Rattle.report.specs.laws.AxisNumbers.{axis-answer}
 use Rattle.report.proofs.Bounds.{as-calls, run-channels}
 

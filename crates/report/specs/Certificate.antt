@@ -15,7 +15,7 @@ use Rattle.ledger.specs.Ledger.{State, loaded, ledger}
 use Rattle.ledger.specs.Near.{DirectionNear, RowNear}
 use Rattle.record.specs.declared.run.Outcome.{Outcome}
 use Rattle.report.specs.Report.{loadFor, reportOf}
-use Rattle.report.specs.Text.{outcomeWord}
+use Rattle.run.specs.Word.{outcomeWord}
 use Rattle.rounding.specs.Rounding.{rnd}
 use Rattle.run.specs.Calls.{callsOf}
 use Rattle.scatter.specs.Table.{S}

@@ -2,6 +2,5 @@ pub mod AxisNumbers
 pub mod Report
 pub mod Done
 pub mod Certificate
-pub mod Text
 pub mod inner
 pub mod laws

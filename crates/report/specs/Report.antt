@@ -9,7 +9,7 @@ use Rattle.ledger.specs.Call.{Call, axis, loadSamples}
 use Rattle.report.specs.AxisNumbers.{axisValues}
 use Rattle.record.specs.Record.{answerOf, axisOf}
 use Rattle.record.specs.declared.Record.{Record}
-use Rattle.report.specs.Text.{outcomeWord}
+use Rattle.run.specs.Word.{outcomeWord}
 use Rattle.record.specs.declared.run.Run.{Run}
 use Rattle.run.specs.Run.{runAfter}
 use Rattle.text.specs.Line.{numberLine, wordLine}

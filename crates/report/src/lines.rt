@@ -6,24 +6,15 @@ ghost use lib.ListN.{length};
 ghost use Rattle.text.specs.Put.{Put, Sized};
 ghost use Rattle.text.specs.Line.{wordLine};
 ghost use Rattle.text.specs.Rows.{Wide};
-ghost use Rattle.report.specs.Text.{outcomeWord};
+ghost use Rattle.run.specs.Word.{outcomeWord};
 ghost use Rattle.report.specs.inner.Text.{textOf};
-
-fn word_length(outcome: Outcome) -> usize
-    ensures { λ r. ⌜ r ≡ length (outcomeWord outcome) ⌝ }
-{
-    match outcome {
-        Outcome::Settled => 7,
-        Outcome::Still => 5,
-        Outcome::Spent => 5,
-    }
-}
 
 pub(crate) fn text_length(head: &[i64], outcome: Outcome, axes: &[[i64; 11]; 8], n: usize) -> usize
     requires { ⌜ (length (now head) ≡ 5) × (n ≤ 8) × Wide (now axes) ⌝ }
     ensures { λ r. ⌜ Sized (textOf (now (head .entry)) outcome (now (axes .entry)) n) 2048 r ⌝ }
 {
-    let first = text::line::numbers_length(head, head.len()) + word_length(outcome) + 3;
+    let word = run::word::word_of(outcome);
+    let first = text::line::numbers_length(head, head.len()) + word.length + 3;
     first + text::rows::rows_length(axes, n, n + 3)
 }
 
@@ -31,11 +22,10 @@ fn put_head(buf: &mut [u8], head: &[i64], outcome: Outcome) -> usize
     requires { ⌜ length (wordLine 82 (now head) (outcomeWord outcome)) ≤ length (now buf) ⌝ }
     ensures { λ r. ⌜ Put (wordLine 82 (now (head .entry)) (outcomeWord outcome)) 0 (now (buf .entry)) (now (buf .exit)) r ⌝ }
 {
-    match outcome {
-        Outcome::Settled => text::line::put_word_line(buf, b'R', head, head.len(), b"settled"),
-        Outcome::Still => text::line::put_word_line(buf, b'R', head, head.len(), b"still"),
-        Outcome::Spent => text::line::put_word_line(buf, b'R', head, head.len(), b"spent"),
-    }
+    let word = run::word::word_of(outcome);
+    let bytes = word.bytes;
+    let length = word.length;
+    text::line::put_word_line(buf, b'R', head, head.len(), &bytes[..length])
 }
 
 // The A lines are written after the R line.

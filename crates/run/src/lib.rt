@@ -1,4 +1,6 @@
 // A run of document 01: a fresh record of its own, a load, and the sweeps; of a matrix, or of a table made from readings.
+pub mod word;
+
 use record::Record;
 use record::Run;
 ghost use Rattle.run.specs.Run.{Allowed, Runs, RunsTable};

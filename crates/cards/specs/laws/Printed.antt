@@ -18,7 +18,7 @@ use Rattle.record.specs.Run.{runFrom}
 use Rattle.run.specs.Run.{runAfter}
 use Rattle.report.specs.AxisNumbers.{axisValues}
 use Rattle.report.specs.Report.{headOf, loadFor, runFor, lineR, lineA, reportOf, runReport}
-use Rattle.report.specs.Text.{outcomeWord}
+use Rattle.run.specs.Word.{outcomeWord}
 use Rattle.rounding.specs.Rounding.{rnd}
 use Rattle.scatter.specs.Table.{S, scatter, largest, smallestShift, shiftUnder, entriesUnder}
 use Rattle.readings.specs.Samples.{samples, sampleAt, total, z}

@@ -7,7 +7,7 @@ use Rattle.record.specs.declared.run.Outcome.{Outcome}
 use Rattle.text.specs.Line.{wordLine}
 use Rattle.text.specs.Lines.{lines}
 use Rattle.text.specs.Rows.{rowLine}
-use Rattle.report.specs.Text.{outcomeWord}
+use Rattle.run.specs.Word.{outcomeWord}
 
 unfoldable pub textOf : List ℤ → Outcome → List (List ℤ) → ℕ → List ℕ
 textOf head outcome axes n = wordLine 82 head (outcomeWord outcome) ++ lines (rowLine 65 (n + 3) axes) n

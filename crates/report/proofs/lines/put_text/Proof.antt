@@ -7,7 +7,7 @@ use Rattle.text.specs.laws.Put.{put-then}
 use Rattle.text.specs.Line.{wordLine}
 use Rattle.text.specs.Lines.{lines}
 use Rattle.text.specs.Rows.{rowLine}
-use Rattle.report.specs.Text.{outcomeWord}
+use Rattle.run.specs.Word.{outcomeWord}
 use Rattle.report.specs.inner.Text.{textOf}
 use Rattle.report.proofs.Written.{text-size}
 use Rattle.report.proofs.lines.put_text.Statement.{statement}
