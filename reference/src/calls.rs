@@ -74,7 +74,7 @@ fn call(fields: &[&[u8]]) -> Option<Call> {
 }
 
 /// An optional minus and decimal digits, without a leading zero unless it is 0; `-0` is none.
-fn signed(field: &[u8]) -> Option<i128> {
+pub fn signed(field: &[u8]) -> Option<i128> {
     match field.strip_prefix(b"-") {
         None => unsigned(field),
         Some(size) => unsigned(size).filter(|&size| size != 0).map(|size| -size),

@@ -1,7 +1,7 @@
 //! The stored files of the repository that follow from document 01 or from a rule: computed anew, and compared or written.
 
-use crate::examples::{longest, longest_calls, CALLS, JOBS};
-use crate::{calls_of, job, jobs, report_of, scatter_vectors, table_of, turn_vectors};
+use crate::examples::{longest, longest_calls, CALLS, JOBS, PANELS};
+use crate::{calls_of, job, jobs, panels, report_of, scatter_vectors, table_of, turn_vectors};
 use std::path::Path;
 use std::{fs, io};
 
@@ -27,7 +27,12 @@ fn all() -> Vec<Stored> {
         stored("crates/table/stdout", table_of(&longest())),
         stored("crates/calls/stdin", longest_calls()),
         stored("crates/calls/stdout", calls_of(&longest_calls())),
-        stored("crates/test_turns/stdout", turn_vectors::turns().into_bytes()),
+        stored("crates/panels/args", b"8\n".to_vec()),
+        stored("crates/panels/stdout", panels::program(&["8"]).into_bytes()),
+        stored(
+            "crates/test_turns/stdout",
+            turn_vectors::turns().into_bytes(),
+        ),
         stored(
             "crates/test_tables/stdout",
             scatter_vectors::scatter().into_bytes(),
@@ -53,6 +58,11 @@ fn all() -> Vec<Stored> {
         let named =
             |ending: &str, bytes| stored(format!("examples/{}.{ending}", example.name), bytes);
         files.extend([named("answers", calls_of(&text)), named("calls", text)]);
+    }
+    for run in PANELS {
+        let printed = panels::program(&(run.arguments)()).into_bytes();
+        let named = |ending: &str, bytes| stored(format!("examples/{}.{ending}", run.name), bytes);
+        files.extend([named("listed", printed), named("panels", run.lines())]);
     }
     files
 }

@@ -60,6 +60,53 @@ pub const CALLS: &[Example] = &[
     example("samples", sample_loads),
 ];
 
+/// A name, and the arguments of a program that is run at the repository's root.
+pub struct Run {
+    pub name: &'static str,
+    pub arguments: fn() -> Vec<String>,
+}
+
+impl Run {
+    /// The arguments, a line each.
+    pub fn lines(&self) -> Vec<u8> {
+        let lines = (self.arguments)().into_iter();
+        lines.map(|word| word + "\n").collect::<String>().into()
+    }
+}
+
+const fn run(name: &'static str, arguments: fn() -> Vec<String>) -> Run {
+    Run { name, arguments }
+}
+
+/// All panels of each size, but for the largest, on which the program's own stored output is; and what is no size.
+pub const PANELS: &[Run] = &[
+    run("size_0", || words("0")),
+    run("size_1", || words("1")),
+    run("size_2", || words("2")),
+    run("size_3", || words("3")),
+    run("size_4", || words("4")),
+    run("size_5", || words("5")),
+    run("size_6", || words("6")),
+    run("size_7", || words("7")),
+    run("size_9", || words("9")),
+    run("negative", || words("-1")),
+    run("beyond_64_bits", || words("18446744073709551617")),
+    run("long", || vec!["1".repeat(5_000)]),
+    run("long_negative", || vec![format!("-{}", "1".repeat(5_000))]),
+    run("long_no_number", || vec!["1".repeat(5_000) + "x"]),
+    run("none", Vec::new),
+    run("two", || words("1 1")),
+    run("empty", || vec![String::new()]),
+    run("minus_zero", || words("-0")),
+    run("leading_zero", || words("01")),
+    run("plus", || words("+1")),
+    run("blank", || vec!["1 ".into()]),
+];
+
+fn words(words: &str) -> Vec<String> {
+    words.split(' ').map(str::to_string).collect()
+}
+
 /// Document 01's printed example, blanks for tabs.
 pub const PRINTED: &str = "P 2 1 0\nS 1 0 0\nS 5 1 0\nS 1 5 5\nE 3\n";
 
@@ -346,7 +393,7 @@ fn every_pair() -> Vec<u8> {
 #[cfg(test)]
 mod tests {
     use super::*;
-    use crate::{calls_of, report_of, table_of};
+    use crate::{calls_of, panels, report_of, table_of};
     use std::collections::BTreeSet;
 
     fn answers(text: &[u8]) -> String {
@@ -461,6 +508,21 @@ mod tests {
             "none",
         ];
         assert!(kinds(&answers).iter().eq(expected), "{:?}", kinds(&answers));
+    }
+
+    #[test]
+    fn example_panels_are_as_named() {
+        for run in PANELS {
+            let printed = panels::program(&(run.arguments)());
+            let expected = match run.name {
+                "size_9" | "negative" | "beyond_64_bits" | "long" | "long_negative" => "X\t2\n",
+                name => match name.strip_prefix("size_") {
+                    Some(b) => &panels::text(b.parse().unwrap()).unwrap(),
+                    None => "?\n",
+                },
+            };
+            assert_eq!(printed, expected, "{}", run.name);
+        }
     }
 
     #[test]

@@ -10,6 +10,7 @@ pub mod jobs;
 pub mod matrix;
 pub mod orders;
 pub mod pairs;
+pub mod panels;
 mod random;
 pub mod readings;
 pub mod record;

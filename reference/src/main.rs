@@ -1,21 +1,24 @@
 //! The reference implementation of Field Axes: its commands.
 
-use reference::{calls, check, generate, job, jobs, orders, report, scatter_vectors, turn_vectors};
+use reference::{
+    calls, check, generate, job, jobs, orders, panels, report, scatter_vectors, turn_vectors,
+};
 use std::env;
+use std::ffi::OsString;
 use std::io::{self, Read, Write};
+use std::os::unix::ffi::OsStrExt;
 use std::path::Path;
 use std::process::ExitCode;
 
 const USAGE: &str = "\
-reference axes | calls | table
+reference axes | calls | table | panels B
 reference generate job SEED | generate calls SEED
 reference jobs | jobs names | vectors turns | vectors scatter | vectors jobs
 reference check DIR | store DIR | orders";
 
 fn main() -> ExitCode {
-    let arguments: Vec<String> = env::args().skip(1).collect();
-    let words: Vec<&str> = arguments.iter().map(String::as_str).collect();
-    match output(&words) {
+    let arguments: Vec<OsString> = env::args_os().skip(1).collect();
+    match output(&arguments) {
         Some((bytes, ok)) => match io::stdout().write_all(&bytes) {
             Ok(()) if ok => ExitCode::SUCCESS,
             _ => ExitCode::FAILURE,
@@ -28,11 +31,19 @@ fn main() -> ExitCode {
 }
 
 /// What a command writes, and whether it ends well; none for words that are no command.
-fn output(words: &[&str]) -> Option<(Vec<u8>, bool)> {
-    let bytes = match words {
+fn output(arguments: &[OsString]) -> Option<(Vec<u8>, bool)> {
+    // What a program is given may be of any bytes; no other word is.
+    let words: Vec<&str> = arguments
+        .iter()
+        .map(|word| word.to_str().unwrap_or(""))
+        .collect();
+    let after = arguments.get(1..).unwrap_or(&[]);
+    let after: Vec<&[u8]> = after.iter().map(|word| word.as_bytes()).collect();
+    let bytes = match words[..] {
         ["axes"] => report::axes_program(&input(job::TEXT_LIMIT)?).into_bytes(),
         ["calls"] => calls::play(&input(calls::TEXT_LIMIT + 1)?).into_bytes(),
         ["table"] => report::table_program(&input(job::TEXT_LIMIT)?).into_bytes(),
+        ["panels", ..] => panels::program(&after).into_bytes(),
         ["generate", "job", seed] => generate::job_text(seed.parse().ok()?),
         ["generate", "calls", seed] => generate::calls_text(seed.parse().ok()?),
         ["jobs"] => jobs::container(),
