@@ -16,8 +16,8 @@ use Rattle.integer.specs.Signed.{signed}
 use Rattle.text.specs.Numeral.{leadingZero, valueFrom}
 use Rattle.integer.specs.Within.{allWithin, within}
 use Rattle.integer.specs.laws.Within.{both, is-within}
-use Rattle.call_text.specs.Numbers.{beyond, digitLimit, numeral, signedOf, standsFor, unsignedOf, withMinus, withoutMinus}
-use Rattle.call_text.specs.inner.Read.{unsignedIs, signedIs}
+use Rattle.call_text.specs.Numbers.{beyond, digitLimit, numeral, signedIs, signedOf, standsFor, unsignedOf, withMinus, withoutMinus}
+use Rattle.call_text.specs.inner.Read.{unsignedIs}
 use Rattle.call_text.specs.declared.field.Unsigned.{Unsigned}
 use Rattle.call_text.specs.declared.field.Unsigned.the-variants.{Is, No}
 use Rattle.call_text.specs.declared.field.Signed.the-variants as Signed

@@ -12,10 +12,10 @@ use lib.IntN.{ℤ}
 use lib.ListN.{length, take, drop, getD, set, length-append, length-set, take-append-drop}
 use lib.Seq.{drop-drop, drop-set-lt, getD-take, length-take-le, take-nil, take-suc-set}
 use Rattle.text.specs.Parts.{before, split}
-use Rattle.call_text.specs.Numbers.{eachNumber, signedOf}
+use Rattle.call_text.specs.Numbers.{eachNumber, signedIs, signedOf}
 use Rattle.call_text.specs.Requests.{leading, leftBy, leftIn, onward}
 use Rattle.call_text.specs.inner.Parts.{front}
-use Rattle.call_text.specs.inner.Read.{FieldsRead, counted, fieldsBy, signedIs}
+use Rattle.call_text.specs.inner.Read.{FieldsRead, counted, fieldsBy}
 use Rattle.call_text.specs.declared.field.Signed.{Signed}
 use Rattle.call_text.specs.declared.field.Signed.the-variants.{Is, No}
 use Rattle.call_text.specs.declared.line.Fields.{Fields}

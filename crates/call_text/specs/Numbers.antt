@@ -9,6 +9,8 @@ use lib.ListN.{length}
 use Rattle.text.specs.Numeral.{leadingZero, valueFrom}
 use Rattle.text.specs.Parts.{before}
 use Rattle.integer.specs.Within.{allWithin}
+use Rattle.call_text.specs.declared.field.Signed.{Signed}
+use Rattle.call_text.specs.declared.field.Signed.the-variants as Signed
 
 -- README: 'decimal digits, no leading zero unless it is 0'
 unfoldable pub numeral : List ℕ → Bool
@@ -41,6 +43,11 @@ withMinus (some (suc x)) = some (negsuc x)
 unfoldable pub signedOf : List ℕ → Option ℤ
 signedOf [] = none
 signedOf (b ∷ bs) = cond (eqb b 45) (withMinus (unsignedOf bs)) (withoutMinus (unsignedOf (b ∷ bs)))
+
+-- what the reader of a number answers
+unfoldable pub signedIs : Option ℤ → Signed
+signedIs none = Signed.No
+signedIs (some x) = Signed.Is x
 
 -- the numbers of fields, each of which has to be one
 unfoldable pub eachNumber : List (List ℕ) → Option (List ℤ)

@@ -6,8 +6,8 @@ ghost use Prim.Native.Nat.{_≤_};
 ghost use lib.ListN.{length};
 ghost use Rattle.text.specs.Numeral.{leadingZero, valueFrom};
 ghost use Rattle.integer.specs.Within.{allWithin};
-ghost use Rattle.call_text.specs.Numbers.{digitLimit, numeral, signedOf, unsignedOf};
-ghost use Rattle.call_text.specs.inner.Read.{signedIs, unsignedIs};
+ghost use Rattle.call_text.specs.Numbers.{digitLimit, numeral, signedIs, signedOf, unsignedOf};
+ghost use Rattle.call_text.specs.inner.Read.{unsignedIs};
 
 // A number of more digits than this stands for `BEYOND`, which is out of every range.
 const DIGITS: usize = 10;
@@ -94,7 +94,7 @@ fn natural(field: &[u8]) -> Unsigned
     Unsigned::Is(value(field))
 }
 
-pub(crate) fn number(field: &[u8]) -> Signed
+pub fn number(field: &[u8]) -> Signed
     ensures { λ r. ⌜ r ≡ signedIs (signedOf (now (field .entry))) ⌝ }
 {
     if field.len() < 1 {

@@ -1,6 +1,6 @@
 // Lines of calls and of answers: what a line asks for, and the line that an answer prints.
 pub mod answer;
-mod field;
+pub mod field;
 pub mod find;
 mod line;
 pub mod reading;

@@ -12,6 +12,7 @@ use Rattle.integer.specs.laws.Within.{all-at}
 use Rattle.integer.specs.Within.{allWithin, within}
 use Rattle.text.specs.Line.{further, line, numberLine, numbers}
 use Rattle.text.specs.Lines.{lines}
+use Rattle.text.specs.laws.Lines.{lines-most}
 use Rattle.text.specs.laws.Numbers.{length-number-line}
 use Rattle.readings.specs.Samples.{sampleAt}
 use Rattle.readings.specs.Ranges.{parametersInRange}
@@ -26,12 +27,6 @@ numbers-most : (w : ℕ) (xs : List ℕ) → ((i : ℕ) → getD xs i 0 < 10 ^ s
 unfolding numbers further number
 numbers-most w [] h = omega arith
 numbers-most w (x ∷ xs) h = rw length-append (omega (arith, length-digits w x (h 0), numbers-most w xs (λ i. h (suc i))))
-
--- Lines of at most b bytes each
-lines-most : (f : ℕ → List ℕ) (b k : ℕ) → ((i : ℕ) → i < k → length (f i) ≤ b) → length (lines f k) ≤ b * k
-unfolding lines
-lines-most f b zero h = omega arith
-lines-most f b (suc k) h = rw length-append (omega (arith, lines-most f b k (λ i l. h i (omega arith)), h k (omega arith)))
 
 module _ (j : Job) (p : Proper j) where
   first-length : length (jobLineP j) ≤ 15

@@ -14,16 +14,10 @@ use Rattle.call_text.specs.declared.line.Fields.{Fields}
 use Rattle.call_text.specs.declared.line.Fields.the-variants as Fields
 use Rattle.call_text.specs.declared.field.Unsigned.{Unsigned}
 use Rattle.call_text.specs.declared.field.Unsigned.the-variants as Unsigned
-use Rattle.call_text.specs.declared.field.Signed.{Signed}
-use Rattle.call_text.specs.declared.field.Signed.the-variants as Signed
 
 unfoldable pub unsignedIs : Option ℕ → Unsigned
 unsignedIs none = Unsigned.No
 unsignedIs (some x) = Unsigned.Is x
-
-unfoldable pub signedIs : Option ℤ → Signed
-signedIs none = Signed.No
-signedIs (some x) = Signed.Is x
 
 -- a line's tag, and how many numbers follow it
 unfoldable pub counted : ℕ → Option (List ℤ) → Fields

@@ -1,5 +1,5 @@
--- Laws of this subject: Lines one after another, and their laws: one line more, and the room that a line has among the others.
-use Prim.Native.Nat.{ℕ, zero, suc, _+_, _<_, _≤_}
+-- Laws of lines one after another: one line more, the room that a line has among the others, and how long they are at most.
+use Prim.Native.Nat.{ℕ, zero, suc, _+_, _*_, _<_, _≤_}
 use mathlib.Core.Path.{_≡_, refl}
 use mathlib.Core.List.{List, [], _++_}
 use native.Mathlib.Decide.{decLt}
@@ -30,6 +30,12 @@ module _ (f : ℕ → List ℕ) where
           length (lines f i) + length (f i) ≤ length (lines f k ++ f k)
       by-place below (yes l) = rw length-append (omega (arith, below l))
       by-place below (no l) = let e : i ≡ k = omega arith in rw (e, length-append) (omega arith)
+
+-- Lines of at most b bytes each.
+pub lines-most : (f : ℕ → List ℕ) (b k : ℕ) → ((i : ℕ) → i < k → length (f i) ≤ b) → length (lines f k) ≤ b * k
+unfolding lines
+lines-most f b zero h = omega arith
+lines-most f b (suc k) h = rw length-append (omega (arith, lines-most f b k (λ i l. h i (omega arith)), h k (omega arith)))
 
 pub lines-same : (k : ℕ) (f g : ℕ → List ℕ) → ((i : ℕ) → i < k → f i ≡ g i) → lines f k ≡ lines g k
 unfolding lines

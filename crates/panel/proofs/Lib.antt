@@ -1,0 +1,4 @@
+mod Answers
+mod Ranges
+mod Small
+pub mod Bounds
