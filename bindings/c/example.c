@@ -1,5 +1,6 @@
 /* Three samples of two channels: their table and its axes, then their job text and its report, samples that are no job, and a job that is
-   refused; then some calls, and a load of strong samples. It prints what example.out has. At the repository's root:
+   refused; then some calls, and a load of strong samples; last, all panels of size 1, the first and the last of them, and one that is none. It
+   prints what example.out has. At the repository's root:
    rt staticlib field_axes && cc -o target/example bindings/c/example.c target/staticlib/libfield_axes.a && target/example */
 #include "field_axes.h"
 #include <stdio.h>
@@ -69,6 +70,23 @@ static int play(const char *calls) {
     return 0;
 }
 
+static int list_panels(void) {
+    static uint8_t out[FIELD_AXES_MOST_PANELS_BYTES];
+    int64_t length = field_axes_panels(1, out, sizeof out);
+    if (length < 0)
+        return 1;
+    fwrite(out, 1, (size_t)length, stdout);
+    for (int64_t position = 1; position <= 27; position += 26) {
+        int64_t a[3];
+        if (field_axes_panel(1, position, a, 3) < 0)
+            return 1;
+        printf("panel %lld: %lld %lld %lld\n", (long long)field_axes_panel_position(1, a[0], a[1], a[2]), (long long)a[0],
+               (long long)a[1], (long long)a[2]);
+    }
+    printf("refused %lld\n", (long long)-field_axes_panel_position(1, 0, 2, 0));
+    return 0;
+}
+
 int main(void) {
     int64_t entries[4];
     if (tabulate(entries) || solve(entries))
@@ -77,5 +95,5 @@ int main(void) {
     write_job(5);
     const char *job = "P\t2\t1\t0\nS\t101\t0\t0\n";
     report((const uint8_t *)job, strlen(job));
-    return play("L\t2\t50\t25\t25\t50\nT\t1\t2\nA\t1\n") || play("M\t2\t2\t100\t100\t65535\t65535\t0\t0\nA\t1\n");
+    return play("L\t2\t50\t25\t25\t50\nT\t1\t2\nA\t1\n") || play("M\t2\t2\t100\t100\t65535\t65535\t0\t0\nA\t1\n") || list_panels();
 }

@@ -56,4 +56,21 @@ int64_t field_axes_calls(const uint8_t *text, size_t text_length, uint8_t *out, 
 
 #define FIELD_AXES_MOST_ANSWER_BYTES 256
 
+/* All panels of a size: the symmetric matrices of two channels with entries from -b to b, by a_11, then a_12, then a_22, smallest first. Into out: a
+   line each of these three entries, then the sweeps run, the turns made and the outcome of a run with limit 16 and tolerance 0, at most
+   FIELD_AXES_MOST_PANELS_BYTES bytes, with no 0 after them. Bytes past them stay.
+   The answer is their length, or a refusal's number negated: 2 for a b outside 0 to 8, then 12 for a short buffer. At a refusal the buffer
+   stays. */
+int64_t field_axes_panels(int64_t b, uint8_t *out, size_t out_length);
+
+#define FIELD_AXES_MOST_PANELS_BYTES 92706
+
+/* The panel at a position of that list, from 1. Into out: a_11, a_12, a_22. Numbers past them stay.
+   The answer is 3, or a refusal's number negated: 2 for a b outside 0 to 8 or a position outside 1 to (2b+1)^3, then 12 for a buffer of fewer than
+   three. At a refusal the buffer stays. */
+int64_t field_axes_panel(int64_t b, int64_t position, int64_t *out, size_t out_length);
+
+/* The position in that list, from 1, of the panel of these entries; or -2 for a b outside 0 to 8 or an entry beyond +-b. */
+int64_t field_axes_panel_position(int64_t b, int64_t a11, int64_t a12, int64_t a22);
+
 #endif

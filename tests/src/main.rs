@@ -4,6 +4,7 @@
 
 mod calling;
 mod declarations;
+mod listing;
 mod random;
 mod reporting;
 mod samples;
@@ -33,12 +34,13 @@ fn main() -> ExitCode {
         println!("job: {difference}");
         failed = true;
     }
-    let kinds: [(&str, fn(u64) -> Result<String, String>); 5] = [
+    let kinds: [(&str, fn(u64) -> Result<String, String>); 6] = [
         ("report", reporting::case),
         ("calls", calling::case),
         ("solve", solving::case),
         ("table", tabulating::case),
         ("job", writing::case),
+        ("panels", listing::case),
     ];
     for (name, case) in kinds {
         let mut counts = std::collections::BTreeMap::new();

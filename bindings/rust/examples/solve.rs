@@ -1,9 +1,11 @@
 //! Three samples of two channels: their table and its axes, then their job text and its report, samples that are no job, and a job that is
-//! refused; then some calls, and a load of strong samples.
+//! refused; then some calls, and a load of strong samples; last, all panels of size 1, the first and the last of them, and one that is none.
 //! It prints what solve.out has. At the repository's root:
 //! `rt staticlib field_axes && cargo run --release --offline --manifest-path bindings/rust/Cargo.toml --example solve`
 
-use field_axes::{calls, job, report, solve, table, JobRefused, Refused};
+use field_axes::{
+    calls, job, panel, panel_position, panels, report, solve, table, JobRefused, Refused,
+};
 
 fn main() {
     let (dilutions, counts) = ([1, 5, 1], [0, 0, 1, 0, 5, 5]);
@@ -23,6 +25,20 @@ fn main() {
     print!("{}", calls(b"L\t2\t50\t25\t25\t50\nT\t1\t2\nA\t1\n"));
     let strong = b"M\t2\t2\t100\t100\t65535\t65535\t0\t0\nA\t1\n";
     print!("{}", calls(strong));
+    if let Err(Refused(number)) = show_panels() {
+        println!("refused {number}");
+    }
+}
+
+fn show_panels() -> Result<(), Refused> {
+    print!("{}", panels(1)?);
+    for position in [1, 27] {
+        let [a11, a12, a22] = panel(1, position)?;
+        let again = panel_position(1, [a11, a12, a22])?;
+        println!("panel {again}: {a11} {a12} {a22}");
+    }
+    panel_position(1, [0, 2, 0])?;
+    Ok(())
 }
 
 fn show_report(job: &str) {

@@ -52,6 +52,12 @@ mod raw {
             out: *mut u8,
             out_length: usize,
         ) -> i64;
+
+        pub fn field_axes_panels(b: i64, out: *mut u8, out_length: usize) -> i64;
+
+        pub fn field_axes_panel(b: i64, position: i64, out: *mut i64, out_length: usize) -> i64;
+
+        pub fn field_axes_panel_position(b: i64, a11: i64, a12: i64, a22: i64) -> i64;
     }
 }
 
@@ -275,7 +281,45 @@ pub fn calls_into(text: &[u8], out: &mut [u8]) -> Result<usize, Refused> {
     answer(unsafe { raw::field_axes_calls(text.as_ptr(), text.len(), out.as_mut_ptr(), out.len()) })
 }
 
-/// A count, or a refusal's number negated.
+/// The most bytes that all panels of a size have.
+pub const MOST_PANELS_BYTES: usize = 92_706;
+
+/// All symmetric matrices of two channels with entries from −b to b, by a_11, then a_12, then a_22, smallest first, a line each: these three
+/// entries, then the sweeps run, the turns made and the outcome of a run with limit 16 and tolerance 0. Refused 2 for a b outside 0 to 8.
+pub fn panels(b: i64) -> Result<String, Refused> {
+    let mut out = vec![0; MOST_PANELS_BYTES];
+    let length = panels_into(b, &mut out)?;
+    Ok(out[..length].iter().copied().map(char::from).collect())
+}
+
+/// The same at the front of `out`; its other bytes stay. The answer is their length. Refused 12, last, where `out` is too short; at a refusal it
+/// stays as it was.
+pub fn panels_into(b: i64, out: &mut [u8]) -> Result<usize, Refused> {
+    // Safe: the slice is whole, and borrowed for the call; the function has no other requirement.
+    answer(unsafe { raw::field_axes_panels(b, out.as_mut_ptr(), out.len()) })
+}
+
+/// The panel at a position of that list, from 1: a_11, a_12, a_22. Refused 2 for a b outside 0 to 8 or a position outside 1 to (2b+1)³.
+pub fn panel(b: i64, position: i64) -> Result<[i64; 3], Refused> {
+    let mut out = [0; 3];
+    panel_into(b, position, &mut out)?;
+    Ok(out)
+}
+
+/// The same at the front of `out`; its other numbers stay. The answer is 3. Refused 12, last, where `out` is too short; at a refusal it stays
+/// as it was.
+pub fn panel_into(b: i64, position: i64, out: &mut [i64]) -> Result<usize, Refused> {
+    // Safe: the slice is whole, and borrowed for the call; the function has no other requirement.
+    answer(unsafe { raw::field_axes_panel(b, position, out.as_mut_ptr(), out.len()) })
+}
+
+/// The position in that list, from 1, of the panel of these entries: a_11, a_12, a_22. Refused 2 for a b outside 0 to 8 or an entry beyond ±b.
+pub fn panel_position(b: i64, [a11, a12, a22]: [i64; 3]) -> Result<usize, Refused> {
+    // Safe: the function has no requirement.
+    answer(unsafe { raw::field_axes_panel_position(b, a11, a12, a22) })
+}
+
+/// A count or a position, or a refusal's number negated.
 fn answer(count: i64) -> Result<usize, Refused> {
     usize::try_from(count).map_err(|_| Refused(count.unsigned_abs() as u32))
 }

@@ -17,7 +17,7 @@ use Rattle.field_axes.specs.Answer.{countOrRefusal}
 use Rattle.field_axes.specs.Done.{WritesJob}
 
 module _ (refusal : ℕ) (text : List ℕ) where
-  length-number : (k : ℕ) → Length k ≡ writtenOf refusal text → pos k ≡ countOrRefusal refusal text
+  pub length-number : (k : ℕ) → Length k ≡ writtenOf refusal text → pos k ≡ countOrRefusal refusal text
   unfolding writtenOf countOrRefusal
   length-number k = by (eqb refusal 0)
     where
@@ -26,7 +26,7 @@ module _ (refusal : ℕ) (text : List ℕ) where
       by true e = let q : k ≡ length text = cc in rw q
       by false e = let z : _≡_ {A = ℕ} 0 1 = cc in absurd (omega arith)
 
-  refused-number : (number : ℕ) → Refused number ≡ writtenOf refusal text → negℤ (pos number) ≡ countOrRefusal refusal text
+  pub refused-number : (number : ℕ) → Refused number ≡ writtenOf refusal text → negℤ (pos number) ≡ countOrRefusal refusal text
   unfolding writtenOf countOrRefusal
   refused-number number = by (eqb refusal 0)
     where

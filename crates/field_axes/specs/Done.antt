@@ -2,15 +2,18 @@
 use mathlib.Core.Path.{_≡_}
 use mathlib.Core.List.{List}
 use Prim.Native.Nat.{ℕ}
-use lib.IntN.{ℤ}
+use lib.IntN.{ℤ, natAbs}
 use lib.ListN.{length}
 use Rattle.play.specs.Buffer.{outputOf, playedInto}
 use Rattle.job.specs.Reply.{bufferOf, replyOf}
 use Rattle.report.specs.Report.{reportOf}
 use Rattle.text.specs.Written.{lentAfter}
+use Rattle.panel.specs.Refusal.{atPosition}
+use Rattle.panel.specs.Text.{panelsText}
 use Rattle.field_axes.specs.Answer.{countOrRefusal}
 use Rattle.field_axes.specs.Calls.{lengthOrShort}
 use Rattle.field_axes.specs.JobText.{textFor, textRefusal}
+use Rattle.field_axes.specs.Panels.{panelNumbers, panelRefusal, panelsRefusal}
 use Rattle.field_axes.specs.Report.{lengthOrNumber, refusedLine}
 use Rattle.field_axes.specs.Solution.{solutionOf, solveRefusal}
 use Rattle.field_axes.specs.Table.{tableNumbersOf, tableRefusal}
@@ -36,3 +39,13 @@ pub record ReportsText (text entry exit : List ℕ) (at : ℕ) (r : ℤ) : Type 
 pub record PlaysText (text entry exit : List ℕ) (r : ℤ) : Type 0 where
   pub answer : r ≡ lengthOrShort (outputOf text (length entry))
   pub buffer : exit ≡ playedInto text entry
+
+-- the text's length, or the refusal's number negated
+pub record ListsPanels (b : ℤ) (entry exit : List ℕ) (r : ℤ) : Type 0 where
+  pub answer : r ≡ countOrRefusal (panelsRefusal b (length entry)) (panelsText (natAbs b))
+  pub buffer : exit ≡ lentAfter (panelsRefusal b (length entry)) (panelsText (natAbs b)) entry
+
+-- 3, or the refusal's number negated
+pub record GivesPanel (b position : ℤ) (entry exit : List ℤ) (r : ℤ) : Type 0 where
+  pub answer : r ≡ countOrRefusal (panelRefusal b position (length entry)) (panelNumbers (atPosition b position))
+  pub buffer : exit ≡ lentAfter (panelRefusal b position (length entry)) (panelNumbers (atPosition b position)) entry

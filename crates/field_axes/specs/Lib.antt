@@ -5,5 +5,6 @@ pub mod Calls
 pub mod Done
 pub mod Solution
 pub mod Table
+pub mod Panels
 pub mod inner
 pub mod laws

@@ -3,11 +3,16 @@ mod solve;
 mod table;
 
 use job::reply::Reply;
+use panel::Panel;
+use panel::position::AtPosition;
+use panel::position::OfPanel;
 use play::Output;
 use text::Written;
 ghost use mathlib.Core.Path.{_≡_};
 ghost use lib.IntN.{pos, negℤ};
-ghost use Rattle.field_axes.specs.Done.{PlaysText, ReportsText, Solves, Tabulates, WritesJob};
+ghost use Rattle.panel.specs.Refusal.{ofPanel};
+ghost use Rattle.field_axes.specs.Done.{GivesPanel, ListsPanels, PlaysText, ReportsText, Solves, Tabulates, WritesJob};
+ghost use Rattle.field_axes.specs.Panels.{panelOf, positionOrRefusal};
 
 // The answer of a refusal.
 fn refused(number: u32) -> i64
@@ -102,5 +107,48 @@ pub extern "C" fn field_axes_calls(text: &[u8], out: &mut [u8]) -> i64
     match done {
         Output::Written(length) => length as i64,
         Output::TooShort => -12,
+    }
+}
+
+// All panels of size b, each run with limit 16 and tolerance 0. Into `out`: a line each. The answer is their length, or the refusal's number
+// negated.
+#[no_mangle]
+pub extern "C" fn field_axes_panels(b: i64, out: &mut [u8]) -> i64
+    ensures { λ r. ⌜ ListsPanels b (now (out .entry)) (now (out .exit)) r ⌝ }
+{
+    let done = panel::lines::write_panels(b, out);
+    match done {
+        Written::Length(length) => length as i64,
+        Written::Refused(refusal) => refused(refusal),
+    }
+}
+
+// The panel at a position of that list, from 1. Into `out`: a_11, a_12, a_22. The answer is 3, or the refusal's number negated.
+#[no_mangle]
+pub extern "C" fn field_axes_panel(b: i64, position: i64, out: &mut [i64]) -> i64
+    ensures { λ r. ⌜ GivesPanel b position (now (out .entry)) (now (out .exit)) r ⌝ }
+{
+    let found = panel::position::panel_at(b, position);
+    match found {
+        AtPosition::Panel(x) => {
+            if out.len() < 3 {
+                return -12;
+            }
+            let entries = [x.a11, x.a12, x.a22];
+            text::numbers::put(out, 0, &entries) as i64
+        }
+        AtPosition::Refused(number) => refused(number),
+    }
+}
+
+// The position in that list, from 1, of the panel of these entries, or the refusal's number negated.
+#[no_mangle]
+pub extern "C" fn field_axes_panel_position(b: i64, a11: i64, a12: i64, a22: i64) -> i64
+    ensures { λ r. ⌜ r ≡ positionOrRefusal (ofPanel b (panelOf a11 a12 a22)) ⌝ }
+{
+    let found = panel::position::position_of(b, Panel { a11, a12, a22 });
+    match found {
+        OfPanel::Position(position) => position as i64,
+        OfPanel::Refused(number) => refused(number),
     }
 }
