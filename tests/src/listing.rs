@@ -5,7 +5,7 @@ use field_axes::{panel, panel_into, panel_position, panels, panels_into, Refused
 use reference::panels as by;
 use std::sync::OnceLock;
 
-/// What stands in the lent buffer before the call.
+/// What stands in the lent buffer of numbers before the call; in that of bytes random ones do.
 const FILL: i64 = -7_777_777;
 
 /// Compares one call of one of the three; the answer is what kind it came to.
@@ -43,7 +43,7 @@ fn text(random: &mut Random) -> Result<String, String> {
     let text = text_of(b);
     // The function that makes a buffer of its own.
     let own = panels(b).map(String::into_bytes);
-    if own.as_deref() != text.as_deref().map_err(|refused| refused) {
+    if own.as_deref() != text.as_deref() {
         return Err(format!("panels of {b}: not the reference's"));
     }
     let length = text.map_or(100, <[u8]>::len);

@@ -1,7 +1,6 @@
 -- Bounds of what b of at most 8 makes: 2b + 1, its square and its cube.
-use mathlib.Core.Path.{_≡_}
-use Prim.Native.Nat.{ℕ, _+_, _*_, _/_, _%_, _<_, _≤_}
-use native.Mathlib.Nat.{div-le-self, mod-lt, mul-le-mul}
+use Prim.Native.Nat.{ℕ, _*_, _≤_}
+use native.Mathlib.Nat.{mul-le-mul}
 use native.Mathlib.Omega.{arith}
 use Rattle.panel.specs.Panels.{countOf, width}
 use Rattle.panel.specs.laws.Places.{cube}

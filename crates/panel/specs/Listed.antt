@@ -5,7 +5,7 @@ use mathlib.Core.Bool.{Bool, _&&_, cond}
 use mathlib.Core.List.{List, [], _∷_}
 use Prim.Native.Nat.{ℕ, _+_}
 use lib.Dec.{leb}
-use lib.IntN.{ℤ, natAbs}
+use lib.IntN.{natAbs}
 use lib.ListN.{length}
 use lib.Signed.{_<ℤ_}
 use Rattle.ledger.specs.Refusal.{equal}
@@ -41,6 +41,6 @@ pub record Listed (b : ℕ) (xs : List Panel) : Type 0 where
   pub once : (x : Panel) → panelOccurrences x xs ≡ cond (panelWithin b x) 1 0
   pub ordered : InOrder xs
 
--- the list is one, for every b, and the only one
+-- `panels b` is such a list, for every b, and the only one
 unfoldable pub The-panels : Type 0
 The-panels = (b : ℕ) → Listed b (panels b) × ((xs : List Panel) → Listed b xs → xs ≡ panels b)

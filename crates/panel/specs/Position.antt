@@ -22,7 +22,8 @@ entryPlace b z = natAbs (z +ℤ pos b)
 unfoldable pub positionOf : ℕ → Panel → ℕ
 positionOf b x = (entryPlace b (x .a11) * width b + entryPlace b (x .a12)) * width b + entryPlace b (x .a22) + 1
 
--- a position has the panel that stands there in the list, counted from 1; and both ways round
+-- a position has the panel that stands there in the list, counted from 1; and both ways round; a panel's position is in range, and a position's
+-- panel has entries from −b to b
 pub record Positions (b : ℕ) : Type 0 where
   pub listed : (position : ℕ) → 1 ≤ position → position ≤ countOf b → (other : Panel) → panelAt b position ≡ getD (panels b) (position - 1) other
   pub there-and-back : (position : ℕ) → 1 ≤ position → position ≤ countOf b → positionOf b (panelAt b position) ≡ position

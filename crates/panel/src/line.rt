@@ -14,7 +14,7 @@ ghost use Rattle.text.specs.Put.{Put, Sized};
 ghost use Rattle.panel.specs.Listed.{panelWithin};
 ghost use Rattle.panel.specs.Refusal.{mostSize};
 ghost use Rattle.panel.specs.Text.{fieldsLine, panelLine, panelRun};
-ghost use Rattle.panel.specs.inner.Line.{SaysPanel};
+ghost use Rattle.panel.specs.inner.Line.{FieldsOf};
 
 // Each panel is run with this limit and this tolerance.
 const LIMIT: u64 = 16;
@@ -26,7 +26,7 @@ const TAB: u8 = b'\t';
 const LINE_FEED: u8 = b'\n';
 
 // The numbers of the line, and the outcome.
-struct Said {
+struct LineFields {
     numbers: [i64; 5],
     outcome: Outcome,
 }
@@ -39,15 +39,15 @@ fn run_panel(x: Panel) -> Run
     run::run(2, &entries, LIMIT, TOLERANCE)
 }
 
-fn say(x: Panel) -> Said
+fn line_fields(x: Panel) -> LineFields
     requires { ⌜ panelWithin mostSize x ≡ true ⌝ }
-    ensures { λ z. ⌜ SaysPanel x z ⌝ }
+    ensures { λ z. ⌜ FieldsOf x z ⌝ }
 {
     let run = run_panel(x);
     let outcome = run.outcome;
     let last = run.last;
     let numbers = [x.a11, x.a12, x.a22, run.sweeps as i64, last.turns() as i64];
-    Said { numbers, outcome }
+    LineFields { numbers, outcome }
 }
 
 // How many bytes the line has.
@@ -55,9 +55,9 @@ pub(crate) fn line_length(x: Panel) -> usize
     requires { ⌜ panelWithin mostSize x ≡ true ⌝ }
     ensures { λ r. ⌜ Sized (panelLine x) 23 r ⌝ }
 {
-    let said = say(x);
-    let numbers = said.numbers;
-    let outcome = said.outcome;
+    let fields = line_fields(x);
+    let numbers = fields.numbers;
+    let outcome = fields.outcome;
     let word = word_of(outcome);
     text::line::numbers_length(&numbers, 5) + word.length + 1
 }
@@ -79,9 +79,9 @@ pub(crate) fn put_line(buf: &mut [u8], x: Panel) -> usize
     requires { ⌜ (panelWithin mostSize x ≡ true) × (length (panelLine x) ≤ length (now buf)) ⌝ }
     ensures { λ r. ⌜ Put (panelLine x) 0 (now (buf .entry)) (now (buf .exit)) r ⌝ }
 {
-    let said = say(x);
-    let numbers = said.numbers;
-    let outcome = said.outcome;
+    let fields = line_fields(x);
+    let numbers = fields.numbers;
+    let outcome = fields.outcome;
     let word = word_of(outcome);
     let bytes = word.bytes;
     let length = word.length;

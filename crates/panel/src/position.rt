@@ -73,6 +73,7 @@ pub(crate) fn panel_after(b: u64, i: u64) -> Panel
     }
 }
 
+// The panel at a position of the list, from 1; 2 for a b or a position outside its range.
 pub fn panel_at(b: i64, position: i64) -> AtPosition
     ensures { λ r. ⌜ r ≡ atPosition b position ⌝ }
 {
@@ -116,6 +117,7 @@ fn position_in(b: u64, x: Panel) -> u64
     row * width + place_of(b, x.a22) + 1
 }
 
+// The position of a panel, from 1; 2 for a b outside 0 to 8 or an entry beyond ±b.
 pub fn position_of(b: i64, x: Panel) -> OfPanel
     ensures { λ r. ⌜ r ≡ ofPanel b x ⌝ }
 {

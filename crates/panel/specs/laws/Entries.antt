@@ -4,7 +4,7 @@ use mathlib.Core.Bool.{Bool, true, false}
 use Prim.Native.Nat.{ℕ, zero, suc, _+_, _-_, _*_, _<_, _≤_}
 use native.Mathlib.Decide.{decLt}
 use native.Mathlib.Omega.{arith}
-use borrow.Author.Tests.{le-ltb, lt-ltb, ltb-true, ltb-false}
+use borrow.Author.Tests.{le-ltb, ltb-true, ltb-false}
 use lib.Dec.{T, ltb, lt→ltb, ltb→lt, le→leb}
 use lib.IntN.{ℤ, pos, negsuc, natAbs, subℕ, _+ℤ_, _-ℤ_, -ℤ-+ℤ-cancel, +ℤ-negℤ-cancel}
 use lib.Signed.{_<ℤ_, _≤ℤ_, ltZ, leZ, clashℤ, ≤ℤ-refl}

@@ -1,18 +1,15 @@
 -- Laws of the list of panels: it is as `Listed` says, and no other list is.
 use mathlib.Core.Path.{_≡_, refl, sym, ap, ap₂, _∙_}
-use mathlib.Core.Bool.{Bool, true, false, true≢false, cond, _&&_}
+use mathlib.Core.Bool.{Bool, true, false, true≢false, cond}
 use mathlib.Core.List.{List, [], _∷_}
 use Prim.Native.Nat.{ℕ, zero, suc, _+_, _*_, _/_, _%_, _<_, _≤_, zero-le}
 use native.Mathlib.Decide.{decLt}
 use native.Mathlib.Nat.{add-zero, div-add-mod', mod-lt, zero-add}
 use native.Mathlib.Omega.{arith}
 use lib.Arith.{digits-lt}
-use lib.Dec.{T}
-use lib.IntN.{ℤ, natAbs}
+use lib.IntN.{ℤ}
 use lib.Ieee.Bits.{is-true}
 use lib.ListN.{length}
-use lib.Signed.{_<ℤ_}
-use mir.Facts.{and-yes}
 use Rattle.integer.specs.Tabulate.{tabulate}
 use Rattle.integer.specs.laws.Tabulate.{tabulate-ext}
 use Rattle.ledger.specs.Refusal.{equal}
@@ -20,7 +17,7 @@ use Rattle.ledger.specs.laws.Accepted.{equal-of, equal-same}
 use Rattle.integer.specs.laws.Within.{both}
 use Rattle.panel.specs.Listed.{ComesBefore, by-a11, by-a12, by-a22, InOrder, Listed, The-panels, panelWithin, panelOccurrences, samePanel}
 use Rattle.panel.specs.Panels.{countOf, entryAt, panels, width}
-use Rattle.panel.specs.Position.{panelAfter, entryPlace}
+use Rattle.panel.specs.Position.{panelAfter}
 use Rattle.panel.specs.declared.Panel.{Panel}
 use Rattle.panel.specs.laws.Entries.{entry-before, place-before, place-below}
 use Rattle.panel.specs.laws.Places.{SmallPanel, after-before, after-small, before, before-after, before-below, panels-are, panels-length}

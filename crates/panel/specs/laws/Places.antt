@@ -1,8 +1,8 @@
 -- Laws of a panel's place in the list: the list is the panels after 0, 1, 2 .. others; the panel gives its position and the position the panel.
-use mathlib.Core.Path.{_≡_, refl, sym, ap, _∙_}
-use mathlib.Core.Bool.{Bool, true}
+use mathlib.Core.Path.{_≡_, sym, ap, _∙_}
+use mathlib.Core.Bool.{true}
 use mathlib.Core.List.{flatMap, map}
-use Prim.Native.Nat.{ℕ, zero, suc, _+_, _-_, _*_, _/_, _%_, _^_, _<_, _≤_}
+use Prim.Native.Nat.{ℕ, _+_, _-_, _*_, _/_, _%_, _^_, _<_, _≤_}
 use native.Mathlib.Nat.{div-add-mod', div-div-eq-div-mul, div-lt-iff-lt-mul, mod-lt, mul-assoc, mul-pos, one-mul, pow-suc, pow-zero}
 use native.Mathlib.Omega.{arith}
 use borrow.Author.Tests.{le-leb, leb-true}
@@ -15,7 +15,7 @@ use Rattle.integer.specs.laws.Tabulate.{getD-tabulate, length-tabulate, tabulat
 use Rattle.integer.specs.laws.Within.{both}
 use Rattle.panel.specs.Listed.{panelWithin}
 use Rattle.panel.specs.Panels.{countOf, entryAt, panels, wholeNumbers, width}
-use Rattle.panel.specs.Position.{Positions, The-positions, panelAfter, panelAt, entryPlace, positionOf}
+use Rattle.panel.specs.Position.{The-positions, panelAfter, panelAt, entryPlace, positionOf}
 use Rattle.panel.specs.declared.Panel.{Panel}
 use Rattle.panel.specs.laws.Entries.{entry-place, entry-within, place-below, place-entry}
 use Rattle.panel.specs.laws.Tabulated.{map-tabulate, rows-tabulate}

@@ -1,6 +1,6 @@
 -- Laws of lists of values: two one after the other, the values of a function of them, and the values of a function of two indices, row after row.
 use mathlib.Core.Path.{_≡_, refl, sym, ap, ap₂, _∙_}
-use mathlib.Core.List.{List, [], _∷_, _++_, map, flatMap}
+use mathlib.Core.List.{List, _∷_, _++_, map, flatMap}
 use Prim.Native.Nat.{ℕ, zero, suc, _+_, _*_, _/_, _%_, _<_}
 use native.Mathlib.Nat.{add-comm, add-div-left, add-mod-left, div-eq-of-lt, mod-eq-of-lt, suc-add, suc-mul, zero-add, zero-mul}
 use native.Mathlib.Numerals.{add-one}

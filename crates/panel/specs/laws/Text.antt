@@ -1,6 +1,6 @@
 -- Laws of the panels' text: line after line, and how long a line is at most.
 use Prim.Native.Nat.{ℕ, zero, suc, _+_, _*_, _<_, _≤_}
-use mathlib.Core.Path.{_≡_, refl, sym, ap, _∙_}
+use mathlib.Core.Path.{_≡_, refl, ap, _∙_}
 use mathlib.Core.List.{List, [], _∷_, _++_, append-assoc, append-nil, flatMap, map}
 use native.Mathlib.Omega.{arith}
 use lib.IntN.{ℤ, pos, negsuc, natAbs}
@@ -9,23 +9,22 @@ use Rattle.integer.specs.Matrix.{Symmetric, matrixOf}
 use Rattle.integer.specs.Tabulate.{tabulate}
 use Rattle.integer.specs.laws.Tabulate.{tabulate-suc}
 use Rattle.ledger.specs.Call.{load}
-use Rattle.ledger.specs.Refusal.{refusalOf}
 use Rattle.ledger.specs.laws.Accepted.{Loads}
 use Rattle.limits.specs.Limits.{entryLimit}
 use Rattle.record.specs.declared.run.Outcome.{Outcome}
 use Rattle.record.specs.declared.run.Outcome.the-variants.{Settled, Still, Spent}
 use Rattle.record.specs.laws.Accepted.{load-taken}
-use Rattle.run.specs.Run.{Allowed, runOf}
+use Rattle.run.specs.Run.{Allowed}
 use Rattle.run.specs.Word.{outcomeWord}
 use Rattle.run.specs.laws.Calls.{matrix-begins, run-calls}
 use Rattle.run.specs.laws.Course.{run-ends}
-use Rattle.text.specs.Decimal.{digits, number}
+use Rattle.text.specs.Decimal.{number}
 use Rattle.text.specs.Line.{further, line, numbers}
 use Rattle.text.specs.Lines.{lines}
 use Rattle.text.specs.laws.Digits.{length-digits, one-digit}
 use Rattle.text.specs.laws.Lines.{lines-most}
-use Rattle.text.specs.laws.Numbers.{further-append, numbers-append}
-use Rattle.panel.specs.Panels.{countOf, panels}
+use Rattle.text.specs.laws.Numbers.{further-append}
+use Rattle.panel.specs.Panels.{countOf}
 use Rattle.panel.specs.Position.{panelAfter}
 use Rattle.panel.specs.Text.{panelEntries, fieldsLine, lineNumbers, panelLine, panelRun, panelsText}
 use Rattle.panel.specs.declared.Panel.{Panel}

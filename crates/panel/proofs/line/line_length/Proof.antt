@@ -13,9 +13,9 @@ use Rattle.panel.proofs.line.line_length.Statement.{statement}
 use Rattle.panel.proofs.line.line_length.Tie as tie
 
 -- the five numbers
-five : (c : tie.After-say) → length (c .say .result .numbers) ≡ 5
+five : (c : tie.After-line-fields) → length (c .line-fields .result .numbers) ≡ 5
 unfolding lineNumbers
-five c = rw (c .say .ensures .numbers)
+five c = rw (c .line-fields .ensures .numbers)
 
 numbers-length-requires : tie.Need-numbers-length-requires
 numbers-length-requires c κs = (omega (arith, five (c .before .before .before)), omega arith)
@@ -25,10 +25,10 @@ exact : (c : tie.After-numbers-length) →
     length (panelLine (c .before .before .before .before .before .args .x))
 exact c =
     let word = c .before .before in
-    let said = word .before .before in
-    let n = c .numbers-length .ensures .exact ∙ ap (λ l. length (numbers (take 5 l))) (said .say .ensures .numbers) in
-    let w = word .word-of .ensures .size ∙ ap (λ o. length (outcomeWord o)) (said .say .ensures .outcome) in
-    omega (arith, n, w, line-length (said .before .args .x))
+    let fields = word .before .before in
+    let n = c .numbers-length .ensures .exact ∙ ap (λ l. length (numbers (take 5 l))) (fields .line-fields .ensures .numbers) in
+    let w = word .word-of .ensures .size ∙ ap (λ o. length (outcomeWord o)) (fields .line-fields .ensures .outcome) in
+    omega (arith, n, w, line-length (fields .before .args .x))
 
 returns : tie.Need-returns
 returns c =

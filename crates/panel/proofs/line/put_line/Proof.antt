@@ -16,19 +16,19 @@ whole c = let w = c .word-of .ensures in omega (arith, w .short, w .bytes-held)
 
 -- the text that is written
 text : (c : tie.After-word-of) →
-    (let said = c .before .before in
-    fieldsLine (said .say .result .numbers) (take (c .word-of .result .length) (c .word-of .result .bytes)) ≡
-    panelLine (said .before .before .args .x))
+    (let fields = c .before .before in
+    fieldsLine (fields .line-fields .result .numbers) (take (c .word-of .result .length) (c .word-of .result .bytes)) ≡
+    panelLine (fields .before .before .args .x))
 unfolding panelLine
 text c =
-    let said = c .before .before in
-    λ i. fieldsLine (said .say .ensures .numbers i) ((c .word-of .ensures .is ∙ ap outcomeWord (said .say .ensures .outcome)) i)
+    let fields = c .before .before in
+    λ i. fieldsLine (fields .line-fields .ensures .numbers i) ((c .word-of .ensures .is ∙ ap outcomeWord (fields .line-fields .ensures .outcome)) i)
 
 put-fields-requires : tie.Need-put-fields-requires
 put-fields-requires c κs =
     let w = c .before .before .before .before in
     let s = w .before .before .before .before in
-    (rw (w .before .before .say .ensures .numbers) (unfold lineNumbers in omega arith), rw (text w) (s .pre .1))
+    (rw (w .before .before .line-fields .ensures .numbers) (unfold lineNumbers in omega arith), rw (text w) (s .pre .1))
 
 returns : tie.Need-returns
 returns c =

@@ -3,7 +3,6 @@ use Prim.Native.Nat.{_-_, _*_, _≤_}
 use mathlib.Core.Path.{_≡_, ap, sym, _∙_}
 use native.Mathlib.Omega.{arith}
 use lib.ListN.{length}
-use borrow.Author.Needs.{needs}
 use Rattle.text.specs.Lines.{lines}
 use Rattle.text.specs.laws.Lines.{lines-length, lines-none}
 use Rattle.panel.specs.Panels.{countOf}

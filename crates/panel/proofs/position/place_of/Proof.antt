@@ -1,8 +1,7 @@
 -- `panel::position::place_of` meets its contract.
-use mathlib.Core.Path.{_∙_, ap}
 use Prim.Native.Nat.{_^_, _<_}
 use native.Mathlib.Omega.{arith}
-use lib.IntN.{_+ℤ_, natAbs, pos}
+use lib.IntN.{_+ℤ_, pos}
 use mir.Syntax.{w64}
 use mir.Val.{SFits}
 use mir.Facts.{toZ-ofZ, toZ-pos}

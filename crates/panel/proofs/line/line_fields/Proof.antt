@@ -1,4 +1,4 @@
--- `panel::line::say` meets its contract.
+-- `panel::line::line_fields` meets its contract.
 use mathlib.Core.Path.{_≡_, ap, _∙_}
 use mathlib.Core.List.{[], _∷_}
 use native.Mathlib.Omega.{arith}
@@ -9,11 +9,11 @@ use mir.Val.{SFits}
 use mir.Facts.{toZ-ofZ}
 use borrow.Author.Needs.{needs}
 use Rattle.record.specs.declared.run.Run.{Run}
-use Rattle.panel.specs.Text.{lineNumbers, panelRun}
+use Rattle.panel.specs.Text.{lineNumbers}
 use Rattle.panel.specs.laws.Places.{small}
 use Rattle.panel.specs.laws.Text.{sweeps-most, turns-most}
-use Rattle.panel.proofs.line.say.Statement.{statement}
-use Rattle.panel.proofs.line.say.Tie as tie
+use Rattle.panel.proofs.line.line_fields.Statement.{statement}
+use Rattle.panel.proofs.line.line_fields.Tie as tie
 
 -- what the run has counted is at most 16
 module _ (c : tie.After-run-panel) where
@@ -51,8 +51,8 @@ returns c =
       outcome = ap (λ (z : Run). z .outcome) run;
     }
 
-pub say-spec : {M : Type 1} → statement M
-say-spec =
+pub line-fields-spec : {M : Type 1} → statement M
+line-fields-spec =
     tie.close
     (tie.spec
     (λ c κs. search needs)
