@@ -7,6 +7,7 @@ use Rattle.choice.specs.Choice.{choose}
 use Rattle.choice.specs.declared.Choice.the-variants.{Turn}
 use Rattle.turn.specs.Gain.{Gains}
 use Rattle.turn.specs.Rotation.{rotationOf}
+use Rattle.ledger.specs.Bench.{NamedCall}
 use Rattle.ledger.specs.Call.{Call, turn, sweepIn}
 use Rattle.ledger.specs.Ledger.{State, loaded, turnPairs, ledgerStep, ledger}
 use Rattle.ledger.specs.Pairs.{Ordered, Pair}
@@ -39,4 +40,4 @@ pub record StateGains (s : State) : Type 0 where
   pub calls : (call : Call) (pairs : List Pair) → Turning (s .n) call pairs → refusalOf (s .n) (s .m) call ≡ 0 → CallGains s call pairs
 
 abbrev pub Gains-always : Type 0
-Gains-always = (calls : List Call) (s : State) → ledger calls ≡ loaded s → StateGains s
+Gains-always = (calls : List NamedCall) (s : State) → ledger calls ≡ loaded s → StateGains s

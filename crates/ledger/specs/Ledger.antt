@@ -12,6 +12,7 @@ use Rattle.choice.specs.Choice.{choose}
 use Rattle.choice.specs.declared.Choice.{Choice}
 use Rattle.choice.specs.declared.Choice.the-variants.{NoTurn, Turn}
 use Rattle.integer.specs.Matrix.{Matrix, diagonal, product, matrixOf}
+use Rattle.ledger.specs.Bench.{NamedCall, isBench}
 use Rattle.ledger.specs.Call.{Call, load, loadSamples, turn, sweepIn, loosePair, axis}
 use Rattle.ledger.specs.Order.{pairsIn}
 use Rattle.ledger.specs.Pairs.{Pair}
@@ -113,16 +114,20 @@ turnsOf (loaded s) = s .m
 unfoldable pub ledgerStepUnder : ℕ → Ledger → Call → Ledger
 ledgerStepUnder limit g call = cond (eqb (refusalUnder limit (sizeOf g) (turnsOf g) call) 0) (acceptedUnder limit g call) g
 
-unfoldable pub ledgerFromUnder : ℕ → Ledger → List Call → Ledger
+-- document 02, W8: and so when the call names no bench from 1 to 4, which is refused before everything else
+unfoldable pub namedStepUnder : ℕ → Ledger → NamedCall → Ledger
+namedStepUnder limit g c = cond (isBench (c .bench)) (ledgerStepUnder limit g (c .call)) g
+
+unfoldable pub ledgerFromUnder : ℕ → Ledger → List NamedCall → Ledger
 ledgerFromUnder limit g [] = g
-ledgerFromUnder limit g (call ∷ calls) = ledgerFromUnder limit (ledgerStepUnder limit g call) calls
+ledgerFromUnder limit g (c ∷ calls) = ledgerFromUnder limit (namedStepUnder limit g c) calls
 
 -- under the limit of document 02's W9
 abbrev pub ledgerStep : Ledger → Call → Ledger
 ledgerStep = ledgerStepUnder entryLimit
 
-abbrev pub ledgerFrom : Ledger → List Call → Ledger
+abbrev pub ledgerFrom : Ledger → List NamedCall → Ledger
 ledgerFrom = ledgerFromUnder entryLimit
 
-unfoldable pub ledger : List Call → Ledger
+unfoldable pub ledger : List NamedCall → Ledger
 ledger calls = ledgerFrom empty calls

@@ -1,4 +1,5 @@
 pub mod Call
+pub mod Bench
 pub mod Refusal
 pub mod Pairs
 pub mod Tournament

@@ -48,6 +48,10 @@ toleranceLimit = 1_048_576
 abbrev pub turnLimit : ℕ
 turnLimit = 448
 
+-- document 02, W8: 'a bench from 1 to 4'
+abbrev pub benches : ℕ
+benches = 4
+
 -- 'The count stops at 4,294,967,295'
 abbrev pub refusedLimit : ℕ
 refusedLimit = 4_294_967_295

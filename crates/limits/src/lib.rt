@@ -31,6 +31,9 @@ pub const TOLERANCE_LIMIT: u64 = 1_048_576;
 // The turns of one matrix.
 pub const TURN_LIMIT: u64 = 448;
 
+// The benches that call on a record.
+pub const BENCHES: usize = 4;
+
 // A count of refused calls stops here.
 pub const REFUSED_LIMIT: u32 = 4_294_967_295;
 

@@ -1,5 +1,5 @@
--- The sweeps of a run on rows: the record that holds them, with whatever e and count of refused calls, and what a sweep makes of it.
-use mathlib.Core.Path.{_≡_, sym, _∙_}
+-- The sweeps of a run on rows: the record that holds them, with whatever e and counts of refused calls, and what a sweep makes of it.
+use mathlib.Core.Path.{_≡_, sym, ap, _∙_}
 use mathlib.Core.Bool.{Bool, true, false}
 use mathlib.Core.List.{List, [], _∷_}
 use mathlib.Core.Logic.{_≢_}
@@ -22,17 +22,20 @@ use Rattle.limits.specs.Limits.{toleranceLimit, mostSweeps, turnLimit}
 use Rattle.record.specs.laws.Accepted.{loose-pair-taken, sweep-taken, turns-suffice}
 use Rattle.record.specs.laws.After.{after-kept}
 use Rattle.record.specs.laws.Fill.{kept-flatOf}
+use Rattle.record.specs.laws.Named.{own-answers, own-leaves}
 use Rattle.record.specs.Flat.{entriesOf, flatOf, rowsOf}
-use Rattle.record.specs.Record.{acceptedOfUnder, afterOf, afterOfUnder, answerOf, sweptOf, valueOf, workOf, workedOf}
+use Rattle.record.specs.Solver.{acceptedOfUnder, afterOf, afterOfUnder, answerOf, sweptOf, valueOf, workOf, workedOf}
+use Rattle.record.specs.Record.{answerTo}
 use Rattle.record.specs.declared.Record.{Record}
+use Rattle.record.specs.declared.solver.Solver.{Solver}
 use Rattle.record.specs.laws.Turning.{matrix-small, works-grow, works-least}
 use Rattle.record.specs.Work.{Work, workPair, workPairs}
 use Rattle.record.specs.Worked.{Ready, workAt}
 use Rattle.record.proofs.Sweeping.{pair-shaped}
 use Rattle.record.specs.Loose.{looseOf}
 use Rattle.record.proofs.Search.{same-loose}
-use Rattle.record.specs.inner.Running.{Holds, heldOf}
-use Rattle.record.specs.Run.{noPair, noTurn, runFrom, stop}
+use Rattle.record.specs.inner.Running.{Holds, heldOf, solverOf}
+use Rattle.record.specs.Run.{noPair, noTurn, own, runFrom, stop}
 use Rattle.record.specs.declared.run.Run.{Run}
 use Rattle.record.specs.laws.Running.{run-settled, run-still, run-spent, run-sweeps}
 use Rattle.record.specs.declared.run.Outcome.the-variants.{Settled, Still, Spent}
@@ -57,9 +60,9 @@ no-more made m h = by (ℕ-discrete made m)
     by (no d) = rw (ne-eqb made m d, ne-eqb (made - m) 0 (omega arith))
 
 -- rows a and v of n channels after m turns
-module _ (shift refused n m : ℕ) (a v : List (List ℤ)) (h : Holds shift refused n m a v) where
-  abbrev r : Record
-  r = heldOf shift refused n m a v
+module _ (shift n m : ℕ) (a v : List (List ℤ)) (h : Holds shift n m a v) where
+  abbrev r : Solver
+  r = solverOf shift n m a v
 
   work-held : workOf r ≡ workAt a v m
   unfolding workOf
@@ -79,11 +82,11 @@ module _ (shift refused n m : ℕ) (a v : List (List ℤ)) (h : Holds shift refu
       )
 
   module _ (e : refusalOf n m sweep ≡ 0) (made : ℕ) (a′ v′ : List (List ℤ)) (w : workAt a′ v′ made ≡ workPairs n (workAt a v m) (cyclic n)) where
-    swept-leaves : afterOf r sweep ≡ heldOf shift refused n made a′ v′
+    swept-leaves : afterOf r sweep ≡ solverOf shift n made a′ v′
     unfolding afterOfUnder acceptedOfUnder sweptOf workedOf
     swept-leaves = rw (eq-eqb (refusalOf n m sweep) 0 e, work-held, ← w)
 
-    swept-holds : Holds shift refused n made a′ v′
+    swept-holds : Holds shift n made a′ v′
     swept-holds =
         let shaped = rw (← w) at (works-shaped n (workAt a v m) (cyclic n) (h .matrix) (h .axes)) in
         record { keeps = rw swept-leaves at (after-kept r sweep (h .keeps)); matrix = shaped .0; axes = shaped .1 }
@@ -96,18 +99,18 @@ module _ (shift refused n m : ℕ) (a v : List (List ℤ)) (h : Holds shift refu
     swept-more some = omega (arith, rw (← w) at (works-grow n (workAt a v m) (cyclic n)), cyclic-length n some)
 
 -- a run of n channels with a limit and a tolerance t: from here on it is z
-pub record Going (shift refused n limit t : ℕ) (z : Run) (a v : List (List ℤ)) (m sweeps : ℕ) (idle : Bool) : Type 0 where
+pub record Going (shift : ℕ) (refused : List ℕ) (n limit t : ℕ) (z : Run) (a v : List (List ℤ)) (m sweeps : ℕ) (idle : Bool) : Type 0 where
   pub is : z ≡ runFrom (limit - sweeps) sweeps idle t (heldOf shift refused n m a v)
   pub within : sweeps ≤ limit
   pub few : m ≤ sweeps * (n * (n - 1) / 2)
-  pub holds : Holds shift refused n m a v
+  pub holds : Holds shift n m a v
 
-pub begun : (shift refused n limit t : ℕ) (a v : List (List ℤ)) → Holds shift refused n 0 a v →
+pub begun : (shift : ℕ) (refused : List ℕ) (n limit t : ℕ) (a v : List (List ℤ)) → Holds shift n 0 a v →
     Going shift refused n limit t (runFrom limit 0 false t (heldOf shift refused n 0 a v)) a v 0 0 false
 begun shift refused n limit t a v h = record { is = rw sub-zero; within = omega arith; few = omega arith; holds = h }
 
 -- on what a run is given no call of it is refused
-module _ (shift refused n limit t : ℕ) (some : 1 ≤ n) (sixteen : limit ≤ mostSweeps) (tolerance : t ≤ toleranceLimit) where
+module _ (shift : ℕ) (refused : List ℕ) (n limit t : ℕ) (some : 1 ≤ n) (sixteen : limit ≤ mostSweeps) (tolerance : t ≤ toleranceLimit) where
   module _ (m sweeps : ℕ) (z : Run) (a v : List (List ℤ)) (idle : Bool) (g : Going shift refused n limit t z a v m sweeps idle) where
     abbrev now : Record
     now = heldOf shift refused n m a v
@@ -118,14 +121,15 @@ module _ (shift refused n limit t : ℕ) (some : 1 ≤ n) (sixteen : limit ≤ m
 
     -- the first test: settled tells whether no pair is loose
     module _ (settled : Bool) (s : settled ≡ noPair (looseOf (at a) t (cyclic n))) where
-      told : settled ≡ noPair (answerOf now (loosePair t))
-      told = s ∙ held-loose shift refused n m a v (g .holds) t (loose-pair-taken n m some t tolerance)
+      told : settled ≡ noPair (answerTo now (own (loosePair t)))
+      told =
+          s ∙ held-loose shift n m a v (g .holds) t (loose-pair-taken n m some t tolerance) ∙ ap noPair (sym (own-answers now (loosePair t)))
 
       pub settles : settled ≡ true → stop Settled sweeps now ≡ z
       settles h = sym (g .is ∙ run-settled (limit - sweeps) sweeps t idle now (sym told ∙ h))
 
       module _ (h : settled ≡ false) where
-        loose : noPair (answerOf now (loosePair t)) ≡ false
+        loose : noPair (answerTo now (own (loosePair t))) ≡ false
         loose = sym told ∙ h
 
         pub is-still : idle ≡ true → stop Still sweeps now ≡ z
@@ -141,10 +145,12 @@ module _ (shift refused n limit t : ℕ) (some : 1 ≤ n) (sixteen : limit ≤ m
             let taken = sweep-taken n m some Cyclic (remains l) in
             record {
               is = g .is ∙ goes ∙ rw (
-                swept-leaves shift refused n m a v (g .holds) taken made a′ v′ w,
-                swept-idle shift refused n m a v (g .holds) taken made a′ v′ w,
+                own-leaves now sweep taken,
+                own-answers now sweep,
+                swept-leaves shift n m a v (g .holds) taken made a′ v′ w,
+                swept-idle shift n m a v (g .holds) taken made a′ v′ w,
               );
               within = omega (arith, g .within);
-              few = omega (arith, g .few, swept-more shift refused n m a v (g .holds) taken made a′ v′ w some);
-              holds = swept-holds shift refused n m a v (g .holds) taken made a′ v′ w;
+              few = omega (arith, g .few, swept-more shift n m a v (g .holds) taken made a′ v′ w some);
+              holds = swept-holds shift n m a v (g .holds) taken made a′ v′ w;
             }

@@ -1,4 +1,5 @@
 mod Axes
+pub mod Benches
 mod Checks
 pub mod Filled
 pub mod Search

@@ -9,6 +9,7 @@ use denote.Enum.Declared.{tagOf, declared}
 use Rattle.record.proofs.query.Answer.{enum}
 use Rattle.record.specs.declared.query.Answer.{Answer}
 use Rattle.record.specs.declared.query.Answer.the-variants.{Loaded, SamplesLoaded, Turned, Swept, TournamentSwept, Pair, NoPair, Axis, Refused}
+use Rattle.record.specs.Record.{isRefused}
 use Rattle.record.specs.Run.{noPair}
 
 -- the number of an answer's variant
@@ -34,6 +35,19 @@ not-none NoPair v =
     absurd (none v (omega arith) (omega arith) (omega arith) (omega arith) (omega arith) (omega arith) (omega arith) (omega arith))
 not-none (Axis entry error) v = refl
 not-none (Refused number) v = refl
+
+pub not-refused : (answer : Answer) → OneOf (variant answer) 0 1 2 3 4 5 6 7 → false ≡ isRefused answer
+unfolding isRefused
+not-refused Loaded v = refl
+not-refused (SamplesLoaded e) v = refl
+not-refused (Turned made) v = refl
+not-refused (Swept made) v = refl
+not-refused (TournamentSwept made) v = refl
+not-refused (Pair p q) v = refl
+not-refused NoPair v = refl
+not-refused (Axis entry error) v = refl
+not-refused (Refused number) v =
+    absurd (none v (omega arith) (omega arith) (omega arith) (omega arith) (omega arith) (omega arith) (omega arith) (omega arith))
 
 pub not-axis : (answer : Answer) (entry : ℤ) (error : ℕ) → answer ≡ Axis entry error → OneOf (variant answer) 0 1 2 3 4 5 6 8 → ⊥
 not-axis answer entry error e v =

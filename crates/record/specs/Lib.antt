@@ -1,12 +1,14 @@
 pub mod Blank
 pub mod Loose
 pub mod Flat
+pub mod Solver
 pub mod Record
 pub mod Kept
 pub mod Run
 pub mod RunDone
 pub mod Done
 pub mod Demand3
+pub mod Benches
 pub mod Work
 pub mod KeptWork
 pub mod Worked

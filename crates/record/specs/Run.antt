@@ -3,14 +3,19 @@
 use mathlib.Core.Bool.{Bool, true, false, cond}
 use Prim.Native.Nat.{ℕ, zero, suc}
 use lib.Dec.{eqb}
-use Rattle.ledger.specs.Call.{sweep, loosePair}
-use Rattle.record.specs.Record.{afterOf, answerOf}
+use Rattle.ledger.specs.Bench.{NamedCall, by}
+use Rattle.ledger.specs.Call.{Call, sweep, loosePair}
+use Rattle.record.specs.Record.{answerTo, recordAfter}
 use Rattle.record.specs.declared.run.Outcome.{Outcome}
 use Rattle.record.specs.declared.run.Outcome.the-variants.{Settled, Still, Spent}
 use Rattle.record.specs.declared.Record.{Record}
 use Rattle.record.specs.declared.run.Run.{Run}
 use Rattle.record.specs.declared.query.Answer.{Answer}
 use Rattle.record.specs.declared.query.Answer.the-variants.{Loaded, SamplesLoaded, Turned, Swept, TournamentSwept, Pair, NoPair, Axis, Refused}
+
+-- document 02, W8: a run's record is its own, and its calls are those of bench 1
+abbrev pub own : Call → NamedCall
+own call = by 1 call
 
 -- a loose-pair call answers none
 unfoldable pub noPair : Answer → Bool
@@ -42,10 +47,10 @@ stop outcome sweeps r = record { outcome = outcome; sweeps = sweeps; last = r }
 -- 'no loose pair, stop as settled; the last sweep made no turn, stop as still', tried in that order, and then what is given
 unfoldable pub tried : ℕ → Bool → ℕ → Record → Run → Run
 tried sweeps idle t r later =
-    cond (noPair (answerOf r (loosePair t))) (stop Settled sweeps r) (cond idle (stop Still sweeps r) later)
+    cond (noPair (answerTo r (own (loosePair t)))) (stop Settled sweeps r) (cond idle (stop Still sweeps r) later)
 
 -- 'limit reached, stop as spent; else sweep': with `left` sweeps to the limit
 unfoldable pub runFrom : ℕ → ℕ → Bool → ℕ → Record → Run
 runFrom zero sweeps idle t r = tried sweeps idle t r (stop Spent sweeps r)
 runFrom (suc left) sweeps idle t r =
-    tried sweeps idle t r (runFrom left (suc sweeps) (noTurn (answerOf r sweep)) t (afterOf r sweep))
+    tried sweeps idle t r (runFrom left (suc sweeps) (noTurn (answerTo r (own sweep))) t (recordAfter r (own sweep)))

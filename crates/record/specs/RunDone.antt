@@ -11,8 +11,8 @@ use Rattle.record.specs.declared.run.Run.{Run}
 -- a matrix is loaded and not turned yet, the sweep limit is at most 16, and the tolerance is in its range
 pub record Runnable (r : Record) (limit tolerance : ℕ) : Type 0 where
   pub keeps : Kept r
-  pub loaded : 1 ≤ r .n
-  pub unturned : r .m ≡ 0
+  pub loaded : 1 ≤ r .solver .n
+  pub unturned : r .solver .m ≡ 0
   pub sweeps : limit ≤ mostSweeps
   pub tolerated : tolerance ≤ toleranceLimit
 

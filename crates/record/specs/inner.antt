@@ -1,2 +1,4 @@
 pub mod Running
 pub mod Orders
+pub mod Named
+pub mod Solved

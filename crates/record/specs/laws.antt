@@ -6,6 +6,7 @@ pub mod Fill
 pub mod Loading
 pub mod Accepted
 pub mod After
+pub mod Named
 pub mod Agree
 pub mod Demand3proof
 pub mod Turning

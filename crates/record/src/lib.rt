@@ -1,13 +1,16 @@
-// The record and its calls: one matrix with its axes, the turns made of it, and the count of refused calls.
+// The record and its calls: the state that holds one matrix with its axes and the turns made of it, and a count of refused calls for each bench.
 use ledger::Order;
-ghost use Rattle.ledger.specs.Call.{axis, load, loadSamples, sweep, sweepIn, tournamentSweep, turn};
+ghost use Rattle.ledger.specs.Bench.{by, isBench};
+ghost use Rattle.ledger.specs.Call.{axis, load, loadSamples, loosePair, sweep, sweepIn, tournamentSweep, turn};
 ghost use Rattle.ledger.specs.Refusal.{refusalOf};
-ghost use Rattle.record.specs.declared.query.Answer.the-variants.{Refused};
-ghost use Rattle.record.specs.Worked.{workAt};
 ghost use Rattle.record.specs.Done.{AxisDone, Done, Fresh, LooseDone, TableLoaded};
 ghost use Rattle.record.specs.Kept.{Kept};
+ghost use Rattle.record.specs.Record.{counted, raised};
 ghost use Rattle.record.specs.RunDone.{RunDone, Runnable};
-ghost use Rattle.record.specs.Record.{counted, refusedOf, workedOf};
+ghost use Rattle.record.specs.declared.query.Answer.the-variants.{Refused};
+ghost use Rattle.record.specs.inner.Named.{leftBy};
+ghost use lib.ListN.{length};
+ghost use mathlib.Core.Bool.{true};
 ghost use mathlib.Core.Path.{_≡_};
 
 pub mod lent;
@@ -15,21 +18,19 @@ pub mod load;
 pub mod query;
 mod rows;
 pub mod run;
+pub mod solver;
 pub mod sweep;
 
 pub use query::Answer;
 pub use run::Outcome;
 pub use run::Run;
+use solver::Solver;
+use solver::SolverStep;
 
-// Channels n, 0 where there is no matrix; turns made m; the shift e of a table made from readings, else 0; refused calls; the kept matrix and
-// axes, row after row, 8 to a row.
+// The state that holds the matrix, and the refused calls of bench 1, 2, 3 and 4.
 pub struct Record {
-    n: usize,
-    m: u64,
-    e: u32,
-    refused: u32,
-    a: [i64; 64],
-    v: [i64; 64],
+    solver: Solver,
+    refused: [u32; 4],
 }
 
 // A call's answer, and the record that it leaves.
@@ -60,6 +61,26 @@ fn one_more(refused: u32) -> u32
     }
 }
 
+// One refused call more of a bench, and of no other.
+fn raise(counts: [u32; 4], bench: usize) -> [u32; 4]
+    requires { ⌜ isBench bench ≡ true ⌝ }
+    ensures { λ r. ⌜ r ≡ raised bench counts ⌝ }
+{
+    let at = bench - 1;
+    let mut after = counts;
+    after[at] = one_more(counts[at]);
+    after
+}
+
+fn is_bench(bench: usize) -> bool
+    ensures { λ r. ⌜ r ≡ isBench bench ⌝ }
+{
+    if bench < 1 {
+        return false;
+    }
+    bench <= Record::BENCHES
+}
+
 impl Record {
     // The limits that the calls keep to.
     pub const LEAST_CHANNELS: usize = limits::LEAST_CHANNELS;
@@ -78,24 +99,22 @@ impl Record {
 
     pub const WHOLE: i64 = limits::WHOLE;
 
+    pub const BENCHES: usize = limits::BENCHES;
+
     pub const REFUSED_LIMIT: u32 = limits::REFUSED_LIMIT;
 
-    // A fresh record holds no matrix and a count of 0 refused calls.
+    // A fresh record holds no matrix, and for each bench a count of 0 refused calls.
     pub fn new() -> Self
         ensures { λ r. ⌜ Fresh r ⌝ }
     {
         Record {
-            n: 0,
-            m: 0,
-            e: 0,
-            refused: 0,
-            a: [0; 64],
-            v: [0; 64],
+            solver: Solver::new(),
+            refused: [0; 4],
         }
     }
 
-    // How many calls were refused.
-    pub fn refused_calls(self) -> u32
+    // How many calls of bench 1, 2, 3 and 4 were refused.
+    pub fn refused_calls(self) -> [u32; 4]
         ensures { λ r. ⌜ r ≡ self .refused ⌝ }
     {
         self.refused
@@ -103,221 +122,190 @@ impl Record {
 
     // How many channels the matrix has, 0 where none is loaded.
     pub fn channels(self) -> usize
-        ensures { λ r. ⌜ r ≡ self .n ⌝ }
+        ensures { λ r. ⌜ r ≡ self .solver .n ⌝ }
     {
-        self.n
+        let solver = self.solver;
+        solver.channels()
     }
 
     // How many turns were made of the matrix.
     pub fn turns(self) -> u64
-        ensures { λ r. ⌜ r ≡ self .m ⌝ }
+        ensures { λ r. ⌜ r ≡ self .solver .m ⌝ }
     {
-        self.m
+        let solver = self.solver;
+        solver.turns()
     }
 
     // The shift e of the table that was loaded, 0 for a plain load.
     pub fn shift(self) -> u32
-        ensures { λ r. ⌜ r ≡ self .e ⌝ }
+        ensures { λ r. ⌜ r ≡ self .solver .e ⌝ }
     {
-        self.e
+        let solver = self.solver;
+        solver.shift()
     }
 
-    fn after_refusal(mut self) -> Self
-        ensures { λ r. ⌜ r ≡ refusedOf self ⌝ }
-    {
-        let refused = self.refused;
-        self.refused = one_more(refused);
-        self
-    }
-
-    // What a refused call answers and leaves; an axis call has its own.
-    fn refuse(self, number: u32) -> Step
-        ensures { λ z. ⌜ (z .answer ≡ Refused number) × (z .next ≡ refusedOf self) ⌝ }
-    {
-        Step {
-            answer: Answer::Refused(number),
-            next: self.after_refusal(),
-        }
-    }
-
-    pub fn load(self, n: usize, numbers: &[i64]) -> Step
+    pub fn load(self, bench: usize, n: usize, numbers: &[i64]) -> Step
         requires { ⌜ Kept self ⌝ }
-        ensures { λ z. ⌜ Done self (load n (now (numbers .entry))) (z .answer) (z .next) ⌝ }
+        ensures { λ z. ⌜ Done self (by bench (load n (now (numbers .entry)))) (z .answer) (z .next) ⌝ }
     {
-        let number = load::load_refusal(n, numbers);
-        if number != 0 {
-            return self.refuse(number);
+        if !is_bench(bench) {
+            return self.no_bench();
         }
-        Step {
-            answer: Answer::Loaded,
-            next: self.load_table(n, numbers, 0),
-        }
+        let solver = self.solver;
+        self.answered(bench, solver.load(n, numbers))
     }
 
     // Document 02, W5: the second load, of the table of samples.
-    pub fn load_samples(self, n: usize, dilutions: &[u32], counts: &[u32]) -> Step
+    pub fn load_samples(self, bench: usize, n: usize, dilutions: &[u32], counts: &[u32]) -> Step
         requires { ⌜ Kept self ⌝ }
-        ensures { λ z. ⌜ Done self (loadSamples n (now (dilutions .entry)) (now (counts .entry))) (z .answer) (z .next) ⌝ }
+        ensures { λ z. ⌜ Done self (by bench (loadSamples n (now (dilutions .entry)) (now (counts .entry)))) (z .answer) (z .next) ⌝ }
     {
-        let number = readings::samples_refusal(n, dilutions, counts);
-        if number != 0 {
-            return self.refuse(number);
+        if !is_bench(bench) {
+            return self.no_bench();
         }
-        let table = scatter::table::table_of_readings(n, dilutions, counts);
-        let entries = table.entries;
-        let e = table.e;
-        let size = n * n;
-        Step {
-            answer: Answer::SamplesLoaded(e),
-            next: self.load_table(n, &entries[..size], e),
-        }
+        let solver = self.solver;
+        self.answered(bench, solver.load_samples(n, dilutions, counts))
     }
 
-    // The load of a table, its entries and its e, that is no call: both loads and the run of a job use it.
+    // The load of a table, its entries and its e, that is no call: the run of a job uses it.
     pub fn load_table(self, n: usize, numbers: &[i64], e: u32) -> Self
-        requires { ⌜ refusalOf 0 0 (load n (now numbers)) ≡ 0 ⌝ }
+        requires { ⌜ Kept self × (refusalOf 0 0 (load n (now numbers)) ≡ 0) ⌝ }
         ensures { λ r. ⌜ TableLoaded self n (now (numbers .entry)) e r ⌝ }
     {
         let refused = self.refused;
-        let mut matrix = [[0i64; 8]; 8];
-        let mut axes = [[0i64; 8]; 8];
-        load::load_matrix(&mut matrix, n, numbers);
-        load::load_axes(&mut axes, n);
         Record {
-            n,
-            m: 0,
-            e,
+            solver: Solver::of_table(n, numbers, e),
             refused,
-            a: rows::packed(matrix),
-            v: rows::packed(axes),
         }
     }
 
-    pub fn turn(self, p: usize, q: usize) -> Step
+    pub fn turn(self, bench: usize, p: usize, q: usize) -> Step
         requires { ⌜ Kept self ⌝ }
-        ensures { λ z. ⌜ Done self (turn p q) (z .answer) (z .next) ⌝ }
+        ensures { λ z. ⌜ Done self (by bench (turn p q)) (z .answer) (z .next) ⌝ }
     {
-        let n = self.n;
-        let m = self.m;
-        let number = sweep::turn_refusal(n, m, p, q);
-        if number != 0 {
-            return self.refuse(number);
+        if !is_bench(bench) {
+            return self.no_bench();
         }
-        let mut matrix = rows::unpacked(&self.a);
-        let mut axes = rows::unpacked(&self.v);
-        let made = sweep::work_pair(&mut matrix, &mut axes, n, m, p - 1, q - 1);
-        Step {
-            answer: Answer::Turned(m < made),
-            next: self.with_rows(matrix, axes, made),
-        }
+        let solver = self.solver;
+        self.answered(bench, solver.turn(p, q))
     }
 
-    pub fn sweep(self) -> Step
+    pub fn sweep(self, bench: usize) -> Step
         requires { ⌜ Kept self ⌝ }
-        ensures { λ z. ⌜ Done self sweep (z .answer) (z .next) ⌝ }
+        ensures { λ z. ⌜ Done self (by bench sweep) (z .answer) (z .next) ⌝ }
     {
-        self.sweep_in(Order::Cyclic)
+        self.sweep_in(bench, Order::Cyclic)
     }
 
     // Document 02, W10: the sweep in tournament order.
-    pub fn tournament_sweep(self) -> Step
+    pub fn tournament_sweep(self, bench: usize) -> Step
         requires { ⌜ Kept self ⌝ }
-        ensures { λ z. ⌜ Done self tournamentSweep (z .answer) (z .next) ⌝ }
+        ensures { λ z. ⌜ Done self (by bench tournamentSweep) (z .answer) (z .next) ⌝ }
     {
-        self.sweep_in(Order::Tournament)
+        self.sweep_in(bench, Order::Tournament)
     }
 
-    fn sweep_in(self, order: Order) -> Step
+    fn sweep_in(self, bench: usize, order: Order) -> Step
         requires { ⌜ Kept self ⌝ }
-        ensures { λ z. ⌜ Done self (sweepIn order) (z .answer) (z .next) ⌝ }
+        ensures { λ z. ⌜ Done self (by bench (sweepIn order)) (z .answer) (z .next) ⌝ }
     {
-        let n = self.n;
-        let m = self.m;
-        let number = sweep::sweep_refusal(n, m);
-        if number != 0 {
-            return self.refuse(number);
+        if !is_bench(bench) {
+            return self.no_bench();
         }
-        let mut matrix = rows::unpacked(&self.a);
-        let mut axes = rows::unpacked(&self.v);
-        let made = sweep::work_pairs(&mut matrix, &mut axes, n, m, order);
-        Step {
-            answer: sweep::swept(order, made - m),
-            next: self.with_rows(matrix, axes, made),
-        }
+        let solver = self.solver;
+        self.answered(bench, solver.sweep_in(order))
     }
 
-    pub fn loose_pair(self, t: u64) -> Step
+    pub fn loose_pair(self, bench: usize, t: u64) -> Step
         requires { ⌜ Kept self ⌝ }
-        ensures { λ z. ⌜ LooseDone self t (z .answer) (z .next) ⌝ }
+        ensures { λ z. ⌜ LooseDone self bench t (z .answer) (z .next) ⌝ }
     {
-        let n = self.n;
-        let number = query::loose_pair_refusal(n, t);
-        if number != 0 {
-            return self.refuse(number);
+        if !is_bench(bench) {
+            return self.no_bench();
         }
-        let matrix = rows::unpacked(&self.a);
-        Step {
-            answer: query::loose_pair_of(&matrix, n, t),
-            next: self,
-        }
+        let solver = self.solver;
+        self.answered(bench, solver.loose_pair(t))
     }
 
-    pub fn axis(self, i: usize) -> AxisStep
+    pub fn axis(self, bench: usize, i: usize) -> AxisStep
         requires { ⌜ Kept self ⌝ }
-        ensures { λ z. ⌜ AxisDone self i (z .answer) (z .next) ⌝ }
+        ensures { λ z. ⌜ AxisDone self bench i (z .answer) (z .next) ⌝ }
     {
-        let n = self.n;
-        let number = query::axis_refusal(n, i);
-        if number != 0 {
+        if !is_bench(bench) {
             return AxisStep {
                 answer: AxisAnswer {
-                    value: Answer::Refused(number),
+                    value: Answer::Refused(15),
                     row: [0; 8],
                 },
-                next: self.after_refusal(),
+                next: self,
             };
         }
-        let matrix = rows::unpacked(&self.a);
-        let entry = matrix[i - 1][i - 1];
-        let error = query::error_of(&matrix, n, self.e, self.m, i - 1);
+        let solver = self.solver;
+        let done = solver.axis(i);
+        let answer = done.answer;
+        let value = answer.value;
+        let next = done.next;
         AxisStep {
-            answer: AxisAnswer {
-                value: Answer::Axis { entry, error },
-                row: rows::row(&self.v, i - 1),
-            },
-            next: self,
+            answer,
+            next: self.after(bench, value, next),
         }
     }
 
-    // The loose-pair and sweep calls of a run, one after the other, unpacked and packed once for all of them.
+    // The loose-pair and sweep calls of a run, of bench 1, one after the other.
     pub fn run(self, limit: u64, tolerance: u64) -> Run
         requires { ⌜ Runnable self limit tolerance ⌝ }
         ensures { λ z. ⌜ RunDone self limit tolerance z ⌝ }
     {
-        let mut matrix = rows::unpacked(&self.a);
-        let mut axes = rows::unpacked(&self.v);
-        let ended = run::run_rows(&mut matrix, &mut axes, self.n, limit, tolerance);
+        let solver = self.solver;
+        let ended = solver.run(limit, tolerance);
         let outcome = ended.outcome;
+        let last = ended.last;
+        let refused = self.refused;
         Run {
             outcome,
             sweeps: ended.sweeps,
-            last: self.with_rows(matrix, axes, ended.m),
+            last: Record {
+                solver: last,
+                refused,
+            },
         }
     }
 
-    // The record with the matrix and axes of some turns, and m after them.
-    fn with_rows(self, matrix: [[i64; 8]; 8], axes: [[i64; 8]; 8], made: u64) -> Self
-        ensures { λ r. ⌜ r ≡ workedOf self (workAt matrix axes made) ⌝ }
+    // Document 02, W8: 'A bench outside 1 to 4 gives 15, tried before everything else, and raises no count.' An axis call has its own.
+    fn no_bench(self) -> Step
+        ensures { λ z. ⌜ (z .answer ≡ Refused 15) × (z .next ≡ self) ⌝ }
     {
-        let a = rows::packed(matrix);
-        let v = rows::packed(axes);
-        Record {
-            n: self.n,
-            m: made,
-            e: self.e,
-            refused: self.refused,
-            a,
-            v,
+        Step {
+            answer: Answer::Refused(15),
+            next: self,
         }
+    }
+
+    // What a call of a bench answers and leaves, by what it does to the state; an axis call has its own.
+    fn answered(self, bench: usize, done: SolverStep) -> Step
+        requires { ⌜ Kept self × (isBench bench ≡ true) ⌝ }
+        ensures { λ z. ⌜ (z .answer ≡ done .answer) × (z .next ≡ leftBy self bench (done .answer) (done .next)) ⌝ }
+    {
+        let answer = done.answer;
+        let next = done.next;
+        Step {
+            answer,
+            next: self.after(bench, answer, next),
+        }
+    }
+
+    // The record that a call of a bench leaves: 'A refused call raises its own bench's count and no other.'
+    fn after(self, bench: usize, answer: Answer, solver: Solver) -> Self
+        requires { ⌜ Kept self × (isBench bench ≡ true) ⌝ }
+        ensures { λ r. ⌜ r ≡ leftBy self bench answer solver ⌝ }
+    {
+        let refused = self.refused;
+        if query::is_refused(answer) {
+            return Record {
+                solver,
+                refused: raise(refused, bench),
+            };
+        }
+        Record { solver, refused }
     }
 }

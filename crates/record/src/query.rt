@@ -12,6 +12,7 @@ ghost use Rattle.ledger.specs.Refusal.{refusalOf};
 ghost use Rattle.turn.specs.Size.{Small};
 ghost use Rattle.turn.specs.Turn.{at};
 ghost use Rattle.record.specs.Loose.{looseOf};
+ghost use Rattle.record.specs.Record.{isRefused};
 use crate::Record;
 
 // What a call answers.
@@ -25,6 +26,17 @@ pub enum Answer {
     NoPair,
     Axis { entry: i64, error: u64 },
     Refused(u32),
+}
+
+// Whether a call was refused.
+pub(crate) fn is_refused(answer: Answer) -> bool
+    ensures { λ r. ⌜ r ≡ isRefused answer ⌝ }
+{
+    if let Answer::Refused(_) = answer {
+        true
+    } else {
+        false
+    }
 }
 
 pub(crate) fn loose_pair_refusal(n: usize, t: u64) -> u32

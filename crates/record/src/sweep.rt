@@ -12,7 +12,7 @@ ghost use Rattle.choice.specs.Choice.{choose};
 ghost use Rattle.record.specs.Worked.{Ready, workAt};
 ghost use Rattle.record.specs.Work.{workPair, workPairs};
 ghost use Rattle.record.specs.inner.Orders.{Within, columnsIn, firstIn, pairIn, rowsIn, workPlace};
-ghost use Rattle.record.specs.Record.{sweptIn};
+ghost use Rattle.record.specs.Solver.{sweptIn};
 use crate::Record;
 use crate::query::Answer;
 use choice::Choice;

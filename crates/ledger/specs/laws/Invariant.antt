@@ -17,7 +17,8 @@ use Rattle.ledger.specs.laws.Accepted.{accepted-under, load-accepted, sa
 use Rattle.ledger.specs.Call.{Call, load, loadSamples, turn, sweepIn, loosePair, axis}
 use Rattle.ledger.specs.laws.Orders.{once-in}
 use Rattle.ledger.specs.Ledger.{State, Ledger, empty, loaded, take, turnPair, turnPairs, acceptedUnder, sizeOf, turnsOf}
-use Rattle.ledger.specs.Ledger.{ledgerStepUnder, ledgerFromUnder}
+use Rattle.ledger.specs.Bench.{NamedCall, isBench}
+use Rattle.ledger.specs.Ledger.{ledgerStepUnder, ledgerFromUnder, namedStepUnder}
 use Rattle.ledger.specs.Ledger.{ledger}
 use Rattle.ledger.specs.laws.Loaded.{sound-plain, sound-samples}
 use Rattle.ledger.specs.Order.{pairsIn}
@@ -102,12 +103,21 @@ module _ (limit : ℕ) (some : 1 ≤ limit) (below : limit ≤ entryLimit) where
           (accepted-under limit entryLimit below _ _ call (eqb-true (refusalUnder limit (sizeOf g) (turnsOf g) call) 0 e))
       cases false e = h
 
-  sound-from : (g : Ledger) (calls : List Call) → SoundLedger g → SoundLedger (ledgerFromUnder limit g calls)
+  -- and so does one of no bench
+  pub sound-named : (g : Ledger) (c : NamedCall) → SoundLedger g → SoundLedger (namedStepUnder limit g c)
+  unfolding namedStepUnder
+  sound-named g c h = cases (isBench (c .bench))
+    where
+      cases : (b : Bool) → SoundLedger (cond b (ledgerStepUnder limit g (c .call)) g)
+      cases true = sound-step g (c .call) h
+      cases false = h
+
+  sound-from : (g : Ledger) (calls : List NamedCall) → SoundLedger g → SoundLedger (ledgerFromUnder limit g calls)
   unfolding ledgerFromUnder
   sound-from g [] h = h
-  sound-from g (call ∷ calls) h = sound-from (ledgerStepUnder limit g call) calls (sound-step g call h)
+  sound-from g (c ∷ calls) h = sound-from (namedStepUnder limit g c) calls (sound-named g c h)
 
 -- For every list of calls; nothing is assumed of it
-pub sound : (calls : List Call) → SoundLedger (ledger calls)
+pub sound : (calls : List NamedCall) → SoundLedger (ledger calls)
 unfolding ledger SoundLedger
 sound calls = sound-from entryLimit some-entry (le-refl entryLimit) empty calls tt

@@ -21,11 +21,11 @@ use Rattle.ledger.specs.declared.Order.{Order}
 use Rattle.ledger.specs.Refusal.{refusalOf, refusalUnder, symmetric}
 use Rattle.integer.specs.Matrix.{matrixOf}
 use Rattle.record.specs.laws.Loading.{loads-within}
-use Rattle.record.specs.Record.{acceptedOf, afterOf, afterOfUnder}
-use Rattle.record.specs.declared.Record.{Record}
+use Rattle.record.specs.Solver.{acceptedOf, afterOf, afterOfUnder}
+use Rattle.record.specs.declared.solver.Solver.{Solver}
 
 -- the record after such a call
-pub after-accepted : (r : Record) (call : Call) → refusalOf (r .n) (r .m) call ≡ 0 → afterOf r call ≡ acceptedOf r call
+pub after-accepted : (r : Solver) (call : Call) → refusalOf (r .n) (r .m) call ≡ 0 → afterOf r call ≡ acceptedOf r call
 unfolding afterOfUnder
 after-accepted r call e = rw (eq-eqb (refusalOf (r .n) (r .m) call) 0 e)
 

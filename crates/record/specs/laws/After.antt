@@ -1,4 +1,4 @@
--- The record that a call leaves is kept, whatever the call.
+-- What a call leaves is kept, whatever the call.
 use mathlib.Core.Path.{_≡_, refl, sym, ap, _∙_}
 use mathlib.Core.Bool.{Bool, true, false, cond, _&&_}
 use mathlib.Core.List.{List}
@@ -32,11 +32,11 @@ use Rattle.turn.specs.laws.InUse.{Use, inside, outside, use-of, at-square, inUs
 use Rattle.record.specs.laws.Turning.{work-keeps, work-grows, works-keep, works-grow}
 use Rattle.record.specs.Work.{Work, workPair, workPairs}
 use Rattle.record.specs.Flat.{entriesOf, flatOf, keptEntry, rowsOf}
-use Rattle.record.specs.Kept.{Kept}
+use Rattle.record.specs.Kept.{KeptSolver}
 use Rattle.record.specs.laws.Fill.{length-flat}
 use Rattle.record.specs.laws.Loading.{at-flat, load-kept, loads-kept}
-use Rattle.record.specs.Record.{acceptedOfUnder, afterOf, afterOfUnder, fresh, refusedOf, samplesRecord, sweptOf, turnedOf, workOf, workedOf}
-use Rattle.record.specs.declared.Record.{Record}
+use Rattle.record.specs.Solver.{acceptedOfUnder, afterOf, afterOfUnder, samplesSolver, sweptOf, turnedOf, unloaded, workOf, workedOf}
+use Rattle.record.specs.declared.solver.Solver.{Solver}
 
 -- what is 0 outside is itself in use
 itself-in-use : (n : ℕ) (x : Matrix) → ((i j : ℕ) → (ltb i n && ltb j n) ≡ false → x i j ≡ pos 0) → x ≡ inUse n x
@@ -55,7 +55,7 @@ flat-back n a b zero-outside i j =
     itself : at a ≡ inUse n (at a)
     itself = itself-in-use n (at a) zero-outside
 
-pub worked-kept : (r : Record) (w : Work) → r .n ≤ 8 → KeptWork (r .n) w → KeptWork (r .n) (workOf (workedOf r w))
+pub worked-kept : (r : Solver) (w : Work) → r .n ≤ 8 → KeptWork (r .n) w → KeptWork (r .n) (workOf (workedOf r w))
 unfolding workOf workedOf
 worked-kept r w b k =
     record {
@@ -72,18 +72,7 @@ worked-kept r w b k =
     axes : (i j : ℕ) → at (rowsOf (flatOf (at (w .v)))) i j ≡ at (w .v) i j
     axes = flat-back (r .n) (w .v) b (k .axes-outside)
 
-refused-kept : (r : Record) → Kept r → Kept (refusedOf r)
-unfolding refusedOf workOf
-refused-kept r k = record {
-  size = k .size;
-  channels = k .channels;
-  turns = k .turns;
-  work = k .work;
-  matrix-length = k .matrix-length;
-  axes-length = k .axes-length;
-}
-
-turned-kept : (r : Record) (p q : ℕ) → Kept r → refusalOf (r .n) (r .m) (turn p q) ≡ 0 → Kept (turnedOf r p q)
+turned-kept : (r : Solver) (p q : ℕ) → KeptSolver r → refusalOf (r .n) (r .m) (turn p q) ≡ 0 → KeptSolver (turnedOf r p q)
 unfolding turnedOf workedOf workOf
 turned-kept r p q k e =
     let t = turn-accepted (r .n) (r .m) p q e in
@@ -104,7 +93,7 @@ turned-kept r p q k e =
 pub sweep-fits : (order : Order) (m n : ℕ) → n ≤ 8 → m + n * (n - 1) / 2 ≤ turnLimit → m + length (pairsIn order n) ≤ turnLimit
 sweep-fits order m n h l = omega (arith, l, once-in order n h .count)
 
-swept-kept : (r : Record) (order : Order) → Kept r → refusalOf (r .n) (r .m) (sweepIn order) ≡ 0 → Kept (sweptOf r order)
+swept-kept : (r : Solver) (order : Order) → KeptSolver r → refusalOf (r .n) (r .m) (sweepIn order) ≡ 0 → KeptSolver (sweptOf r order)
 unfolding sweptOf workedOf workOf
 swept-kept r order k e =
     record {
@@ -122,28 +111,28 @@ swept-kept r order k e =
 
 -- under any limit up to today's: what it accepts, today's does
 module _ (limit : ℕ) (some : 1 ≤ limit) (below : limit ≤ entryLimit) where
-  accepted-kept : (r : Record) (call : Call) → Kept r → refusalOf (r .n) (r .m) call ≡ 0 → Kept (acceptedOfUnder limit r call)
-  unfolding acceptedOfUnder samplesRecord
-  accepted-kept r (load n numbers) k e = load-kept r n numbers e
+  accepted-kept : (r : Solver) (call : Call) → KeptSolver r → refusalOf (r .n) (r .m) call ≡ 0 → KeptSolver (acceptedOfUnder limit r call)
+  unfolding acceptedOfUnder samplesSolver
+  accepted-kept r (load n numbers) k e = load-kept (r .n) (r .m) n numbers e
   accepted-kept r (loadSamples n dilutions counts) k e =
-      loads-kept r n _ (samples-load limit some below n dilutions counts (samples-accepted (r .n) (r .m) n dilutions counts e)) _
+      loads-kept n _ (samples-load limit some below n dilutions counts (samples-accepted (r .n) (r .m) n dilutions counts e)) _
   accepted-kept r (turn p q) k e = turned-kept r p q k e
   accepted-kept r (sweepIn order) k e = swept-kept r order k e
   accepted-kept r (loosePair t) k e = k
   accepted-kept r (axis i) k e = k
 
-  pub after-kept-under : (r : Record) (call : Call) → Kept r → Kept (afterOfUnder limit r call)
+  pub after-kept-under : (r : Solver) (call : Call) → KeptSolver r → KeptSolver (afterOfUnder limit r call)
   unfolding afterOfUnder
   after-kept-under r call k = by-refusal (eqb (refusalUnder limit (r .n) (r .m) call) 0) refl
     where
-      by-refusal : (t : Bool) → eqb (refusalUnder limit (r .n) (r .m) call) 0 ≡ t → Kept (cond t (acceptedOfUnder limit r call) (refusedOf r))
+      by-refusal : (t : Bool) → eqb (refusalUnder limit (r .n) (r .m) call) 0 ≡ t → KeptSolver (cond t (acceptedOfUnder limit r call) r)
       by-refusal true e = accepted-kept r call k (accepted-under limit entryLimit below _ _ call (eqb-true _ _ e))
-      by-refusal false e = refused-kept r k
+      by-refusal false e = k
 
-pub after-kept : (r : Record) (call : Call) → Kept r → Kept (afterOf r call)
+pub after-kept : (r : Solver) (call : Call) → KeptSolver r → KeptSolver (afterOf r call)
 after-kept = after-kept-under entryLimit some-entry (le-refl entryLimit)
 
--- a fresh record
+-- where there is no matrix
 empty : (i j : ℕ) → at (rowsOf (replicate 64 (pos 0))) i j ≡ pos 0
 unfolding rowsOf entriesOf keptEntry
 empty i j = at-square (keptEntry (replicate 64 (pos 0))) i j ∙ by-use (use-of 8 i j)
@@ -152,9 +141,9 @@ empty i j = at-square (keptEntry (replicate 64 (pos 0))) i j ∙ by-use (use-of 
     by-use (inside h k) = inUse-inside 8 _ i j h k ∙ getD-repeated 64 (8 * i + j) (pos 0)
     by-use (outside e) = inUse-outside 8 _ i j e
 
-pub fresh-kept : Kept fresh
-unfolding fresh workOf squares sumℕ
-fresh-kept =
+pub unloaded-kept : KeptSolver unloaded
+unfolding unloaded workOf squares sumℕ
+unloaded-kept =
     record {
       size = omega arith;
       channels = omega arith;

@@ -30,9 +30,9 @@ use Rattle.choice.specs.declared.Choice.{Choice}
 use Rattle.choice.specs.declared.Choice.the-variants.{NoTurn, Turn}
 use Rattle.record.specs.laws.Fill.{at-rowsOf, kept-flatOf}
 use Rattle.record.specs.Flat.{keptEntry}
-use Rattle.record.specs.Kept.{Kept}
-use Rattle.record.specs.Record.{acceptedOfUnder, afterOfUnder, loadedRecord, refusedOf, samplesRecord, sweptOf, turnedOf, workOf, workedOf}
-use Rattle.record.specs.declared.Record.{Record}
+use Rattle.record.specs.Kept.{KeptSolver}
+use Rattle.record.specs.Solver.{acceptedOfUnder, afterOfUnder, loadedSolver, samplesSolver, sweptOf, turnedOf, workOf, workedOf}
+use Rattle.record.specs.declared.solver.Solver.{Solver}
 
 -- work and a ledger's state, below n
 pub record AgreeWork (n e : ℕ) (w : Work) (s : State) : Type 0 where
@@ -72,19 +72,19 @@ agree-pairs n e w s (pair ∷ pairs) b k a each =
     (agree-pair n e w s pair b k a (each .0)) (each .1)
 
 -- 'The kept matrix and axes are the record's a and v; they equal B and V'
-pub record Agree (r : Record) (s : State) : Type 0 where
+pub record Agree (r : Solver) (s : State) : Type 0 where
   pub size : r .n ≡ s .n
   pub turns : r .m ≡ s .m
   pub shift : r .e ≡ s .e
   pub matrix : Same (s .n) (keptEntry (r .a)) (s .B)
   pub axes : Same (s .n) (keptEntry (r .v)) (s .axes)
 
-unfoldable pub Agrees : Record → Ledger → Type 0
+unfoldable pub Agrees : Solver → Ledger → Type 0
 Agrees r empty = r .n ≡ 0
 Agrees r (loaded s) = Agree r s
 
 -- from the record to its work, and back
-at-work : (r : Record) (s : State) → r .n ≤ 8 → Agree r s → AgreeWork (r .n) (r .e) (workOf r) s
+at-work : (r : Solver) (s : State) → r .n ≤ 8 → Agree r s → AgreeWork (r .n) (r .e) (workOf r) s
 unfolding workOf
 at-work r s b a =
     record {
@@ -95,7 +95,7 @@ at-work r s b a =
       axes = λ i j h g. at-rowsOf (r .v) i j (omega arith) (omega arith) ∙ a .axes i j (rw (a .size) at h) (rw (a .size) at g);
     }
 
-from-work : (r : Record) (w : Work) (s : State) → r .n ≤ 8 → AgreeWork (r .n) (r .e) w s → Agree (workedOf r w) s
+from-work : (r : Solver) (w : Work) (s : State) → r .n ≤ 8 → AgreeWork (r .n) (r .e) w s → Agree (workedOf r w) s
 unfolding workedOf
 from-work r w s b a =
     record {
@@ -118,21 +118,16 @@ no-matrix limit m (sweepIn order) = refl
 no-matrix limit m (loosePair t) = refl
 no-matrix limit m (axis i) = refl
 
-same-refusal : (limit : ℕ) (r : Record) (g : Ledger) (call : Call) → Agrees r g →
+same-refusal : (limit : ℕ) (r : Solver) (g : Ledger) (call : Call) → Agrees r g →
     refusalUnder limit (r .n) (r .m) call ≡ refusalUnder limit (sizeOf g) (turnsOf g) call
 unfolding Agrees sizeOf turnsOf
 same-refusal limit r empty call a = rw a (no-matrix limit (r .m) call)
 same-refusal limit r (loaded s) call a = rw (a .size, a .turns)
 
-agree-refused : (r : Record) (g : Ledger) → Agrees r g → Agrees (refusedOf r) g
-unfolding Agrees refusedOf
-agree-refused r empty a = a
-agree-refused r (loaded s) a = record { size = a .size; turns = a .turns; shift = a .shift; matrix = a .matrix; axes = a .axes }
-
-agree-loaded : (r : Record) (n : ℕ) (numbers : List ℤ) (scattered : Matrix) (shift : ℕ) → n ≤ 8 →
-    Agree (loadedRecord r n numbers shift) (L.loadedState n numbers scattered shift)
-unfolding loadedRecord L.loadedState
-agree-loaded r n numbers scattered shift b =
+agree-loaded : (n : ℕ) (numbers : List ℤ) (scattered : Matrix) (shift : ℕ) → n ≤ 8 →
+    Agree (loadedSolver n numbers shift) (L.loadedState n numbers scattered shift)
+unfolding loadedSolver L.loadedState
+agree-loaded n numbers scattered shift b =
     record {
       size = refl;
       turns = refl;
@@ -144,12 +139,12 @@ agree-loaded r n numbers scattered shift b =
 ten-is-not-zero : _≡_ {A = ℕ} 10 0 → ⊥
 ten-is-not-zero z = omega arith
 
-agree-accepted : (limit : ℕ) (r : Record) (g : Ledger) (call : Call) → Kept r → Agrees r g → refusalOf (r .n) (r .m) call ≡ 0 →
+agree-accepted : (limit : ℕ) (r : Solver) (g : Ledger) (call : Call) → KeptSolver r → Agrees r g → refusalOf (r .n) (r .m) call ≡ 0 →
     Agrees (acceptedOfUnder limit r call) (acceptedUnder limit g call)
-unfolding Agrees acceptedOfUnder acceptedUnder refusalUnder turnedOf sweptOf samplesRecord L.plainState L.samplesState
-agree-accepted limit r g (load n numbers) k a e = agree-loaded r n numbers _ 0 (load-accepted (r .n) (r .m) n numbers e .high)
+unfolding Agrees acceptedOfUnder acceptedUnder refusalUnder turnedOf sweptOf samplesSolver L.plainState L.samplesState
+agree-accepted limit r g (load n numbers) k a e = agree-loaded n numbers _ 0 (load-accepted (r .n) (r .m) n numbers e .high)
 agree-accepted limit r g (loadSamples n dilutions counts) k a e =
-    agree-loaded r n _ _ _ (are-readings n dilutions counts (samples-accepted (r .n) (r .m) n dilutions counts e) .channels)
+    agree-loaded n _ _ _ (are-readings n dilutions counts (samples-accepted (r .n) (r .m) n dilutions counts e) .channels)
 agree-accepted limit r empty (turn p q) k a e = absurd (ten-is-not-zero (rw a at e))
 agree-accepted limit r (loaded s) (turn p q) k a e =
     let t = turn-accepted (r .n) (r .m) p q e in
@@ -166,12 +161,12 @@ agree-accepted limit r g (loosePair t) k a e = a
 agree-accepted limit r g (axis i) k a e = a
 
 -- under any limit up to today's: what it accepts, today's does
-pub agree-step : (limit : ℕ) → limit ≤ entryLimit → (r : Record) (g : Ledger) (call : Call) → Kept r → Agrees r g →
+pub agree-step : (limit : ℕ) → limit ≤ entryLimit → (r : Solver) (g : Ledger) (call : Call) → KeptSolver r → Agrees r g →
     Agrees (afterOfUnder limit r call) (ledgerStepUnder limit g call)
 unfolding afterOfUnder ledgerStepUnder
 agree-step limit below r g call k a = rw (← same-refusal limit r g call a) (by-refusal (eqb (refusalUnder limit (r .n) (r .m) call) 0) refl)
   where
     by-refusal : (t : Bool) → eqb (refusalUnder limit (r .n) (r .m) call) 0 ≡ t →
-        Agrees (cond t (acceptedOfUnder limit r call) (refusedOf r)) (cond t (acceptedUnder limit g call) g)
+        Agrees (cond t (acceptedOfUnder limit r call) r) (cond t (acceptedUnder limit g call) g)
     by-refusal true e = agree-accepted limit r g call k a (accepted-under limit entryLimit below _ _ call (eqb-true _ _ e))
-    by-refusal false e = agree-refused r g a
+    by-refusal false e = a

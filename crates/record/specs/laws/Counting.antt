@@ -1,5 +1,5 @@
 -- What a turn and a sweep answer is what they add to m: 'm counts turns made', 'The answer is how many turns it made'; and a load of samples answers
--- the record's e.
+-- the e that the record then has.
 use mathlib.Core.Path.{_≡_, refl}
 use mathlib.Core.Bool.{Bool, true, false}
 use Prim.Native.Nat.{ℕ, _+_, _-_}
@@ -14,14 +14,14 @@ use Rattle.ledger.specs.Pairs.{Pair}
 use Rattle.ledger.specs.declared.Order.{Order}
 use Rattle.ledger.specs.declared.Order.the-variants.{Cyclic, Tournament}
 use Rattle.ledger.specs.Refusal.{refusalOf}
-use Rattle.record.specs.Record.{acceptedOfUnder, afterOf, answerOf, loadedRecord, samplesRecord, sweptIn, sweptOf}
-use Rattle.record.specs.Record.{turnedOf, valueOf, workOf, workedOf}
+use Rattle.record.specs.Solver.{acceptedOfUnder, afterOf, answerOf, loadedSolver, samplesSolver, sweptIn, sweptOf}
+use Rattle.record.specs.Solver.{turnedOf, valueOf, workOf, workedOf}
 use Rattle.readings.specs.Samples.{samples}
 use Rattle.scatter.specs.Table.{scatter, shift}
 use Rattle.record.specs.Work.{Work, isTurn, workBy, workPair}
 use Rattle.record.specs.laws.Accepted.{after-accepted}
 use Rattle.record.specs.laws.Turning.{works-least}
-use Rattle.record.specs.declared.Record.{Record}
+use Rattle.record.specs.declared.solver.Solver.{Solver}
 use Rattle.record.specs.declared.query.Answer.the-variants.{SamplesLoaded, Swept, TournamentSwept, Turned}
 
 same-count : (order : Order) (j k : ℕ) → sweptIn order j ≡ sweptIn order k → j ≡ k
@@ -33,7 +33,7 @@ pub swept-as : (k : ℕ) → (sweptIn Cyclic k ≡ Swept k) × (sweptIn Tourname
 swept-as k = (refl, refl)
 
 -- a sweep that is not refused, in either order
-pub sweep-counts : (r : Record) (order : Order) → refusalOf (r .n) (r .m) (sweepIn order) ≡ 0 → (k : ℕ) →
+pub sweep-counts : (r : Solver) (order : Order) → refusalOf (r .n) (r .m) (sweepIn order) ≡ 0 → (k : ℕ) →
     answerOf r (sweepIn order) ≡ sweptIn order k → afterOf r (sweepIn order) .m ≡ r .m + k
 unfolding answerOf valueOf acceptedOfUnder sweptOf workedOf workOf
 sweep-counts r order e k a =
@@ -53,7 +53,7 @@ by-choice n w pair NoTurn b h = let e : false ≡ b = cc in rw (← e) (omega ar
 by-choice n w pair (Turn l minus) b h = let e : true ≡ b = cc in rw (← e) (omega arith)
 
 -- a turn call that is not refused
-pub turn-counts : (r : Record) (p q : ℕ) → refusalOf (r .n) (r .m) (turn p q) ≡ 0 → (b : Bool) → answerOf r (turn p q) ≡ Turned b →
+pub turn-counts : (r : Solver) (p q : ℕ) → refusalOf (r .n) (r .m) (turn p q) ≡ 0 → (b : Bool) → answerOf r (turn p q) ≡ Turned b →
     afterOf r (turn p q) .m ≡ r .m + made b
 unfolding answerOf valueOf acceptedOfUnder turnedOf workedOf workPair workOf
 turn-counts r p q e b a =
@@ -61,9 +61,9 @@ turn-counts r p q e b a =
     rw (after-accepted r (turn p q) e) (by-choice (r .n) (workOf r) (record { p = p - 1; q = q - 1 }) _ b told)
 
 -- a load of samples that is not refused answers the e that the record then has
-pub samples-counts : (r : Record) (n : ℕ) (dilutions counts : List ℕ) → refusalOf (r .n) (r .m) (loadSamples n dilutions counts) ≡ 0 → (e : ℕ) →
+pub samples-counts : (r : Solver) (n : ℕ) (dilutions counts : List ℕ) → refusalOf (r .n) (r .m) (loadSamples n dilutions counts) ≡ 0 → (e : ℕ) →
     answerOf r (loadSamples n dilutions counts) ≡ SamplesLoaded e → afterOf r (loadSamples n dilutions counts) .e ≡ e
-unfolding answerOf valueOf acceptedOfUnder samplesRecord loadedRecord
+unfolding answerOf valueOf acceptedOfUnder samplesSolver loadedSolver
 samples-counts r n dilutions counts taken e a =
     let told = rw (eq-eqb (refusalOf (r .n) (r .m) (loadSamples n dilutions counts)) 0 taken) at a in
     let same : shift (scatter n (samples n dilutions counts)) ≡ e = cc in

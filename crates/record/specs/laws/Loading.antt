@@ -1,4 +1,4 @@
--- A load that is not refused: what holds of its numbers, and the record that it leaves is kept.
+-- A load that is not refused: what holds of its numbers, and what it leaves is kept.
 use mathlib.Core.Path.{_≡_, refl, sym, ap, _∙_}
 use mathlib.Core.Bool.{true}
 use mathlib.Core.List.{List, [], _∷_}
@@ -25,9 +25,8 @@ use Rattle.integer.specs.Matrix.{Matrix, diagonal, squares, matrixOf}
 use Rattle.integer.specs.laws.Matrix.{diagonal-squares, squares-cong}
 use Rattle.record.specs.laws.Fill.{kept-flatOf, length-flat}
 use Rattle.record.specs.Flat.{keptEntry, entriesOf, rowsOf, flatOf}
-use Rattle.record.specs.Kept.{Kept}
-use Rattle.record.specs.Record.{loadedRecord, workOf}
-use Rattle.record.specs.declared.Record.{Record}
+use Rattle.record.specs.Kept.{KeptSolver}
+use Rattle.record.specs.Solver.{loadedSolver, workOf}
 
 -- a load's refusal is of its arguments alone
 pub load-refusal-alone : (n m k : ℕ) (numbers : List ℤ) → refusalOf n m (load k numbers) ≡ refusalOf 0 0 (load k numbers)
@@ -50,8 +49,8 @@ at-flat n x b i j = at-square (keptEntry (flatOf (inUse n x))) i j ∙ by-use (u
     by-use (outside e) (inside h l) = stored (omega arith) (omega arith)
     by-use (outside e) (outside d) = inUse-outside 8 _ i j e ∙ sym (inUse-outside n x i j d)
 
--- the record after a load
-module _ (r : Record) (n : ℕ) (numbers : List ℤ) (l : Loads n numbers) where
+-- what a load leaves
+module _ (n : ℕ) (numbers : List ℤ) (l : Loads n numbers) where
   entries : Matrix
   entries i j = pos units *ℤ matrixOf n numbers i j
 
@@ -73,8 +72,8 @@ module _ (r : Record) (n : ℕ) (numbers : List ℤ) (l : Loads n numbers) where
       rw (sumℕ-cong n (λ i k. ap sq (axes i j ∙ inUse-outside n _ i j (rw (lt-ltb i n k, le-ltb j n (omega arith)))) ∙ sq-pos 0), sumℕ-const n 0)
       (omega arith)
 
-  pub loads-kept : (shift : ℕ) → Kept (loadedRecord r n numbers shift)
-  unfolding loadedRecord workOf entries
+  pub loads-kept : (shift : ℕ) → KeptSolver (loadedSolver n numbers shift)
+  unfolding loadedSolver workOf entries
   loads-kept shift =
       record {
         size = l .high;
@@ -93,5 +92,5 @@ module _ (r : Record) (n : ℕ) (numbers : List ℤ) (l : Loads n numbers) where
         axes-length = length-flat _;
       }
 
-pub load-kept : (r : Record) (n : ℕ) (numbers : List ℤ) → refusalOf (r .n) (r .m) (load n numbers) ≡ 0 → Kept (loadedRecord r n numbers 0)
-load-kept r n numbers e = loads-kept r n numbers (load-accepted (r .n) (r .m) n numbers e) 0
+pub load-kept : (n m k : ℕ) (numbers : List ℤ) → refusalOf n m (load k numbers) ≡ 0 → KeptSolver (loadedSolver k numbers 0)
+load-kept n m k numbers e = loads-kept k numbers (load-accepted n m k numbers e) 0

@@ -10,6 +10,7 @@ use lib.Dec.{ltb}
 use lib.IntN.{natAbs}
 use borrow.Author.Tests.{eq-eqb, ltb-true, ltb-false}
 use Rattle.integer.specs.Matrix.{Matrix}
+use Rattle.ledger.specs.Bench.{by}
 use Rattle.ledger.specs.Call.{loosePair}
 use Rattle.ledger.specs.laws.Cyclic.{cyclic-pairs}
 use Rattle.ledger.specs.Pairs.{Pair, cyclic, Ordered, Each}
@@ -21,7 +22,8 @@ use Rattle.record.specs.declared.query.Answer.the-variants.{Pair as Pair
 use Rattle.record.specs.Done.{Done, LooseDone}
 use Rattle.record.specs.Flat.{keptEntry}
 use Rattle.record.specs.Loose.{Before, FirstLoose, IsFirst, IsPair, PairOrNone, looseOf}
-use Rattle.record.specs.Record.{answerOf, valueOf}
+use Rattle.record.specs.Record.{answerTo}
+use Rattle.record.specs.Solver.{answerOf, valueOf}
 use Rattle.record.specs.declared.Record.{Record}
 
 -- every pair of a list is one of p < q < n
@@ -149,11 +151,13 @@ module _ (n : ℕ) (a : Matrix) (t : ℕ) where
           absurd (omega (arith, first .exceeds, f .none-only-if-none e p q (first .pair)))
       by (inr e) (inr e′) = e ∙ sym e′
 
--- so of the answer of a loose-pair call
-pub loose-done : {r : Record} {t : ℕ} {answer : Answer} {next : Record} → Done r (loosePair t) answer next → LooseDone r t answer next
-unfolding answerOf valueOf
-loose-done {r} {t} d =
+-- so of the answer of a loose-pair call, whichever bench it names
+pub loose-done : {r : Record} {bench t : ℕ} {answer : Answer} {next : Record} → Done r (by bench (loosePair t)) answer next →
+    LooseDone r bench t answer next
+unfolding answerTo answerOf valueOf
+loose-done {r} {bench} {t} d =
+    let s = r .solver in
     record {
       done = d;
-      holds = λ e. rw (d .answers, eq-eqb (refusalOf (r .n) (r .m) (loosePair t)) 0 e) (first-loose (r .n) (keptEntry (r .a)) t);
+      holds = λ b e. rw (d .answers, b, eq-eqb (refusalOf (s .n) (s .m) (loosePair t)) 0 e) (first-loose (s .n) (keptEntry (s .a)) t);
     }

@@ -1,29 +1,32 @@
 -- `record::Record::load` meets its contract.
-use mathlib.Core.Path.{refl, sym, _∙_}
+use mathlib.Core.Path.{sym, _∙_}
 use borrow.Author.Needs.{needs}
+use borrow.Author.Tests.{not-false, not-true}
 use Rattle.ledger.specs.Call.{load}
-use Rattle.record.specs.laws.Loading.{load-refusal-alone}
-use Rattle.record.specs.Record.{acceptedOfUnder, valueOf}
-use Rattle.record.proofs.Outcome.{accepted, refuses}
+use Rattle.record.proofs.Benches.{no-bench, of-bench}
 use Rattle.record.proofs.Record.load.Statement.{statement}
 use Rattle.record.proofs.Record.load.Tie as tie
 
 returns : tie.Need-returns
 returns c =
     let s = c .before .before .before in
-    refuses (s .args .self) (load (s .args .n) (s .args .numbers .now)) (s .pre) _
-    (c .before .before .load-refusal .ensures ∙ sym (load-refusal-alone _ _ _ _)) _ (c .before .if1 .taken) (c .refuse .ensures)
-
-load-table-requires : tie.Need-load-table-requires
-load-table-requires c κs = sym (c .before .load-refusal .ensures) ∙ c .if1 .left
+    let told = c .before .before .is-bench .ensures in
+    (no-bench (s .args .self) (s .args .bench) (load (s .args .n) (s .args .numbers .now)) (s .pre) (sym told ∙ not-true _ (c .before .if1 .taken)) _ _ (c .no-bench .ensures .0)
+    (c .no-bench .ensures .1))
 
 returns-2 : tie.Need-returns-2
-unfolding valueOf acceptedOfUnder
 returns-2 c =
-    let checked = c .before in
+    let called = c .before in
+    let checked = called .before .before in
     let s = checked .before .before in
-    accepted (s .args .self) (load (s .args .n) (s .args .numbers .now)) (s .pre) _
-    (checked .before .load-refusal .ensures ∙ sym (load-refusal-alone _ _ _ _)) _ _ (checked .if1 .left) refl (c .load-table .ensures .is)
+    let told = checked .before .is-bench .ensures in
+    (of-bench (s .args .self) (s .args .bench) (load (s .args .n) (s .args .numbers .now)) (s .pre) (sym told ∙ not-false _ (checked .if1 .left)) _ _ _ _
+    (called .load .ensures .answers) (called .load .ensures .leaves) (c .answered .ensures .0) (c .answered .ensures .1))
 
 pub load-spec : {M : Type 1} → statement M
-load-spec = tie.close (tie.spec (λ c κs. search needs) (λ c κs. search needs) returns load-table-requires returns-2)
+load-spec =
+    tie.close
+    (tie.spec (λ c κs. search needs) (λ c κs. search needs) returns (λ c κs. search needs)
+    (λ c κs. let checked = c .before .before in
+    (checked .before .before .pre, sym (checked .before .is-bench .ensures) ∙ not-false _ (checked .if1 .left)))
+    returns-2)

@@ -1,54 +1,18 @@
 -- `record::Record::load_table` meets its contract.
-use mathlib.Core.Path.{_≡_, refl, _∙_}
-use mathlib.Core.List.{List}
-use Prim.Native.Nat.{ℕ}
-use lib.IntN.{ℤ, pos, _*ℤ_}
+use mathlib.Core.Path.{ap}
 use borrow.Author.Needs.{needs}
-use Rattle.integer.specs.Matrix.{diagonal, matrixOf}
-use Rattle.ledger.specs.laws.Accepted.{load-accepted}
-use Rattle.limits.specs.Limits.{units, whole}
-use Rattle.turn.specs.InUse.{inUse}
-use Rattle.record.specs.Blank.{blank}
-use Rattle.record.specs.Flat.{flatOf}
-use Rattle.record.specs.laws.Loading.{loads-kept, loads-within}
-use Rattle.record.specs.Record.{loadedRecord}
 use Rattle.record.specs.declared.Record.{Record}
-use Rattle.record.proofs.FlatFilled.{flat-square}
+use Rattle.record.specs.declared.solver.Solver.{Solver}
 use Rattle.record.proofs.Record.load_table.Statement.{statement}
 use Rattle.record.proofs.Record.load_table.Tie as tie
 
-load-matrix-requires : tie.Need-load-matrix-requires
-unfolding blank
-load-matrix-requires c κs = let l = load-accepted 0 0 _ _ (c .before .pre) in (refl, l .high, l .count, loads-within l)
-
-load-axes-requires : tie.Need-load-axes-requires
-unfolding blank
-load-axes-requires c κs = (refl, load-accepted 0 0 _ _ (c .before .before .before .pre) .high)
-
--- the record with the packed rows
-loaded-is : (r : Record) (n : ℕ) (numbers : List ℤ) (e : ℕ) (a v : List ℤ) →
-    a ≡ flatOf (inUse n (λ i j. pos units *ℤ matrixOf n numbers i j)) → v ≡ flatOf (inUse n (diagonal (pos whole))) →
-    record { n = n; m = 0; e = e; refused = r .refused; a = a; v = v } ≡ loadedRecord r n numbers e
-unfolding loadedRecord
-loaded-is r n numbers e a v matrix axes i = record { n = n; m = 0; e = e; refused = r .refused; a = matrix i; v = axes i }
-
 returns : tie.Need-returns
 returns c =
-    let axes = c .before .before in
-    let matrix = axes .before .before in
-    let s = matrix .before .before in
-    let is =
-    loaded-is (s .args .self) (s .args .n) (s .args .numbers .now) (s .args .e) _ _
-    (c .before .packed .ensures ∙ flat-square _ _ (matrix .load-matrix .ensures))
-    (c .packed2 .ensures ∙ flat-square _ _ (axes .load-axes .ensures)) in
-    record { is = is; keeps = rw is (loads-kept _ _ _ (load-accepted 0 0 _ _ (s .pre)) _) }
+    let s = c .before .before in
+    record {
+      is = ap (λ (x : Solver). record { solver = x; refused = s .args .self .refused }) (c .of-table .ensures .is);
+      keeps = record { solver = c .of-table .ensures .keeps; counts = s .pre .0 .counts };
+    }
 
 pub load-table-spec : {M : Type 1} → statement M
-load-table-spec =
-    tie.close
-    (tie.spec
-    load-matrix-requires
-    load-axes-requires
-    (λ c κs. search needs)
-    (λ c κs. search needs)
-    returns)
+load-table-spec = tie.close (tie.spec (λ c κs. search needs) returns)

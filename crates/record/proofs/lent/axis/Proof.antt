@@ -14,6 +14,7 @@ use Rattle.record.proofs.lent.axis.Statement.{statement}
 pub axis-spec : {M : Type 1} → statement M
 unfolding code.routine
 axis-spec 𝓤 H 𝓜 𝓖 𝓡 =
-    lent-spec axis-step (word ∷ []) (λ κs a r answer next. AxisDone r (a .0) answer next)
+    lent-spec axis-step (word ∷ word ∷ [])
+    (λ κs a r answer next. AxisDone r (a .0) (a .1 .0) answer next)
     𝓤 H 𝓜 𝓖 𝓡 code.env name code.function by-value.name by-value.routine (code.unfolded 𝓤 H 𝓜 𝓡) code.calls-record·Record·axis (λ κs a are. refl)
     (met 𝓤 H 𝓜 𝓖 𝓡)

@@ -2,6 +2,7 @@
 use mathlib.Core.Path.{refl}
 use mathlib.Core.List.{[], _∷_}
 use denote.Ref.{now}
+use Rattle.ledger.specs.Bench.{by}
 use Rattle.ledger.specs.Call.{load}
 use Rattle.record.specs.Done.{Done}
 use Rattle.record.proofs.Handed.{numbers, word}
@@ -16,6 +17,7 @@ use Rattle.record.proofs.lent.load.Statement.{statement}
 pub load-spec : {M : Type 1} → statement M
 unfolding code.routine
 load-spec 𝓤 H 𝓜 𝓖 𝓡 =
-    lent-spec step (word ∷ numbers ∷ []) (λ κs a r answer next. Done r (load (a .0) (now (a .1 .0))) answer next)
+    lent-spec step (word ∷ word ∷ numbers ∷ [])
+    (λ κs a r answer next. Done r (by (a .0) (load (a .1 .0) (now (a .1 .1 .0)))) answer next)
     𝓤 H 𝓜 𝓖 𝓡 code.env name code.function by-value.name by-value.routine (code.unfolded 𝓤 H 𝓜 𝓡) code.calls-record·Record·load (λ κs a are. refl)
     (met 𝓤 H 𝓜 𝓖 𝓡)

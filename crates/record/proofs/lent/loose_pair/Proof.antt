@@ -14,6 +14,7 @@ use Rattle.record.proofs.lent.loose_pair.Statement.{statement}
 pub loose-pair-spec : {M : Type 1} → statement M
 unfolding code.routine
 loose-pair-spec 𝓤 H 𝓜 𝓖 𝓡 =
-    lent-spec step (word ∷ []) (λ κs a r answer next. LooseDone r (a .0) answer next)
+    lent-spec step (word ∷ word ∷ [])
+    (λ κs a r answer next. LooseDone r (a .0) (a .1 .0) answer next)
     𝓤 H 𝓜 𝓖 𝓡 code.env name code.function by-value.name by-value.routine (code.unfolded 𝓤 H 𝓜 𝓡) code.calls-record·Record·loose-pair
     (λ κs a are. refl) (met 𝓤 H 𝓜 𝓖 𝓡)

@@ -1,8 +1,8 @@
--- `record::Record::with_rows` meets its contract.
+-- `record::solver::Solver::with_rows` meets its contract.
 use borrow.Author.Needs.{needs}
-use Rattle.record.specs.Record.{workedOf}
-use Rattle.record.proofs.Record.with_rows.Statement.{statement}
-use Rattle.record.proofs.Record.with_rows.Tie as tie
+use Rattle.record.specs.Solver.{workedOf}
+use Rattle.record.proofs.solver.Solver.with_rows.Statement.{statement}
+use Rattle.record.proofs.solver.Solver.with_rows.Tie as tie
 
 returns : tie.Need-returns
 unfolding workedOf
