@@ -28,7 +28,7 @@ module _ (j : Job) (p : Proper j) where
       run-calls (loadFor j) (j .n) (j .limit) (j .tolerance)
       (samples-begin (j .n) (j .dilutions) (j .counts) (j .limit) (j .tolerance) (samples-taken j p) (limit-most j p) (tolerance-most j p))
 
-  pub run-channels : runFor j .last .n ≡ j .n
+  pub run-channels : runFor j .last .solver .n ≡ j .n
   run-channels = as-calls .channels
 
   -- the job's table: a run may load it, and its run is the job's

@@ -11,6 +11,7 @@ use lib.ListN.{length, take}
 use borrow.Author.Tests.{eq-eqb}
 use Rattle.integer.specs.Matrix.{Same}
 use Rattle.integer.specs.Tabulate.{tabulate}
+use Rattle.integer.specs.Within as range
 use Rattle.integer.specs.laws.Matrix.{row-≤-squares}
 use Rattle.integer.specs.laws.Tabulate.{take-tabulate}
 use Rattle.job.proofs.Accepted.{accepted-proper}
@@ -20,22 +21,26 @@ use Rattle.job.specs.Values.{Proper}
 use Rattle.job_table.specs.Held.{samplesOf}
 use Rattle.job.specs.laws.Proper.{channels, samples-taken}
 use Rattle.ledger.specs.Axis.{errorOf}
-use Rattle.ledger.specs.Call.{Call, axis, loadSamples, loosePair, sweep}
+use Rattle.ledger.specs.Bench.{NamedCall, isBench}
+use Rattle.ledger.specs.Call.{axis, loadSamples, loosePair, sweep}
 use Rattle.ledger.specs.laws.Accepted.{axis-taken, samples-alone}
 use Rattle.ledger.specs.laws.Invariant.{SoundLedger, sound, turnPairs-continues}
 use Rattle.ledger.specs.laws.Sound.{Sound}
 use Rattle.ledger.specs.Ledger as book
 use Rattle.ledger.specs.Ledger.{Ledger, State, empty, loaded, ledger, ledgerFrom, ledgerFromUnder, ledgerStep, ledgerStepUnder, loadedState}
-use Rattle.ledger.specs.Ledger.{samplesState, sizeOf, turnsOf}
+use Rattle.ledger.specs.Ledger.{namedStepUnder, samplesState, sizeOf, turnsOf}
 use Rattle.ledger.specs.Near.{DirectionNear, RowNear, axesDifference}
 use Rattle.ledger.specs.Pairs.{cyclic}
 use Rattle.ledger.specs.Refusal.{refusalOf}
 use Rattle.record.specs.Demand3 as three
 use Rattle.record.specs.Demand3.{Certifies}
 use Rattle.record.specs.Flat.{entriesOf, keptEntry}
-use Rattle.record.specs.Record.{answerOf, axisOf}
+use Rattle.record.specs.Record.{answerTo, rowTo}
+use Rattle.record.specs.Run.{own}
 use Rattle.record.specs.declared.Record.{Record}
+use Rattle.record.specs.Solver.{axisOf}
 use Rattle.record.specs.laws.Demand3proof.{demand-3}
+use Rattle.record.specs.laws.Named.{own-row}
 use Rattle.rounding.specs.Rounding.{rnd}
 use Rattle.run.specs.Calls.{callsOf, rounds}
 use Rattle.readings.specs.Refusal.{samplesRefusal}
@@ -92,13 +97,13 @@ module _ (first : State) where
       by-refusal false = h
 
   rounds-have : (t sweeps : ℕ) (g : Ledger) → Has first g → Has first (ledgerFrom g (rounds t sweeps))
-  unfolding rounds ledgerFromUnder
+  unfolding rounds ledgerFromUnder namedStepUnder isBench range.within
   rounds-have t zero g h = asked-has t g h
   rounds-have t (suc sweeps) g h = rounds-have t sweeps _ (swept-has _ (asked-has t g h))
 
 run-has : (n : ℕ) (dilutions counts : List ℕ) (t sweeps : ℕ) → samplesRefusal n dilutions counts ≡ 0 →
     Has (samplesState entryLimit n dilutions counts) (ledger (callsOf (loadSamples n dilutions counts) t sweeps))
-unfolding ledger callsOf ledgerFromUnder ledgerStepUnder sizeOf turnsOf book.acceptedUnder
+unfolding ledger callsOf ledgerFromUnder namedStepUnder isBench range.within ledgerStepUnder sizeOf turnsOf book.acceptedUnder
 run-has n dilutions counts t sweeps e =
     rounds-have (samplesState entryLimit n dilutions counts) t sweeps (ledgerStep empty (loadSamples n dilutions counts)) begins
   where
@@ -109,29 +114,31 @@ run-has n dilutions counts t sweeps e =
 
 -- r_i of a record, counted from 0
 abbrev errorAt : Record → ℕ → ℕ
-errorAt r = errorOf (r .n) (r .e) (keptEntry (r .a)) (r .m)
+errorAt r = errorOf (r .solver .n) (r .solver .e) (keptEntry (r .solver .a)) (r .solver .m)
 
 -- line `A` i + 1, of n channels: what the axis call answers, and the row beside it
-module _ (n : ℕ) (r : Record) (i : ℕ) (c : r .n ≡ n) (h : n ≤ 8) (l : i < r .n) where
+module _ (n : ℕ) (r : Record) (i : ℕ) (c : r .solver .n ≡ n) (h : n ≤ 8) (l : i < r .solver .n) where
   place : suc i - 1 ≡ i
   place = omega arith
 
-  values-are : axisValues (answerOf r (axis (suc i))) ≡ keptEntry (r .a) i i ∷ pos (errorAt r i) ∷ []
+  values-are : axisValues (answerTo r (own (axis (suc i)))) ≡ keptEntry (r .solver .a) i i ∷ pos (errorAt r i) ∷ []
   unfolding axisValues
   values-are = rw (axis-answer r (suc i) (omega arith) (omega arith), place)
 
-  row-is : take n (axisOf r (suc i)) ≡ tabulate n (keptEntry (r .v) i)
+  row-is : take n (rowTo r 1 (suc i)) ≡ tabulate n (keptEntry (r .solver .v) i)
   unfolding axisOf entriesOf eight tabulate
-  row-is = rw (eq-eqb _ 0 (axis-taken (r .n) (r .m) (suc i) (omega arith) (omega arith)), place) (take-tabulate n 8 (keptEntry (r .v) i) [] h)
+  row-is =
+      rw (own-row r (suc i), eq-eqb _ 0 (axis-taken (r .solver .n) (r .solver .m) (suc i) (omega arith) (omega arith)), place)
+      (take-tabulate n 8 (keptEntry (r .solver .v) i) [] h)
 
-  line-is : lineA r (suc i) ≡ numberLine 65 (pos (suc i) ∷ keptEntry (r .a) i i ∷ pos (errorAt r i) ∷ tabulate n (keptEntry (r .v) i))
+  line-is : lineA r (suc i) ≡ numberLine 65 (pos (suc i) ∷ keptEntry (r .solver .a) i i ∷ pos (errorAt r i) ∷ tabulate n (keptEntry (r .solver .v) i))
   unfolding lineA
   line-is =
-      ap (λ k. numberLine 65 (pos (suc i) ∷ (axisValues (answerOf r (axis (suc i))) ++ take k (axisOf r (suc i))))) c
+      ap (λ k. numberLine 65 (pos (suc i) ∷ (axisValues (answerTo r (own (axis (suc i)))) ++ take k (rowTo r 1 (suc i))))) c
       ∙ ap₂ (λ (values row : List ℤ). numberLine 65 (pos (suc i) ∷ (values ++ row))) values-are row-is
 
 module _ (j : Job) (p : Proper j) where
-  abbrev calls : List Call
+  abbrev calls : List NamedCall
   calls = callsOf (loadFor j) (j .tolerance) (runFor j .sweeps)
 
   abbrev last : Record
@@ -167,7 +174,7 @@ module _ (j : Job) (p : Proper j) where
   unfolding samplesState loadedState samplesOf
   table-is i k h g = rw (has .given, shift-is) (entries-at (j .n) (samplesOf j) entryLimit i k h g)
 
-  within : (i : ℕ) → i < j .n → i < last .n
+  within : (i : ℕ) → i < j .n → i < last .solver .n
   within i l = rw (run-channels j p) l
 
   head-is : lineR (length (j .dilutions)) (runFor j) ≡
@@ -176,18 +183,20 @@ module _ (j : Job) (p : Proper j) where
   head-is = rw (three-holds .turns, three-holds .shift, run-channels j p)
 
   -- demand 3's row bound, with the error that the line prints
-  row-near : (i : ℕ) → i < j .n → RowNear (j .n) (state .D) (state .P) (S (samplesOf j)) (state .e) i (keptEntry (last .a) i i) (errorAt last i)
+  row-near : (i : ℕ) → i < j .n → RowNear (j .n) (state .D) (state .P) (S (samplesOf j)) (state .e) i (keptEntry (last .solver .a) i i) (errorAt last i)
+  unfolding isBench range.within
   row-near i l =
       let near = three-holds .rows-near (suc i) (omega arith) (rw size-is (omega arith)) in
       let answered = axis-answer last (suc i) (omega arith) (within i l) in
+      let asked = near .answers 1 refl in
       let same : near .error ≡ errorAt last (suc i - 1) = cc in
       let place : suc i - 1 ≡ i = omega arith in
       rw (same, place, size-is, scatter-is) at (near .near)
 
   -- one row of demand 3's bound of all axes
-  direction-near : (i : ℕ) → i < j .n → DirectionNear (j .n) (state .m) (state .D) (state .P) (keptEntry (last .v)) i
+  direction-near : (i : ℕ) → i < j .n → DirectionNear (j .n) (state .m) (state .D) (state .P) (keptEntry (last .solver .v)) i
   direction-near i l =
-      let row = row-≤-squares (state .n) (axesDifference (state .D) (state .P) (keptEntry (last .v))) i (rw size-is l) in
+      let row = row-≤-squares (state .n) (axesDifference (state .D) (state .P) (keptEntry (last .solver .v))) i (rw size-is l) in
       rw size-is at (le-trans row (three-holds .axes-near))
 
   job-certificate : (text : List ℕ) → jobOf text ≡ accepted j → JobCertificate text j
@@ -197,9 +206,9 @@ module _ (j : Job) (p : Proper j) where
         e = state .e;
         sweeps = runFor j .sweeps;
         outcome = runFor j .outcome;
-        entry = λ i. keptEntry (last .a) i i;
+        entry = λ i. keptEntry (last .solver .a) i i;
         error = errorAt last;
-        direction = keptEntry (last .v);
+        direction = keptEntry (last .solver .v);
         state = state;
         printed =
             ap (printedBy reportOf) e

@@ -7,7 +7,8 @@ use lib.IntN.{ℤ, pos}
 use Rattle.ledger.specs.Call.{axis}
 use Rattle.report.specs.inner.AxisNumbers.{axesNumbers, axisNumbers}
 use Rattle.report.specs.laws.AxisNumbers.{axes-row, length-axes-row, two-before}
-use Rattle.record.specs.Record.{answerOf, axisOf}
+use Rattle.record.specs.Record.{answerTo, rowTo}
+use Rattle.record.specs.Run.{own}
 use Rattle.record.specs.declared.Record.{Record}
 use Rattle.record.specs.declared.run.Run.{Run}
 use Rattle.text.specs.Line.{numberLine}
@@ -20,13 +21,13 @@ module _ (r : Record) where
   pub axes-wide : Wide (axesNumbers r)
   axes-wide = record { wide = length-axes-row r }
 
-  line-same : (i : ℕ) → i < r .n → r .n ≤ 8 → rowLine 65 (r .n + 3) (axesNumbers r) i ≡ lineA r (suc i)
+  line-same : (i : ℕ) → i < r .solver .n → r .solver .n ≤ 8 → rowLine 65 (r .solver .n + 3) (axesNumbers r) i ≡ lineA r (suc i)
   unfolding axisNumbers lineA
   line-same i l h =
-      let e : r .n + 3 ≡ suc (suc (suc (r .n))) = omega arith in
+      let e : r .solver .n + 3 ≡ suc (suc (suc (r .solver .n))) = omega arith in
       rw (axes-row r i (omega arith) (omega arith), e)
-      (ap (λ (l : List ℤ). numberLine 65 (pos (suc i) ∷ l)) (two-before (answerOf r (axis (suc i))) (r .n) (axisOf r (suc i))))
+      (ap (λ (l : List ℤ). numberLine 65 (pos (suc i) ∷ l)) (two-before (answerTo r (own (axis (suc i)))) (r .solver .n) (rowTo r 1 (suc i))))
 
-pub text-same : (k : ℕ) (z : Run) → z .last .n ≤ 8 → textOf (headOf k z) (z .outcome) (axesNumbers (z .last)) (z .last .n) ≡ runReport k z
+pub text-same : (k : ℕ) (z : Run) → z .last .solver .n ≤ 8 → textOf (headOf k z) (z .outcome) (axesNumbers (z .last)) (z .last .solver .n) ≡ runReport k z
 unfolding textOf runReport lineR
-text-same k z h = ap (λ l. lineR k z ++ l) (lines-same (z .last .n) _ _ (λ i l. line-same (z .last) i l h))
+text-same k z h = ap (λ l. lineR k z ++ l) (lines-same (z .last .solver .n) _ _ (λ i l. line-same (z .last) i l h))

@@ -7,7 +7,8 @@ use lib.ListN.{length, take}
 use Rattle.job.specs.Job.{Job}
 use Rattle.ledger.specs.Call.{Call, axis, loadSamples}
 use Rattle.report.specs.AxisNumbers.{axisValues}
-use Rattle.record.specs.Record.{answerOf, axisOf}
+use Rattle.record.specs.Record.{answerTo, rowTo}
+use Rattle.record.specs.Run.{own}
 use Rattle.record.specs.declared.Record.{Record}
 use Rattle.run.specs.Word.{outcomeWord}
 use Rattle.record.specs.declared.run.Run.{Run}
@@ -17,18 +18,18 @@ use Rattle.text.specs.Lines.{lines}
 
 -- '`R` n k e sweeps-run m outcome', of a run on the table of k samples: n, e and m are those of the record that it leaves; 82 is `R`
 unfoldable pub headOf : ℕ → Run → List ℤ
-headOf k z = map pos (z .last .n ∷ k ∷ z .last .e ∷ z .sweeps ∷ z .last .m ∷ [])
+headOf k z = map pos (z .last .solver .n ∷ k ∷ z .last .solver .e ∷ z .sweeps ∷ z .last .solver .m ∷ [])
 
 unfoldable pub lineR : ℕ → Run → List ℕ
 lineR k z = wordLine 82 (headOf k z) (outcomeWord (z .outcome))
 
 -- '`A` i a_ii r_i and row i of v'; 65 is `A`
 unfoldable pub lineA : Record → ℕ → List ℕ
-lineA r i = numberLine 65 (pos i ∷ (axisValues (answerOf r (axis i)) ++ take (r .n) (axisOf r i)))
+lineA r i = numberLine 65 (pos i ∷ (axisValues (answerTo r (own (axis i))) ++ take (r .solver .n) (rowTo r 1 i)))
 
 -- 'then for i = 1 to n'
 unfoldable pub runReport : ℕ → Run → List ℕ
-runReport k z = lineR k z ++ lines (λ i. lineA (z .last) (suc i)) (z .last .n)
+runReport k z = lineR k z ++ lines (λ i. lineA (z .last) (suc i)) (z .last .solver .n)
 
 -- A job's run starts from the record that the load of its samples leaves (document 02, W5)
 abbrev pub loadFor : Job → Call

@@ -28,10 +28,10 @@ fn numbers_of(number: i64, entry: i64, error: i64, row: [i64; 8]) -> [i64; 11]
 
 // i, a_ii, r_i and row i of v.
 fn axis_numbers(r: Record, i: usize) -> [i64; 11]
-    requires { ⌜ Kept r × (1 ≤ i) × (i ≤ r .n) ⌝ }
+    requires { ⌜ Kept r × (1 ≤ i) × (i ≤ r .solver .n) ⌝ }
     ensures { λ z. ⌜ z ≡ axisNumbers r i ⌝ }
 {
-    let step = r.axis(i);
+    let step = r.axis(1, i);
     let answered = step.answer;
     let value = answered.value;
     let row = answered.row;

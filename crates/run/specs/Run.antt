@@ -8,13 +8,14 @@ use Rattle.ledger.specs.Call.{Call, load}
 use Rattle.ledger.specs.Refusal.{refusalOf}
 use Rattle.limits.specs.Limits.{mostSweeps, toleranceLimit}
 use Rattle.record.specs.Kept.{Kept}
-use Rattle.record.specs.Record.{afterOf, fresh, loadedRecord}
-use Rattle.record.specs.Run.{runFrom}
+use Rattle.record.specs.Done.{loadedRecord}
+use Rattle.record.specs.Record.{fresh, recordAfter}
+use Rattle.record.specs.Run.{own, runFrom}
 use Rattle.record.specs.declared.run.Run.{Run}
 
 -- from the record that a load leaves; before the first sweep there is no last sweep that made no turn
 unfoldable pub runAfter : Call → ℕ → ℕ → Run
-runAfter first limit t = runFrom limit 0 false t (afterOf fresh first)
+runAfter first limit t = runFrom limit 0 false t (recordAfter fresh (own first))
 
 -- of a matrix
 abbrev pub runOf : ℕ → List ℤ → ℕ → ℕ → Run

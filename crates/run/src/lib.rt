@@ -1,4 +1,4 @@
-// A run of document 01: a fresh record of its own, a load, and the sweeps; of a matrix, or of a table made from readings.
+// A run of document 01: a fresh record of its own, a load, and the sweeps; of a matrix, or of a table made from readings. Its bench is 1.
 pub mod word;
 
 use record::Record;
@@ -10,7 +10,7 @@ pub fn run(n: usize, numbers: &[i64], limit: u64, tolerance: u64) -> Run
     ensures { λ z. ⌜ Runs n (now (numbers .entry)) limit tolerance z ⌝ }
 {
     let fresh = Record::new();
-    let loaded = fresh.load(n, numbers);
+    let loaded = fresh.load(1, n, numbers);
     let r = loaded.next;
     r.run(limit, tolerance)
 }

@@ -27,9 +27,9 @@ use Rattle.record.specs.Flat.{keptEntry}
 use Rattle.record.specs.Kept.{Kept}
 use Rattle.record.specs.Loose.{looseOf}
 use Rattle.record.specs.Record.{after, afterFrom, afterFromUnder, answerTo, calledUnder, countOf, counted, fresh, isRefused, raised, recordAfter}
-use Rattle.record.specs.Record.{recordAfterUnder}
+use Rattle.record.specs.Record.{recordAfterUnder, rowTo}
 use Rattle.record.specs.Run.{own}
-use Rattle.record.specs.Solver.{afterOf, afterOfUnder, answerOf, valueOf}
+use Rattle.record.specs.Solver.{afterOf, afterOfUnder, answerOf, axisOf, valueOf}
 use Rattle.record.specs.declared.Record.{Record}
 use Rattle.record.specs.declared.query.Answer.the-variants.{Pair as PairIs, Refused}
 use Rattle.record.specs.declared.solver.Solver.{Solver}
@@ -82,6 +82,10 @@ module _ (r : Record) (c : NamedCall) where
 pub own-answers : (r : Record) (call : Call) → answerTo r (own call) ≡ answerOf (r .solver) call
 unfolding isBench within
 own-answers r call = bench-answers r (own call) refl
+
+pub own-row : (r : Record) (i : ℕ) → rowTo r 1 i ≡ axisOf (r .solver) i
+unfolding rowTo isBench within
+own-row r i = refl
 
 pub own-leaves : (r : Record) (call : Call) → refusalOf (r .solver .n) (r .solver .m) call ≡ 0 →
     recordAfter r (own call) ≡ record { solver = afterOf (r .solver) call; refused = r .refused }

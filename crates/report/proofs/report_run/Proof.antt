@@ -26,7 +26,7 @@ module _ (c : tie.After-channels) where
   start = c .before .before .before
 
   high : c .channels .result ≤ 8
-  high = rw (c .channels .ensures) (start .pre .keeps .size)
+  high = rw (c .channels .ensures) (start .pre .keeps .solver .size)
 
   n-fits : SFits w64 (pos (c .channels .result))
   n-fits = record { sfits = omega (arith, high) }
@@ -52,7 +52,7 @@ module _ (c : tie.After-turns) where
   z = start begun .args .run
 
   turns-fit : SFits w64 (pos (c .turns .result))
-  turns-fit = record { sfits = rw (c .turns .ensures) (omega (arith, start begun .pre .keeps .turns)) }
+  turns-fit = record { sfits = rw (c .turns .ensures) (omega (arith, start begun .pre .keeps .solver .turns)) }
 
   abbrev head : List ℤ
   head =
@@ -78,7 +78,7 @@ module _ (c : tie.After-turns) where
   report-text : textOf head (z .outcome) (listed .axes-numbers .result) (begun .channels .result) ≡ runReport (start begun .args .k) z
   report-text =
       (λ i. textOf (head-same i) (z .outcome) (listed .axes-numbers .ensures i) (begun .channels .ensures i))
-      ∙ text-same (start begun .args .k) z (start begun .pre .keeps .size)
+      ∙ text-same (start begun .args .k) z (start begun .pre .keeps .solver .size)
 
   wide : Wide (listed .axes-numbers .result)
   wide = rw (listed .axes-numbers .ensures) (axes-wide (z .last))

@@ -1,7 +1,7 @@
 -- Laws of this subject: The numbers of an axis: a_ii and r_i, which an axis call answers, and the row beside them. How many they are, and that
 -- r_i is below 2^63.
 use Prim.Native.Nat.{ℕ, suc, _+_, _-_, _*_, _^_, _<_, _≤_}
-use mathlib.Core.Path.{_≡_, refl}
+use mathlib.Core.Path.{_≡_, refl, _∙_}
 use mathlib.Core.Bool.{Bool, true, false, cond}
 use mathlib.Core.List.{List, [], _∷_, _++_}
 use native.Mathlib.Nat.{le-trans}
@@ -27,7 +27,10 @@ use Rattle.choice.specs.Widest.{widest}
 use Rattle.record.specs.laws.Fill.{at-rowsOf}
 use Rattle.record.specs.Flat.{entriesOf, keptEntry}
 use Rattle.record.specs.Kept.{Kept}
-use Rattle.record.specs.Record.{answerOf, axisOf, valueOf, workOf}
+use Rattle.record.specs.Record.{answerTo, rowTo}
+use Rattle.record.specs.Run.{own}
+use Rattle.record.specs.Solver.{answerOf, axisOf, valueOf, workOf}
+use Rattle.record.specs.laws.Named.{own-answers, own-row}
 use Rattle.record.specs.declared.Record.{Record}
 use Rattle.report.specs.AxisNumbers.{axisValues}
 use Rattle.report.specs.inner.AxisNumbers.{axisNumbers, axesNumbers}
@@ -50,65 +53,68 @@ two-before a n row =
     let e : suc (suc n) ≡ length (axisValues a) + n = omega (arith, length-values a) in
     rw e (take-append-add (axisValues a) row n)
 
-pub length-row : (r : Record) (i : ℕ) → length (axisOf r i) ≡ 8
+pub length-row : (r : Record) (i : ℕ) → length (rowTo r 1 i) ≡ 8
 unfolding axisOf entriesOf
-length-row r i = by-test (eqb (refusalOf (r .n) (r .m) (axis i)) 0)
+length-row r i = rw (own-row r i) (by-test (eqb (refusalOf (r .solver .n) (r .solver .m) (axis i)) 0))
   where
-    by-test : (test : Bool) → length (cond test (entriesOf (r .v) (i - 1)) (replicate 8 (pos 0))) ≡ 8
+    by-test : (test : Bool) → length (cond test (entriesOf (r .solver .v) (i - 1)) (replicate 8 (pos 0))) ≡ 8
     by-test true = length-eight _
     by-test false = refl
 
 pub length-numbers : (r : Record) (i : ℕ) → length (axisNumbers r i) ≡ 11
 unfolding axisNumbers
 length-numbers r i =
-    omega (arith, length-append (axisValues (answerOf r (axis i))) (axisOf r i), length-values (answerOf r (axis i)), length-row r i)
+    omega (arith, length-append (axisValues (answerTo r (own (axis i)))) (rowTo r 1 i), length-values (answerTo r (own (axis i))), length-row r i)
 
 pub length-axes-row : (r : Record) (i : ℕ) → i < 8 → length (getD (axesNumbers r) i []) ≡ 11
 unfolding axesNumbers
-length-axes-row r i h = rw (getD-eight (λ k. cond (ltb k (r .n)) (axisNumbers r (suc k)) (replicate 11 (pos 0))) i [] h) (by-test (ltb i (r .n)))
+length-axes-row r i h =
+    rw (getD-eight (λ k. cond (ltb k (r .solver .n)) (axisNumbers r (suc k)) (replicate 11 (pos 0))) i [] h) (by-test (ltb i (r .solver .n)))
   where
     by-test : (test : Bool) → length (cond test (axisNumbers r (suc i)) (replicate 11 (pos 0))) ≡ 11
     by-test true = length-numbers r (suc i)
     by-test false = refl
 
 -- the row of axis i + 1
-pub axes-row : (r : Record) (i : ℕ) → i < r .n → i < 8 → getD (axesNumbers r) i [] ≡ axisNumbers r (suc i)
+pub axes-row : (r : Record) (i : ℕ) → i < r .solver .n → i < 8 → getD (axesNumbers r) i [] ≡ axisNumbers r (suc i)
 unfolding axesNumbers
-axes-row r i l h = rw (getD-eight (λ k. cond (ltb k (r .n)) (axisNumbers r (suc k)) (replicate 11 (pos 0))) i [] h, lt-ltb i (r .n) l)
+axes-row r i l h = rw (getD-eight (λ k. cond (ltb k (r .solver .n)) (axisNumbers r (suc k)) (replicate 11 (pos 0))) i [] h, lt-ltb i (r .solver .n) l)
 
 -- an axis call that names an axis is not refused
-pub axis-answer : (r : Record) (i : ℕ) → 1 ≤ i → i ≤ r .n →
-    answerOf r (axis i) ≡ Axis (keptEntry (r .a) (i - 1) (i - 1)) (errorOf (r .n) (r .e) (keptEntry (r .a)) (r .m) (i - 1))
+pub axis-answer : (r : Record) (i : ℕ) → 1 ≤ i → i ≤ r .solver .n →
+    answerTo r (own (axis i)) ≡
+    Axis (keptEntry (r .solver .a) (i - 1) (i - 1)) (errorOf (r .solver .n) (r .solver .e) (keptEntry (r .solver .a)) (r .solver .m) (i - 1))
 unfolding answerOf valueOf
-axis-answer r i h k = rw (eq-eqb (refusalOf (r .n) (r .m) (axis i)) 0 (axis-taken (r .n) (r .m) i h k))
+axis-answer r i h k =
+    own-answers r (axis i) ∙ rw (eq-eqb (refusalOf (r .solver .n) (r .solver .m) (axis i)) 0 (axis-taken (r .solver .n) (r .solver .m) i h k))
 
 -- the numbers of an axis, from what the call answers
 pub numbers-by : (r : Record) (i : ℕ) (value : Answer) (row : List ℤ) (entry : ℤ) (error : ℕ) →
-    value ≡ answerOf r (axis i) → row ≡ axisOf r i → value ≡ Axis entry error → pos i ∷ entry ∷ pos error ∷ row ≡ axisNumbers r i
+    value ≡ answerTo r (own (axis i)) → row ≡ rowTo r 1 i → value ≡ Axis entry error → pos i ∷ entry ∷ pos error ∷ row ≡ axisNumbers r i
 unfolding axisNumbers axisValues
 numbers-by r i value row entry error a b e = rw (← a, e, b)
 
 -- the numbers of axis i + 1, and that its error fits
-module _ (r : Record) (i : ℕ) (h : i < r .n) where
-  taken : eqb (refusalOf (r .n) (r .m) (axis (suc i))) 0 ≡ true
-  taken = eq-eqb _ 0 (axis-taken (r .n) (r .m) (suc i) (omega arith) (omega arith))
+module _ (r : Record) (i : ℕ) (h : i < r .solver .n) where
+  taken : eqb (refusalOf (r .solver .n) (r .solver .m) (axis (suc i))) 0 ≡ true
+  taken = eq-eqb _ 0 (axis-taken (r .solver .n) (r .solver .m) (suc i) (omega arith) (omega arith))
 
   place : suc i - 1 ≡ i
   place = omega arith
 
-  pub error-small : Kept r → errorOf (r .n) (r .e) (keptEntry (r .a)) (r .m) i < 2 ^ 63
+  pub error-small : Kept r → errorOf (r .solver .n) (r .solver .e) (keptEntry (r .solver .a)) (r .solver .m) i < 2 ^ 63
   unfolding errorOf roundedUp tableError workOf
   error-small k =
       omega (
         arith,
-        sumℕ-≤ (r .n) {g = λ j. widest} (λ j l. cond-≤ (eqb j i) {x = 0} (omega arith) (small j l)),
-        sumℕ-const (r .n) widest,
-        cond-≤ (ltb 0 (r .e)) {x = halfEntry * r .n} {y = 0} {n = halfEntry * 8} (omega (arith, k .size)) (omega arith),
-        k .size,
-        k .turns,
+        sumℕ-≤ (r .solver .n) {g = λ j. widest} (λ j l. cond-≤ (eqb j i) {x = 0} (omega arith) (small j l)),
+        sumℕ-const (r .solver .n) widest,
+        cond-≤ (ltb 0 (r .solver .e)) {x = halfEntry * r .solver .n} {y = 0} {n = halfEntry * 8} (omega (arith, k .solver .size)) (omega arith),
+        k .solver .size,
+        k .solver .turns,
       )
     where
-      small : (j : ℕ) → j < r .n → natAbs (keptEntry (r .a) i j) ≤ widest
+      small : (j : ℕ) → j < r .solver .n → natAbs (keptEntry (r .solver .a) i j) ≤ widest
       small j l =
-          rw (← at-rowsOf (r .a) i j (omega (arith, h, k .size)) (omega (arith, l, k .size)))
-          (matrix-small (r .n) (workOf r) (k .work) (le-trans (k .turns) (lit≤ tt)) .small i j)
+          rw (← at-rowsOf (r .solver .a) i j (omega (arith, h, k .solver .size)) (omega (arith, l, k .solver .size)))
+          (matrix-small (r .solver .n) (workOf (r .solver)) (k .solver .work) (le-trans (k .solver .turns) (lit≤ tt)) .small i j)

@@ -1,16 +1,17 @@
 -- `run::run` meets its contract.
-use mathlib.Core.Path.{_≡_, refl, sym, ap, _∙_}
+use mathlib.Core.Path.{_≡_, ap, _∙_}
 use mathlib.Core.Bool.{false}
 use native.Mathlib.Omega.{arith}
 use borrow.Author.Needs.{needs}
-use borrow.Author.Tests.{eq-eqb}
 use Rattle.ledger.specs.Call.{load}
-use Rattle.ledger.specs.Refusal.{refusalOf}
 use Rattle.ledger.specs.laws.Accepted.{Loads, load-accepted}
-use Rattle.record.specs.Record.{acceptedOfUnder, afterOf, afterOfUnder, fresh, loadedRecord}
+use Rattle.record.specs.Record.{fresh, recordAfter}
+use Rattle.record.specs.Solver.{acceptedOfUnder, loadedSolver}
+use Rattle.record.specs.laws.Loading.{load-refusal-alone}
 use Rattle.record.specs.RunDone.{Runnable}
-use Rattle.record.specs.Run.{runFrom}
+use Rattle.record.specs.Run.{own, runFrom}
 use Rattle.run.specs.Run.{runAfter}
+use Rattle.run.specs.laws.Calls.{own-after}
 use Rattle.run.proofs.run.Statement.{statement}
 use Rattle.run.proofs.run.Tie as tie
 
@@ -22,17 +23,23 @@ module _ (c : tie.After-load) where
   loads : Loads (start .args .n) (start .args .numbers .now)
   loads = load-accepted 0 0 _ _ (start .pre .matrix)
 
-  is-loaded : c .load .result .next ≡ afterOf fresh (load (start .args .n) (start .args .numbers .now))
-  is-loaded = c .load .ensures .leaves ∙ ap (λ r. afterOf r (load (start .args .n) (start .args .numbers .now))) (c .before .new .ensures .is)
+  is-loaded : c .load .result .next ≡ recordAfter fresh (own (load (start .args .n) (start .args .numbers .now)))
+  is-loaded =
+      c .load .ensures .leaves ∙ ap (λ r. recordAfter r (own (load (start .args .n) (start .args .numbers .now)))) (c .before .new .ensures .is)
+
+  taken : c .load .result .next ≡ record { solver = loadedSolver (start .args .n) (start .args .numbers .now) 0; refused = fresh .refused }
+  unfolding acceptedOfUnder
+  taken =
+      let e = load-refusal-alone (fresh .solver .n) (fresh .solver .m) (start .args .n) (start .args .numbers .now) ∙ start .pre .matrix in
+      is-loaded ∙ own-after fresh (load (start .args .n) (start .args .numbers .now)) e
 
   runnable : Runnable (c .load .result .next) (start .args .limit) (start .args .tolerance)
-  unfolding afterOfUnder acceptedOfUnder loadedRecord fresh
+  unfolding loadedSolver
   runnable =
-      let taken = eq-eqb (refusalOf 0 0 (load (start .args .n) (start .args .numbers .now))) 0 (start .pre .matrix) in
       record {
         keeps = c .load .ensures .keeps;
-        loaded = rw (is-loaded, taken) (omega (arith, loads .low));
-        unturned = rw (is-loaded, taken);
+        loaded = rw taken (omega (arith, loads .low));
+        unturned = rw taken;
         sweeps = start .pre .sweeps;
         tolerated = start .pre .tolerance;
       }

@@ -4,7 +4,9 @@ use mathlib.Core.Bool.{false}
 use native.Mathlib.Omega.{arith}
 use borrow.Author.Needs.{needs}
 use Rattle.ledger.specs.laws.Accepted.{load-accepted}
-use Rattle.record.specs.Record.{fresh, loadedRecord}
+use Rattle.record.specs.Done.{loadedRecord}
+use Rattle.record.specs.Record.{fresh}
+use Rattle.record.specs.Solver.{loadedSolver}
 use Rattle.record.specs.RunDone.{Runnable}
 use Rattle.record.specs.Run.{runFrom}
 use Rattle.run.specs.Run.{tableRun}
@@ -22,7 +24,7 @@ module _ (c : tie.After-load-table) where
       ∙ ap (λ r. loadedRecord r (start .args .n) (start .args .numbers .now) (start .args .e)) (c .before .new .ensures .is)
 
   runnable : Runnable (c .load-table .result) (start .args .limit) (start .args .tolerance)
-  unfolding loadedRecord
+  unfolding loadedSolver
   runnable =
       record {
         keeps = c .load-table .ensures .keeps;
@@ -43,4 +45,4 @@ returns c =
 
 pub run-table-spec : {M : Type 1} → statement M
 run-table-spec =
-    tie.close (tie.spec (λ c κs. search needs) (λ c κs. c .before .pre .matrix) (λ c κs. runnable c) returns)
+    tie.close (tie.spec (λ c κs. search needs) (λ c κs. (c .new .ensures .keeps, c .before .pre .matrix)) (λ c κs. runnable c) returns)

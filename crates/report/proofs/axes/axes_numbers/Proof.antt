@@ -14,7 +14,7 @@ use Rattle.report.proofs.axes.axes_numbers.Statement.{statement}
 use Rattle.report.proofs.axes.axes_numbers.Tie as tie
 
 abbrev Inv-loop : tie.InvT-loop
-Inv-loop r n numbers₀ i₀ numbers i = (i ≤ r .n) × (numbers ≡ front (λ i. axisNumbers r (suc i)) (replicate 11 (pos 0)) i)
+Inv-loop r n numbers₀ i₀ numbers i = (i ≤ r .solver .n) × (numbers ≡ front (λ i. axisNumbers r (suc i)) (replicate 11 (pos 0)) i)
 
 abbrev μ-loop : tie.MeasureT-loop
 μ-loop r n numbers₀ i₀ numbers i = n - i
@@ -31,16 +31,16 @@ loop-again : tie.Need-loop-again Inv-loop μ-loop
 loop-again c =
     let l = c .before .before in
     let s = l .before .before in
-    let below : l .loop .i < s .args .r .n = omega (arith, c .before .loop-test .taken, l .before .channels .ensures) in (
+    let below : l .loop .i < s .args .r .solver .n = omega (arith, c .before .loop-test .taken, l .before .channels .ensures) in (
       omega arith,
-      rw (l .loop .inv .1) (front-more _ _ (l .loop .i) _ (omega (arith, below, s .pre .size)) (c .axis-numbers .ensures ∙ rw add-one)),
+      rw (l .loop .inv .1) (front-more _ _ (l .loop .i) _ (omega (arith, below, s .pre .solver .size)) (c .axis-numbers .ensures ∙ rw add-one)),
     )
 
 returns : tie.Need-returns Inv-loop μ-loop
 unfolding axesNumbers
 returns c =
     let l = c .before in
-    let e : l .loop .i ≡ l .before .before .args .r .n = omega (arith, c .loop-test .left, l .before .channels .ensures, l .loop .inv .0) in
+    let e : l .loop .i ≡ l .before .before .args .r .solver .n = omega (arith, c .loop-test .left, l .before .channels .ensures, l .loop .inv .0) in
     rw e at (l .loop .inv .1)
 
 pub axes-numbers-spec : {M : Type 1} → statement M

@@ -24,13 +24,13 @@ module _ (c : tie.After-axis) where
   start = c .before
 
   answer-is : c .axis .result .answer .value ≡
-      Axis (keptEntry (start .args .r .a) (start .args .i - 1) (start .args .i - 1))
-      (errorOf (start .args .r .n) (start .args .r .e) (keptEntry (start .args .r .a)) (start .args .r .m) (start .args .i - 1))
+      Axis (keptEntry (start .args .r .solver .a) (start .args .i - 1) (start .args .i - 1))
+      (errorOf (start .args .r .solver .n) (start .args .r .solver .e) (keptEntry (start .args .r .solver .a)) (start .args .r .solver .m) (start .args .i - 1))
   answer-is = c .axis .ensures .answers ∙ axis-answer (start .args .r) (start .args .i) (start .pre .1) (start .pre .2)
 
   -- the entry and the error that stand in the answer
   module _ (entry : ℤ) (error : ℕ) (e : c .axis .result .answer .value ≡ Axis entry error) where
-    error-is : error ≡ errorOf (start .args .r .n) (start .args .r .e) (keptEntry (start .args .r .a)) (start .args .r .m) (start .args .i - 1)
+    error-is : error ≡ errorOf (start .args .r .solver .n) (start .args .r .solver .e) (keptEntry (start .args .r .solver .a)) (start .args .r .solver .m) (start .args .i - 1)
     error-is = let same = sym e ∙ answer-is in cc
 
     small : error < 2 ^ 63
@@ -48,7 +48,7 @@ returns-2 c =
     let told = c .before .before .value .given .1 in
     let f : SFits w64 (pos (c .before .before .value .given .0 .1 .0)) = error-fits (c .before) in
     let h : SFits w64 (c .before .before .value .given .0 .0) = search needs in
-    let g : SFits w64 (pos (start a .args .i)) = record { sfits = omega (arith, start a .pre .2, start a .pre .0 .size) } in
+    let g : SFits w64 (pos (start a .args .i)) = record { sfits = omega (arith, start a .pre .2, start a .pre .0 .solver .size) } in
     c .numbers-of2 .ensures ∙ rw (toZ-ofZ g, toZ-ofZ h, toZ-ofZ f)
     (numbers-by (start a .args .r) (start a .args .i) _ _ _ _ (a .axis .ensures .answers) (a .axis .ensures .row) told)
 
