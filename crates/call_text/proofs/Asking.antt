@@ -13,9 +13,9 @@ use lib.Signed.{ltZ}
 use Rattle.ledger.specs.Call.{Call, loosePair, axis}
 use Rattle.ledger.specs.declared.Order.{Order}
 use Rattle.ledger.specs.declared.Order.the-variants.{Cyclic, Tournament}
-use Rattle.call_text.specs.Calls.{argument, callBy, loadBy, oneBy, reading, samplesBy, sweepBy, turnBy}
+use Rattle.call_text.specs.Calls.{argument, callBy, loadBy, named, namedBy, oneBy, reading, samplesBy, sweepBy, turnBy}
 use Rattle.call_text.specs.Numbers.{beyond}
-use Rattle.call_text.specs.Requests.{askedFor}
+use Rattle.call_text.specs.Requests.{askedBy, askedFor}
 use Rattle.call_text.specs.declared.request.Request.the-variants.{Load, LoadSamples, Turn, Sweep, LoosePair, Axis, NoCall, TournamentSweep}
 
 -- an argument, by the test x < 0
@@ -69,20 +69,20 @@ later-size : (xs : List ℤ) (count : ℕ) → 1 ≤ count → count ≤ length 
 later-size [] count e h = absurd (omega arith)
 later-size (x ∷ xs) count e h = rw (length-take-le (count - 1) xs (omega arith)) (omega arith)
 
-few : (xs : List ℤ) (i : ℕ) → i < 2 → NoCall ≡ askedFor (samplesBy (take i xs))
-unfolding samplesBy askedFor
-few xs zero e = refl
-few [] (suc i) e = refl
-few (x ∷ xs) (suc zero) e = refl
-few (x ∷ xs) (suc (suc i)) e = absurd (omega arith)
+few : (bench : ℕ) (xs : List ℤ) (i : ℕ) → i < 2 → NoCall ≡ askedFor (named bench (samplesBy (take i xs)))
+unfolding samplesBy askedFor named
+few bench xs zero e = refl
+few bench [] (suc i) e = refl
+few bench (x ∷ xs) (suc zero) e = refl
+few bench (x ∷ xs) (suc (suc i)) e = absurd (omega arith)
 
 -- samples, by the number x in the place of k
-module _ (n x : ℤ) (ys : List ℤ) where
-  k-negative : ltZ x (pos 0) ≡ true → NoCall ≡ askedFor (samplesBy (n ∷ x ∷ ys))
-  unfolding samplesBy askedFor
+module _ (bench : ℕ) (n x : ℤ) (ys : List ℤ) where
+  k-negative : ltZ x (pos 0) ≡ true → NoCall ≡ askedFor (named bench (samplesBy (n ∷ x ∷ ys)))
+  unfolding samplesBy named askedFor askedBy
   k-negative e = by x e
     where
-      by : (x : ℤ) → ltZ x (pos 0) ≡ true → NoCall ≡ askedFor (samplesBy (n ∷ x ∷ ys))
+      by : (x : ℤ) → ltZ x (pos 0) ≡ true → NoCall ≡ askedFor (named bench (samplesBy (n ∷ x ∷ ys)))
       by (pos k) e = absurd (omega (arith, ltb-true k 0 e))
       by (negsuc k) e = refl
 
@@ -94,87 +94,89 @@ module _ (n x : ℤ) (ys : List ℤ) where
       by (pos y) e q = rw q
       by (negsuc y) e q = absurd (true≢false e)
 
-  k-beyond : (k : ℕ) → ltZ x (pos 0) ≡ false → k ≡ argument x → length ys < k → NoCall ≡ askedFor (samplesBy (n ∷ x ∷ ys))
-  unfolding samplesBy askedFor
+  k-beyond : (k : ℕ) → ltZ x (pos 0) ≡ false → k ≡ argument x → length ys < k → NoCall ≡ askedFor (named bench (samplesBy (n ∷ x ∷ ys)))
+  unfolding samplesBy named askedFor askedBy
   k-beyond k e q l = sym (rw (samples-at k e q) (simp (lt-leb k (length ys) l)))
 
   k-within : (k i : ℕ) → ltZ x (pos 0) ≡ false → k ≡ argument x → i ≡ argument n → k ≤ length ys →
-      LoadSamples i 2 (2 + k) (2 + length ys) ≡ askedFor (samplesBy (n ∷ x ∷ ys))
-  unfolding samplesBy askedFor
+      LoadSamples bench i 3 (3 + k) (3 + length ys) ≡ askedFor (named bench (samplesBy (n ∷ x ∷ ys)))
+  unfolding samplesBy named askedFor askedBy
   k-within k i e q p l =
       let first : length (map reading (take k ys)) ≡ k = length-map (take k ys) reading ∙ length-take-le k ys l in
       let second : length (map reading (drop k ys)) ≡ length ys - k = length-map (drop k ys) reading ∙ length-drop k ys in
-      let all : 2 + k + (length ys - k) ≡ 2 + length ys = omega arith in
+      let all : 3 + k + (length ys - k) ≡ 3 + length ys = omega arith in
       sym (rw (samples-at k e q, le-leb k (length ys) l) (rw (first, second, all, p)))
 
 -- the first `count` numbers
-module _ (xs : List ℤ) (count : ℕ) (h : count ≤ length xs) where
+module _ (bench : ℕ) (xs : List ℤ) (count : ℕ) (h : count ≤ length xs) where
   size : length (take count xs) ≡ count
   size = length-take-le count xs h
 
-  pub no-load : count < 1 → NoCall ≡ askedFor (loadBy (take count xs))
-  unfolding loadBy askedFor
+  pub no-load : count < 1 → NoCall ≡ askedFor (named bench (loadBy (take count xs)))
+  unfolding loadBy named askedFor askedBy
   no-load e = let z : count ≡ 0 = omega arith in rw z
 
-  pub few-samples : count < 2 → NoCall ≡ askedFor (samplesBy (take count xs))
-  few-samples e = few xs count e
+  pub few-samples : count < 2 → NoCall ≡ askedFor (named bench (samplesBy (take count xs)))
+  few-samples e = few bench xs count e
 
   module _ (e : 2 ≤ count) where
     further-size : length (take (count - 2) (drop 2 xs)) ≡ count - 2
     further-size = length-take-le (count - 2) (drop 2 xs) (rw (length-drop 2 xs) (omega arith))
 
-    pub minus-samples : ltZ (getD xs 1 (pos 0)) (pos 0) ≡ true → NoCall ≡ askedFor (samplesBy (take count xs))
-    minus-samples m = rw (take-further xs count e h) (k-negative _ _ _ m)
+    pub minus-samples : ltZ (getD xs 1 (pos 0)) (pos 0) ≡ true → NoCall ≡ askedFor (named bench (samplesBy (take count xs)))
+    minus-samples m = rw (take-further xs count e h) (k-negative bench _ _ _ m)
 
     module _ (k : ℕ) (m : ltZ (getD xs 1 (pos 0)) (pos 0) ≡ false) (q : k ≡ argument (getD xs 1 (pos 0))) where
-      pub short-samples : count - 2 < k → NoCall ≡ askedFor (samplesBy (take count xs))
-      short-samples l = rw (take-further xs count e h) (k-beyond _ _ _ k m q (omega (arith, further-size)))
+      pub short-samples : count - 2 < k → NoCall ≡ askedFor (named bench (samplesBy (take count xs)))
+      short-samples l = rw (take-further xs count e h) (k-beyond bench _ _ _ k m q (omega (arith, further-size)))
 
       pub some-samples : k ≤ count - 2 → (n : ℕ) → n ≡ argument (getD xs 0 (pos 0)) →
-          LoadSamples n 2 (2 + k) count ≡ askedFor (samplesBy (take count xs))
+          LoadSamples bench n 3 (3 + k) (count + 1) ≡ askedFor (named bench (samplesBy (take count xs)))
       some-samples l n p =
-          let s : 2 + length (take (count - 2) (drop 2 xs)) ≡ count = omega (arith, further-size) in
-          rw (take-further xs count e h) (rw s at (k-within _ _ (take (count - 2) (drop 2 xs)) k n m q p (omega (arith, further-size))))
+          let s : 3 + length (take (count - 2) (drop 2 xs)) ≡ count + 1 = omega (arith, further-size) in
+          rw (take-further xs count e h) (rw s at (k-within bench _ _ (take (count - 2) (drop 2 xs)) k n m q p (omega (arith, further-size))))
 
-  pub no-turn : (count ≡ 2 → ⊥) → NoCall ≡ askedFor (turnBy (take count xs))
-  unfolding askedFor
+  pub no-turn : (count ≡ 2 → ⊥) → NoCall ≡ askedFor (named bench (turnBy (take count xs)))
+  unfolding named askedFor askedBy
   no-turn e = rw (turn-other (take count xs) (λ p. e (sym size ∙ p)))
 
-  pub no-sweep : (order : Order) → (count ≡ 0 → ⊥) → NoCall ≡ askedFor (sweepBy order (take count xs))
-  unfolding askedFor
+  pub no-sweep : (order : Order) → (count ≡ 0 → ⊥) → NoCall ≡ askedFor (named bench (sweepBy order (take count xs)))
+  unfolding named askedFor askedBy
   no-sweep order e = rw (sweep-other order (take count xs) (λ p. e (sym size ∙ p)))
 
-  pub no-one : (call : ℕ → Call) → (count ≡ 1 → ⊥) → NoCall ≡ askedFor (oneBy call (take count xs))
-  unfolding askedFor
+  pub no-one : (call : ℕ → Call) → (count ≡ 1 → ⊥) → NoCall ≡ askedFor (named bench (oneBy call (take count xs)))
+  unfolding named askedFor askedBy
   no-one call e = rw (one-other call (take count xs) (λ p. e (sym size ∙ p)))
 
-  pub a-sweep : count ≡ 0 → Sweep ≡ askedFor (sweepBy Cyclic (take count xs))
-  unfolding sweepBy askedFor
+  pub a-sweep : count ≡ 0 → Sweep bench ≡ askedFor (named bench (sweepBy Cyclic (take count xs)))
+  unfolding sweepBy named askedFor askedBy
   a-sweep e = rw e
 
-  pub a-tournament-sweep : count ≡ 0 → TournamentSweep ≡ askedFor (sweepBy Tournament (take count xs))
-  unfolding sweepBy askedFor
+  pub a-tournament-sweep : count ≡ 0 → TournamentSweep bench ≡ askedFor (named bench (sweepBy Tournament (take count xs)))
+  unfolding sweepBy named askedFor askedBy
   a-tournament-sweep e = rw e
 
   module _ (n : ℕ) (q : n ≡ argument (getD xs 0 (pos 0))) where
-    pub a-load : 1 ≤ count → Load n 1 count ≡ askedFor (loadBy (take count xs))
-    unfolding loadBy askedFor
-    a-load e = sym (rw (take-first xs count e h, ← q, later-size xs count e h))
+    pub a-load : 1 ≤ count → Load bench n 2 (count + 1) ≡ askedFor (named bench (loadBy (take count xs)))
+    unfolding loadBy named askedFor askedBy
+    a-load e =
+        let all : 2 + length (take (count - 1) (drop 1 xs)) ≡ count + 1 = omega (arith, later-size xs count e h) in
+        sym (rw (take-first xs count e h, ← q, all))
 
     one-is : (call : ℕ → Call) → count ≡ 1 → oneBy call (take count xs) ≡ some (call n)
     unfolding oneBy
     one-is call e = rw (take-first xs count (omega arith) h, e, ← q)
 
-    pub a-loose-pair : count ≡ 1 → (LoosePair n) ≡ askedFor (oneBy loosePair (take count xs))
-    unfolding askedFor
+    pub a-loose-pair : count ≡ 1 → LoosePair bench n ≡ askedFor (named bench (oneBy loosePair (take count xs)))
+    unfolding named askedFor askedBy
     a-loose-pair e = rw (one-is loosePair e)
 
-    pub an-axis : count ≡ 1 → (Axis n) ≡ askedFor (oneBy axis (take count xs))
-    unfolding askedFor
+    pub an-axis : count ≡ 1 → Axis bench n ≡ askedFor (named bench (oneBy axis (take count xs)))
+    unfolding named askedFor askedBy
     an-axis e = rw (one-is axis e)
 
-    pub a-turn : (m : ℕ) → m ≡ argument (getD xs 1 (pos 0)) → count ≡ 2 → (Turn n m) ≡ askedFor (turnBy (take count xs))
-    unfolding turnBy askedFor
+    pub a-turn : (m : ℕ) → m ≡ argument (getD xs 1 (pos 0)) → count ≡ 2 → Turn bench n m ≡ askedFor (named bench (turnBy (take count xs)))
+    unfolding turnBy named askedFor askedBy
     a-turn m p e = rw (take-two xs count e h, ← q, ← p)
 
 -- by the tag
@@ -218,3 +220,14 @@ module _ (tag : ℕ) (ys : List ℤ) where
               unfolding callBy
               of-none n₇ =
                   simp (ne-eqb _ _ n₁, ne-eqb _ _ n₂, ne-eqb _ _ n₃, ne-eqb _ _ n₄, ne-eqb _ _ n₅, ne-eqb _ _ n₆, ne-eqb _ _ n₇)
+
+-- the bench, which is the first number
+module _ (tag : ℕ) (xs : List ℤ) (count : ℕ) (h : count ≤ length xs) where
+  pub no-bench : count < 1 → NoCall ≡ askedFor (namedBy tag (take count xs))
+  unfolding namedBy askedFor
+  no-bench e = let z : count ≡ 0 = omega arith in rw z
+
+  pub a-bench : 1 ≤ count → (bench : ℕ) → bench ≡ argument (getD xs 0 (pos 0)) →
+      askedFor (named bench (callBy tag (take (count - 1) (drop 1 xs)))) ≡ askedFor (namedBy tag (take count xs))
+  unfolding namedBy
+  a-bench e bench q = sym (rw (take-first xs count e h, ← q))

@@ -11,12 +11,14 @@ use lib.IntN.{ℤ, pos, negsuc}
 use lib.ListN.{length, take, drop, length-append, length-map, take-append-drop}
 use lib.Seq.{drop-append-seam, drop-drop, take-all, take-append-seam}
 use Rattle.text.specs.Parts.{before, split}
+use Rattle.ledger.specs.Bench.{NamedCall, by}
 use Rattle.ledger.specs.Call.{Call, load, loadSamples, loosePair, axis}
 use Rattle.ledger.specs.declared.Order.{Order}
 use Rattle.ledger.specs.declared.Order.the-variants.{Cyclic, Tournament}
-use Rattle.call_text.specs.Calls.{argument, callBy, callOfFields, callWithin, loadBy, oneBy, reading, samplesBy, sweepBy, turnBy, withNumbers}
+use Rattle.call_text.specs.Calls.{argument, callBy, callOfFields, callWithin, loadBy, named, namedBy, oneBy, reading, samplesBy}
+use Rattle.call_text.specs.Calls.{sweepBy, turnBy, withNumbers}
 use Rattle.call_text.specs.Numbers.{eachNumber, signedOf}
-use Rattle.call_text.specs.Requests.{Asks, Placed, askedFor, leading, leftBy, leftIn, onward, part, requestCall}
+use Rattle.call_text.specs.Requests.{Asks, Placed, askedBy, askedFor, leading, leftBy, leftIn, onward, part, requestCall}
 use Rattle.call_text.specs.inner.Read.{FieldsRead, counted, fieldsBy}
 use Rattle.call_text.specs.declared.line.Fields.{Fields}
 use Rattle.call_text.specs.declared.line.Fields.the-variants.{Are, No}
@@ -41,7 +43,7 @@ all-lead (f ∷ fs) ys e = by (signedOf f) (eachNumber fs) (λ xs q. all-lead fs
 -- a line with a tag and numbers
 pub record Tagged (most : ℕ) (fs : List (List ℕ)) (tag count : ℕ) : Type 0 where
   pub numbers : List ℤ
-  pub call : callOfFields most fs ≡ callBy tag numbers
+  pub call : callOfFields most fs ≡ namedBy tag numbers
   pub lead : leftBy most fs ≡ numbers
   pub size : length numbers ≡ count
   pub few : count ≤ most
@@ -83,33 +85,39 @@ no-call most ((t ∷ []) ∷ fs) e = by (leb (length fs) most) (eachNumber fs) e
     by true (some ys) e = absurd (let z : _≡_ {A = ℕ} 0 1 = cc in omega arith)
 
 -- a request with the numbers of its line is the line's call, and its places are among them
-abbrev Stands : List ℤ → List ℤ → Option Call → Type 0
+abbrev Stands : List ℤ → List ℤ → Option NamedCall → Type 0
 Stands ys rest o =
     (requestCall (askedFor o) (ys ++ rest) (map reading (ys ++ rest)) ≡ o) × Placed (length (ys ++ rest)) (askedFor o)
 
--- two lists that follow two numbers
-module _ (us vs ws : List ℕ) (a b : ℕ) where
-  first-part : part 2 (2 + length us) (a ∷ b ∷ (us ++ vs) ++ ws) ≡ us
+-- two lists that follow three numbers
+module _ (us vs ws : List ℕ) (a b c : ℕ) where
+  first-part : part 3 (3 + length us) (a ∷ b ∷ c ∷ (us ++ vs) ++ ws) ≡ us
   first-part =
-      let z : 2 + length us - 2 ≡ length us = omega arith in
+      let z : 3 + length us - 3 ≡ length us = omega arith in
       rw (z, append-assoc) (take-append-seam us (vs ++ ws))
 
-  second-part : part (2 + length us) (2 + length us + length vs) (a ∷ b ∷ (us ++ vs) ++ ws) ≡ vs
+  second-part : part (3 + length us) (3 + length us + length vs) (a ∷ b ∷ c ∷ (us ++ vs) ++ ws) ≡ vs
   second-part =
-      let z : 2 + length us + length vs - (2 + length us) ≡ length vs = omega arith in
-      rw (z, append-assoc, ← drop-drop (length us) 2, drop-append-seam) (take-append-seam vs ws)
+      let z : 3 + length us + length vs - (3 + length us) ≡ length vs = omega arith in
+      rw (z, append-assoc, ← drop-drop (length us) 3, drop-append-seam) (take-append-seam vs ws)
 
-module _ (rest : List ℤ) where
+-- after the bench x
+module _ (rest : List ℤ) (x : ℤ) where
+  abbrev bench : ℕ
+  bench = argument x
+
   none-stands : (ys : List ℤ) → Stands ys rest none
   unfolding askedFor requestCall
   none-stands ys = (refl, tt)
 
-  load-stands : (ys : List ℤ) → Stands ys rest (loadBy ys)
-  unfolding askedFor requestCall loadBy
-  load-stands [] = none-stands []
+  load-stands : (ys : List ℤ) → Stands (x ∷ ys) rest (named bench (loadBy ys))
+  unfolding named askedFor askedBy requestCall loadBy
+  load-stands [] = none-stands (x ∷ [])
   load-stands (n ∷ ys) =
-      let z : 1 + length ys - 1 ≡ length ys = omega arith in
-      (rw z (ap (λ (xs : List ℤ). some (load (argument n) xs)) (take-append-seam ys rest)), (omega arith, rw length-append (omega arith)))
+      let z : 2 + length ys - 2 ≡ length ys = omega arith in (
+        rw z (ap (λ (xs : List ℤ). some (by bench (load (argument n) xs))) (take-append-seam ys rest)),
+        (omega arith, rw length-append (omega arith)),
+      )
 
   -- k samples, where as many dilutions and the counts follow
   module _ (n : ℤ) (k : ℕ) (ys : List ℤ) where
@@ -119,7 +127,7 @@ module _ (rest : List ℤ) where
     abbrev vs : List ℕ
     vs = map reading (drop k ys)
 
-    joined : map reading (n ∷ pos k ∷ ys ++ rest) ≡ reading n ∷ reading (pos k) ∷ (us ++ vs) ++ map reading rest
+    joined : map reading (x ∷ n ∷ pos k ∷ ys ++ rest) ≡ reading x ∷ reading n ∷ reading (pos k) ∷ (us ++ vs) ++ map reading rest
     joined =
         let a : us ++ vs ≡ map reading ys = sym (map-append reading (take k ys) (drop k ys)) ∙ rw (take-append-drop k ys) in
         rw (map-append, a)
@@ -127,65 +135,78 @@ module _ (rest : List ℤ) where
     sizes : length us + length vs ≡ length ys
     sizes = rw (length-map (take k ys) reading, length-map (drop k ys) reading, ← length-append (take k ys) (drop k ys), take-append-drop k ys)
 
-    some-stands : Stands (n ∷ pos k ∷ ys) rest (some (loadSamples (argument n) us vs))
-    unfolding askedFor requestCall
+    some-stands : Stands (x ∷ n ∷ pos k ∷ ys) rest (named bench (some (loadSamples (argument n) us vs)))
+    unfolding named askedFor askedBy requestCall
     some-stands = (
-      ap (λ (xs : List ℕ). requestCall (askedFor (some (loadSamples (argument n) us vs))) (n ∷ pos k ∷ ys ++ rest) xs) joined
-          ∙ (λ i. some (loadSamples (argument n) (first-part us vs (map reading rest) (reading n) (reading (pos k)) i)
-          (second-part us vs (map reading rest) (reading n) (reading (pos k)) i))),
+      ap (λ (xs : List ℕ). requestCall (askedFor (some (by bench (loadSamples (argument n) us vs)))) (x ∷ n ∷ pos k ∷ ys ++ rest) xs) joined
+          ∙ (λ i. some (by bench (loadSamples (argument n) (first-part us vs (map reading rest) (reading x) (reading n) (reading (pos k)) i)
+          (second-part us vs (map reading rest) (reading x) (reading n) (reading (pos k)) i)))),
       (omega arith, omega arith, rw length-append (omega (arith, sizes))),
     )
 
-  samples-stands : (ys : List ℤ) → Stands ys rest (samplesBy ys)
-  unfolding samplesBy
-  samples-stands [] = none-stands []
-  samples-stands (n ∷ []) = none-stands (n ∷ [])
-  samples-stands (n ∷ negsuc k ∷ ys) = none-stands (n ∷ negsuc k ∷ ys)
-  samples-stands (n ∷ pos k ∷ ys) = by (leb k (length ys))
+  samples-stands : (ys : List ℤ) → Stands (x ∷ ys) rest (named bench (samplesBy ys))
+  unfolding named samplesBy
+  samples-stands [] = none-stands (x ∷ [])
+  samples-stands (n ∷ []) = none-stands (x ∷ n ∷ [])
+  samples-stands (n ∷ negsuc k ∷ ys) = none-stands (x ∷ n ∷ negsuc k ∷ ys)
+  samples-stands (n ∷ pos k ∷ ys) = by-size (leb k (length ys))
     where
-      by : (b : Bool) → Stands (n ∷ pos k ∷ ys) rest (cond b (some (loadSamples (argument n) (us n k ys) (vs n k ys))) none)
-      by true = some-stands n k ys
-      by false = none-stands (n ∷ pos k ∷ ys)
+      by-size : (b : Bool) →
+          Stands (x ∷ n ∷ pos k ∷ ys) rest (named bench (cond b (some (loadSamples (argument n) (us n k ys) (vs n k ys))) none))
+      by-size true = some-stands n k ys
+      by-size false = none-stands (x ∷ n ∷ pos k ∷ ys)
 
-  turn-stands : (ys : List ℤ) → Stands ys rest (turnBy ys)
-  unfolding askedFor requestCall turnBy
-  turn-stands [] = none-stands []
-  turn-stands (x ∷ []) = none-stands (x ∷ [])
-  turn-stands (x ∷ y ∷ []) = (refl, tt)
-  turn-stands (x ∷ y ∷ z ∷ ys) = none-stands (x ∷ y ∷ z ∷ ys)
+  turn-stands : (ys : List ℤ) → Stands (x ∷ ys) rest (named bench (turnBy ys))
+  unfolding named askedFor askedBy requestCall turnBy
+  turn-stands [] = none-stands (x ∷ [])
+  turn-stands (p ∷ []) = none-stands (x ∷ p ∷ [])
+  turn-stands (p ∷ q ∷ []) = (refl, tt)
+  turn-stands (p ∷ q ∷ z ∷ ys) = none-stands (x ∷ p ∷ q ∷ z ∷ ys)
 
-  sweep-stands : (order : Order) (ys : List ℤ) → Stands ys rest (sweepBy order ys)
-  unfolding askedFor requestCall sweepBy
+  sweep-stands : (order : Order) (ys : List ℤ) → Stands (x ∷ ys) rest (named bench (sweepBy order ys))
+  unfolding named askedFor askedBy requestCall sweepBy
   sweep-stands Cyclic [] = (refl, tt)
   sweep-stands Tournament [] = (refl, tt)
-  sweep-stands order (x ∷ ys) = none-stands (x ∷ ys)
+  sweep-stands order (y ∷ ys) = none-stands (x ∷ y ∷ ys)
 
-  one-stands : (call : ℕ → Call) → ((ys : List ℤ) (x : ℕ) → Stands ys rest (some (call x))) → (ys : List ℤ) → Stands ys rest (oneBy call ys)
-  unfolding oneBy
-  one-stands call h [] = none-stands []
-  one-stands call h (x ∷ []) = h (x ∷ []) (argument x)
-  one-stands call h (x ∷ y ∷ ys) = none-stands (x ∷ y ∷ ys)
+  one-stands : (call : ℕ → Call) → ((ys : List ℤ) (i : ℕ) → Stands ys rest (some (by bench (call i)))) →
+      (ys : List ℤ) → Stands (x ∷ ys) rest (named bench (oneBy call ys))
+  unfolding named oneBy
+  one-stands call h [] = none-stands (x ∷ [])
+  one-stands call h (y ∷ []) = h (x ∷ y ∷ []) (argument y)
+  one-stands call h (y ∷ z ∷ ys) = none-stands (x ∷ y ∷ z ∷ ys)
 
-  pair-stands : (ys : List ℤ) (x : ℕ) → Stands ys rest (some (loosePair x))
-  unfolding askedFor requestCall
-  pair-stands ys x = (refl, tt)
+  pair-stands : (ys : List ℤ) (t : ℕ) → Stands ys rest (some (by bench (loosePair t)))
+  unfolding askedFor askedBy requestCall
+  pair-stands ys t = (refl, tt)
 
-  axis-stands : (ys : List ℤ) (x : ℕ) → Stands ys rest (some (axis x))
-  unfolding askedFor requestCall
-  axis-stands ys x = (refl, tt)
+  axis-stands : (ys : List ℤ) (i : ℕ) → Stands ys rest (some (by bench (axis i)))
+  unfolding askedFor askedBy requestCall
+  axis-stands ys i = (refl, tt)
 
-  either : (ys : List ℤ) (b : Bool) (o p : Option Call) → Stands ys rest o → Stands ys rest p → Stands ys rest (cond b o p)
+  either : (ys : List ℤ) (b : Bool) (o p : Option Call) → Stands ys rest (named bench o) → Stands ys rest (named bench p) →
+      Stands ys rest (named bench (cond b o p))
   either ys true o p h k = h
   either ys false o p h k = k
 
-  pub stands : (tag : ℕ) (ys : List ℤ) → Stands ys rest (callBy tag ys)
+  no-tag : (ys : List ℤ) → Stands ys rest (named bench none)
+  unfolding named
+  no-tag ys = none-stands ys
+
+  by-tag : (tag : ℕ) (ys : List ℤ) → Stands (x ∷ ys) rest (named bench (callBy tag ys))
   unfolding callBy
-  stands tag ys =
-      either ys (eqb tag 76) _ _ (load-stands ys) (either ys (eqb tag 77) _ _ (samples-stands ys)
-      (either ys (eqb tag 84) _ _ (turn-stands ys) (either ys (eqb tag 87) _ _ (sweep-stands Cyclic ys)
-      (either ys (eqb tag 81) _ _ (one-stands loosePair pair-stands ys)
-      (either ys (eqb tag 65) _ _ (one-stands axis axis-stands ys)
-      (either ys (eqb tag 79) _ _ (sweep-stands Tournament ys) (none-stands ys)))))))
+  by-tag tag ys =
+      let all = x ∷ ys in
+      either all (eqb tag 76) _ _ (load-stands ys) (either all (eqb tag 77) _ _ (samples-stands ys)
+      (either all (eqb tag 84) _ _ (turn-stands ys) (either all (eqb tag 87) _ _ (sweep-stands Cyclic ys)
+      (either all (eqb tag 81) _ _ (one-stands loosePair pair-stands ys)
+      (either all (eqb tag 65) _ _ (one-stands axis axis-stands ys)
+      (either all (eqb tag 79) _ _ (sweep-stands Tournament ys) (no-tag all)))))))
+
+pub stands : (rest : List ℤ) (tag : ℕ) (ys : List ℤ) → Stands ys rest (namedBy tag ys)
+unfolding namedBy
+stands rest tag [] = none-stands rest (pos 0) []
+stands rest tag (x ∷ ys) = by-tag rest x tag ys
 
 -- the reader's answer, by what was read of the fields
 module _ (line : List ℕ) (entry exit : List ℤ) (z : Fields) (r : FieldsRead line entry exit z) where
@@ -202,7 +223,7 @@ module _ (line : List ℕ) (entry exit : List ℤ) (tag count : ℕ) (k : Tagged
   unfolding leftIn
   parted = l ∙ rw (k .lead, k .size)
 
-  asks-tagged : (a : Request) → a ≡ askedFor (callBy tag (take count exit)) → Asks line entry exit a
+  asks-tagged : (a : Request) → a ≡ askedFor (namedBy tag (take count exit)) → Asks line entry exit a
   unfolding callWithin
   asks-tagged a q =
       let t : take count exit ≡ k .numbers = rw (parted, ← k .size) (take-append-seam (k .numbers) _) in
@@ -222,5 +243,5 @@ module _ (line : List ℕ) (entry exit : List ℤ) (z : Fields) (r : FieldsRead 
   pub in-array : count ≤ length exit
   in-array = rw (parted line entry exit tag count known (r .leaves), length-append) (omega (arith, known .size))
 
-  pub asks-some : (a : Request) → a ≡ askedFor (callBy tag (take count exit)) → Asks line entry exit a
+  pub asks-some : (a : Request) → a ≡ askedFor (namedBy tag (take count exit)) → Asks line entry exit a
   asks-some = asks-tagged line entry exit tag count known (r .leaves)

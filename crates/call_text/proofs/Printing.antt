@@ -50,6 +50,23 @@ pub two-printed : {d f x y u z : List ℕ} {tag a b c r : ℕ} → Put (tag ∷ 
     → Prints (line ((tag ∷ []) ∷ d ∷ f ∷ [])) (record { bytes = z; len = r })
 two-printed p q t s = printed _ (put-then (put-then (put-then p (q .puts)) (t .puts)) s) (two-text _ _ _)
 
+pub five-printed : {d f g h k x y u v w m z : List ℕ} {tag a b c e n o r : ℕ} → Put (tag ∷ []) 0 (replicate 256 0) x a → FieldPut d a x y b →
+    FieldPut f b y u c → FieldPut g c u v e → FieldPut h e v w n → FieldPut k n w m o → Put (10 ∷ []) o m z r →
+    Prints (line ((tag ∷ []) ∷ d ∷ f ∷ g ∷ h ∷ k ∷ [])) (record { bytes = z; len = r })
+unfolding line further
+five-printed p q t i j l s =
+    printed _ (put-then (put-then (put-then (put-then (put-then (put-then p (q .puts)) (t .puts)) (i .puts)) (j .puts)) (l .puts)) s)
+    (simp append-assoc)
+
+-- four numbers, one by one
+pub four : (xs : List ℕ) → length xs ≡ 4 → xs ≡ getD xs 0 0 ∷ getD xs 1 0 ∷ getD xs 2 0 ∷ getD xs 3 0 ∷ []
+four [] e = absurd (omega arith)
+four (a ∷ []) e = absurd (omega arith)
+four (a ∷ b ∷ []) e = absurd (omega arith)
+four (a ∷ b ∷ c ∷ []) e = absurd (omega arith)
+four (a ∷ b ∷ c ∷ d ∷ []) e = refl
+four (a ∷ b ∷ c ∷ d ∷ x ∷ xs) e = absurd (omega arith)
+
 pub axis-printed : {d f x y u v z : List ℕ} {a b c e r : ℕ} (zs : List ℤ) → Put (65 ∷ []) 0 (replicate 256 0) x a → FieldPut d a x y b →
     FieldPut f b y u c → Put (numbers zs) c u v e → Put (10 ∷ []) e v z r
     → Prints (line ((65 ∷ []) ∷ d ∷ f ∷ map number zs)) (record { bytes = z; len = r })

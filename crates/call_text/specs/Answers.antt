@@ -4,8 +4,9 @@ use mathlib.Core.Bool.{true, false}
 use mathlib.Core.List.{List, [], _∷_, _++_, map}
 use lib.IntN.{ℤ, pos}
 use lib.ListN.{length, take, drop, replicate}
+use Rattle.ledger.specs.Bench.{NamedCall}
 use Rattle.ledger.specs.Call.{Call, load, loadSamples, turn, sweepIn, loosePair, axis}
-use Rattle.record.specs.Record.{afterOf, answerOf, axisOf}
+use Rattle.record.specs.Record.{answerTo, recordAfter, rowTo}
 use Rattle.record.specs.declared.Record.{Record}
 use Rattle.text.specs.Decimal.{digits, number}
 use Rattle.record.specs.declared.query.Answer.{Answer}
@@ -15,7 +16,7 @@ use Rattle.call_text.specs.declared.answer.Printed.{Printed}
 use Rattle.call_text.specs.declared.answer.Told.{Told}
 
 -- `L`; `M` and e; `T` and 1 or 0; `W` or `O` and the number of turns; `Q` p q, or `Q` none; `A` a_ii r_i and the n numbers of row i; of a refused
--- call `X`, its number, and the count of refused calls
+-- call `X`, its number, and the four counts of refused calls
 unfoldable pub shownAs : Answer → Told → List ℕ
 shownAs Loaded t = line ((76 ∷ []) ∷ [])
 shownAs (SamplesLoaded e) t = line ((77 ∷ []) ∷ digits e ∷ [])
@@ -26,26 +27,30 @@ shownAs (TournamentSwept k) t = line ((79 ∷ []) ∷ digits k ∷ [])
 shownAs (Pair p q) t = line ((81 ∷ []) ∷ digits p ∷ digits q ∷ [])
 shownAs NoPair t = line ((81 ∷ []) ∷ (110 ∷ 111 ∷ 110 ∷ 101 ∷ []) ∷ [])
 shownAs (Axis entry error) t = line ((65 ∷ []) ∷ number entry ∷ digits error ∷ map number (take (t .n) (t .row)))
-shownAs (Refused k) t = line ((88 ∷ []) ∷ digits k ∷ digits (t .refused) ∷ [])
+shownAs (Refused k) t = line ((88 ∷ []) ∷ digits k ∷ map digits (t .refused))
 
 unfoldable pub shown : Told → List ℕ
 shown t = shownAs (t .answer) t
 
 -- row i of v, of an axis call
-unfoldable pub rowFor : Record → Call → List ℤ
-rowFor r (load n numbers) = replicate 8 (pos 0)
-rowFor r (loadSamples n dilutions counts) = replicate 8 (pos 0)
-rowFor r (turn p q) = replicate 8 (pos 0)
-rowFor r (sweepIn order) = replicate 8 (pos 0)
-rowFor r (loosePair t) = replicate 8 (pos 0)
-rowFor r (axis i) = axisOf r i
+unfoldable pub rowBy : Record → ℕ → Call → List ℤ
+rowBy r bench (load n numbers) = replicate 8 (pos 0)
+rowBy r bench (loadSamples n dilutions counts) = replicate 8 (pos 0)
+rowBy r bench (turn p q) = replicate 8 (pos 0)
+rowBy r bench (sweepIn order) = replicate 8 (pos 0)
+rowBy r bench (loosePair t) = replicate 8 (pos 0)
+rowBy r bench (axis i) = rowTo r bench i
 
--- the answer of a call on the record r, with n and the count after it
-unfoldable pub toldOf : Record → Call → Told
-toldOf r call = record { answer = answerOf r call; row = rowFor r call; n = afterOf r call .n; refused = afterOf r call .refused }
+abbrev pub rowFor : Record → NamedCall → List ℤ
+rowFor r c = rowBy r (c .bench) (c .call)
 
-unfoldable pub answerLine : Record → Call → List ℕ
-answerLine r call = shown (toldOf r call)
+-- the answer of a call on the record r, with n and the counts after it
+unfoldable pub toldOf : Record → NamedCall → Told
+toldOf r c =
+    record { answer = answerTo r c; row = rowFor r c; n = recordAfter r c .solver .n; refused = recordAfter r c .refused }
+
+unfoldable pub answerLine : Record → NamedCall → List ℕ
+answerLine r c = shown (toldOf r c)
 
 -- a line in an array, 0 after it
 unfoldable pub linePrinted : List ℕ → Printed

@@ -1,4 +1,4 @@
--- The call that a line gives: its tag, then its numbers, fields parted by one tab.
+-- The call that a line gives: its tag, then its bench and its numbers, fields parted by one tab.
 use Prim.Native.Nat.{ℕ}
 use mathlib.Core.Bool.{cond}
 use mathlib.Core.List.{List, [], _∷_, map}
@@ -7,12 +7,13 @@ use lib.Dec.{eqb, leb}
 use lib.IntN.{ℤ, pos, negsuc}
 use lib.ListN.{length, take, drop}
 use Rattle.text.specs.Parts.{split}
+use Rattle.ledger.specs.Bench.{NamedCall, by}
 use Rattle.ledger.specs.Call.{Call, load, loadSamples, turn, sweepIn, loosePair, axis}
 use Rattle.ledger.specs.declared.Order.{Order}
 use Rattle.ledger.specs.declared.Order.the-variants.{Cyclic, Tournament}
 use Rattle.call_text.specs.Numbers.{beyond, eachNumber}
 
--- README: 'negative where the call's argument is a natural (n, p, q, t, i) is a value out of that argument's range'
+-- README: 'negative where the call's argument is a natural (bench, n, p, q, t, i) is a value out of that argument's range'
 unfoldable pub argument : ℤ → ℕ
 argument (pos x) = x
 argument (negsuc x) = beyond
@@ -56,7 +57,7 @@ oneBy call [] = none
 oneBy call (x ∷ []) = some (call (argument x))
 oneBy call (x ∷ y ∷ xs) = none
 
--- The call of a tag and numbers: 76 is `L`, 77 `M`, 84 `T`, 87 `W`, 81 `Q`, 65 `A`, 79 `O`.
+-- The call of a tag and the numbers after the bench: 76 is `L`, 77 `M`, 84 `T`, 87 `W`, 81 `Q`, 65 `A`, 79 `O`.
 unfoldable pub callBy : ℕ → List ℤ → Option Call
 callBy tag numbers =
     cond (eqb tag 76) (loadBy numbers)
@@ -67,24 +68,33 @@ callBy tag numbers =
     (cond (eqb tag 65) (oneBy axis numbers)
     (cond (eqb tag 79) (sweepBy Tournament numbers) none))))))
 
-unfoldable pub withNumbers : ℕ → Option (List ℤ) → Option Call
+unfoldable pub named : ℕ → Option Call → Option NamedCall
+named bench none = none
+named bench (some call) = some (by bench call)
+
+-- 'the bench stands after the tag'
+unfoldable pub namedBy : ℕ → List ℤ → Option NamedCall
+namedBy tag [] = none
+namedBy tag (bench ∷ numbers) = named (argument bench) (callBy tag numbers)
+
+unfoldable pub withNumbers : ℕ → Option (List ℤ) → Option NamedCall
 withNumbers tag none = none
-withNumbers tag (some numbers) = callBy tag numbers
+withNumbers tag (some numbers) = namedBy tag numbers
 
 -- a tag is one byte
-unfoldable pub callOfFields : ℕ → List (List ℕ) → Option Call
+unfoldable pub callOfFields : ℕ → List (List ℕ) → Option NamedCall
 callOfFields most [] = none
 callOfFields most ([] ∷ fields) = none
 callOfFields most ((tag ∷ []) ∷ fields) = cond (leb (length fields) most) (withNumbers tag (eachNumber fields)) none
 callOfFields most ((tag ∷ b ∷ bs) ∷ fields) = none
 
 -- the call of a line that may have so many numbers
-unfoldable pub callWithin : ℕ → List ℕ → Option Call
+unfoldable pub callWithin : ℕ → List ℕ → Option NamedCall
 callWithin most line = callOfFields most (split 9 line)
 
 -- README: 'A line has at most 4,096 numbers; more make it no call'
 unfoldable pub numberLimit : ℕ
 numberLimit = 4096
 
-unfoldable pub callOf : List ℕ → Option Call
+unfoldable pub callOf : List ℕ → Option NamedCall
 callOf line = callWithin numberLimit line

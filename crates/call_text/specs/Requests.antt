@@ -6,6 +6,7 @@ use mathlib.Core.Option.{Option, none, some}
 use lib.IntN.{ℤ}
 use lib.ListN.{length, take, drop}
 use Rattle.text.specs.Parts.{split}
+use Rattle.ledger.specs.Bench.{NamedCall, by}
 use Rattle.ledger.specs.Call.{Call, load, loadSamples, turn, sweep, sweepIn, tournamentSweep, loosePair, axis}
 use Rattle.ledger.specs.declared.Order.the-variants.{Cyclic, Tournament}
 use Rattle.call_text.specs.Calls.{callWithin, reading}
@@ -13,42 +14,48 @@ use Rattle.call_text.specs.Numbers.{signedOf}
 use Rattle.call_text.specs.declared.request.Request.{Request}
 use Rattle.call_text.specs.declared.request.Request.the-variants.{Load, LoadSamples, Turn, Sweep, LoosePair, Axis, NoCall, TournamentSweep}
 
--- The request of a call, with the places of its list among the line's numbers: a load's are those after n, and those of samples the ones after k.
-unfoldable pub askedFor : Option Call → Request
+-- The request of a call, with the places of its list among the line's numbers, of which the bench is the first: a load's are those after n, and those
+-- of samples the ones after k.
+unfoldable pub askedBy : ℕ → Call → Request
+askedBy bench (load n numbers) = Load bench n 2 (2 + length numbers)
+askedBy bench (loadSamples n dilutions counts) =
+    LoadSamples bench n 3 (3 + length dilutions) (3 + length dilutions + length counts)
+askedBy bench (turn p q) = Turn bench p q
+askedBy bench (sweepIn Cyclic) = Sweep bench
+askedBy bench (sweepIn Tournament) = TournamentSweep bench
+askedBy bench (loosePair t) = LoosePair bench t
+askedBy bench (axis i) = Axis bench i
+
+unfoldable pub askedFor : Option NamedCall → Request
 askedFor none = NoCall
-askedFor (some (load n numbers)) = Load n 1 (1 + length numbers)
-askedFor (some (loadSamples n dilutions counts)) = LoadSamples n 2 (2 + length dilutions) (2 + length dilutions + length counts)
-askedFor (some (turn p q)) = Turn p q
-askedFor (some (sweepIn Cyclic)) = Sweep
-askedFor (some (sweepIn Tournament)) = TournamentSweep
-askedFor (some (loosePair t)) = LoosePair t
-askedFor (some (axis i)) = Axis i
+askedFor (some c) = askedBy (c .bench) (c .call)
 
 -- what stands from a place to before another
 abbrev pub part : {A : Type 0} → ℕ → ℕ → List A → List A
 part from to xs = take (to - from) (drop from xs)
 
 -- the call of a request, with a line's numbers, and with the readings of these at the same places
-unfoldable pub requestCall : Request → List ℤ → List ℕ → Option Call
-requestCall (Load n from to) numbers readings = some (load n (part from to numbers))
-requestCall (LoadSamples n from middle to) numbers readings = some (loadSamples n (part from middle readings) (part middle to readings))
-requestCall (Turn p q) numbers readings = some (turn p q)
-requestCall Sweep numbers readings = some sweep
-requestCall (LoosePair t) numbers readings = some (loosePair t)
-requestCall (Axis i) numbers readings = some (axis i)
+unfoldable pub requestCall : Request → List ℤ → List ℕ → Option NamedCall
+requestCall (Load bench n from to) numbers readings = some (by bench (load n (part from to numbers)))
+requestCall (LoadSamples bench n from middle to) numbers readings =
+    some (by bench (loadSamples n (part from middle readings) (part middle to readings)))
+requestCall (Turn bench p q) numbers readings = some (by bench (turn p q))
+requestCall (Sweep bench) numbers readings = some (by bench sweep)
+requestCall (LoosePair bench t) numbers readings = some (by bench (loosePair t))
+requestCall (Axis bench i) numbers readings = some (by bench (axis i))
 requestCall NoCall numbers readings = none
-requestCall TournamentSweep numbers readings = some tournamentSweep
+requestCall (TournamentSweep bench) numbers readings = some (by bench tournamentSweep)
 
 -- its places are in order, and within so many numbers
 abbrev pub Placed : ℕ → Request → Type 0
-Placed size (Load n from to) = (from ≤ to) × (to ≤ size)
-Placed size (LoadSamples n from middle to) = (from ≤ middle) × (middle ≤ to) × (to ≤ size)
-Placed size (Turn p q) = Unit
-Placed size Sweep = Unit
-Placed size (LoosePair t) = Unit
-Placed size (Axis i) = Unit
+Placed size (Load bench n from to) = (from ≤ to) × (to ≤ size)
+Placed size (LoadSamples bench n from middle to) = (from ≤ middle) × (middle ≤ to) × (to ≤ size)
+Placed size (Turn bench p q) = Unit
+Placed size (Sweep bench) = Unit
+Placed size (LoosePair bench t) = Unit
+Placed size (Axis bench i) = Unit
 Placed size NoCall = Unit
-Placed size TournamentSweep = Unit
+Placed size (TournamentSweep bench) = Unit
 
 -- the numbers of fields up to the first that is none
 unfoldable pub onward : Option ℤ → List ℤ → List ℤ

@@ -17,12 +17,12 @@ const TAB: u8 = b'\t';
 
 const LINE_FEED: u8 = b'\n';
 
-// A call's answer, and what its line says beside it: row i of v of an axis call, else 0; the record's channels and its count of refused calls.
+// A call's answer, and what its line says beside it: row i of v of an axis call, else 0; the record's channels and its counts of refused calls.
 pub struct Told {
     pub answer: Answer,
     pub row: [i64; 8],
     pub n: usize,
-    pub refused: u32,
+    pub refused: [u32; 4],
 }
 
 // A line, and 0 after it.
@@ -102,6 +102,32 @@ fn none_line() -> Printed
     Printed { bytes, len }
 }
 
+fn five_numbers(tag: u8, x: u64, y: u64, z: u64, u: u64, v: u64) -> Printed
+    ensures { λ r. ⌜ Prints (line ((tag ∷ []) ∷ digits x ∷ digits y ∷ digits z ∷ digits u ∷ digits v ∷ [])) r ⌝ }
+{
+    let mut bytes = [0u8; 256];
+    let first = put_byte(&mut bytes, 0, tag);
+    let second = natural_field(&mut bytes, first, x);
+    let third = natural_field(&mut bytes, second, y);
+    let fourth = natural_field(&mut bytes, third, z);
+    let fifth = natural_field(&mut bytes, fourth, u);
+    let end = natural_field(&mut bytes, fifth, v);
+    let len = put_byte(&mut bytes, end, LINE_FEED);
+    Printed { bytes, len }
+}
+
+// `X`, the refusal's number and the four counts.
+fn refused_line(number: u32, counts: [u32; 4]) -> Printed
+    ensures { λ r. ⌜ Prints (line ((88 ∷ []) ∷ digits number ∷ map digits counts)) r ⌝ }
+{
+    let x = number as u64;
+    let y = counts[0] as u64;
+    let z = counts[1] as u64;
+    let u = counts[2] as u64;
+    let v = counts[3] as u64;
+    five_numbers(b'X', x, y, z, u, v)
+}
+
 pub fn nothing() -> Printed
     ensures { λ r. ⌜ Prints [] r ⌝ }
 {
@@ -115,6 +141,7 @@ pub fn answer_line(told: Told) -> Printed
 {
     let answer = told.answer;
     let row = told.row;
+    let refused = told.refused;
     match answer {
         Answer::Loaded => loaded_line(),
         Answer::SamplesLoaded(e) => one_number(b'M', e as u64),
@@ -130,6 +157,6 @@ pub fn answer_line(told: Told) -> Printed
         Answer::Pair { p, q } => two_numbers(b'Q', p as u64, q as u64),
         Answer::NoPair => none_line(),
         Answer::Axis { entry, error } => axis_line(entry, error, row, told.n),
-        Answer::Refused(number) => two_numbers(b'X', number as u64, told.refused as u64),
+        Answer::Refused(number) => refused_line(number, refused),
     }
 }

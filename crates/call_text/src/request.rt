@@ -7,29 +7,41 @@ ghost use Prim.Native.Nat.{_≤_};
 ghost use lib.ListN.{length, take};
 ghost use Rattle.ledger.specs.Call.{axis, loosePair};
 ghost use Rattle.ledger.specs.declared.Order.the-variants.{Cyclic, Tournament};
-ghost use Rattle.call_text.specs.Calls.{argument, callBy, loadBy, oneBy, samplesBy, sweepBy, turnBy};
+ghost use Rattle.call_text.specs.Calls.{argument, callBy, loadBy, named, namedBy, oneBy, samplesBy, sweepBy, turnBy};
 ghost use Rattle.call_text.specs.Requests.{Asks, askedFor};
 
-// A call with its arguments, or no call. Of a load's list it has the places among the line's numbers: from `from` to before `to`; of samples the
+// A call with its bench and its arguments, or no call. Of a load's list it has the places among the line's numbers: from `from` to before `to`; of samples the
 // dilutions stand before `middle` and the counts from there on.
 pub enum Request {
     Load {
+        bench: usize,
         n: usize,
         from: usize,
         to: usize,
     },
     LoadSamples {
+        bench: usize,
         n: usize,
         from: usize,
         middle: usize,
         to: usize,
     },
-    Turn(usize, usize),
-    Sweep,
-    LoosePair(u64),
-    Axis(usize),
+    Turn {
+        bench: usize,
+        p: usize,
+        q: usize,
+    },
+    Sweep(usize),
+    LoosePair {
+        bench: usize,
+        t: u64,
+    },
+    Axis {
+        bench: usize,
+        i: usize,
+    },
     NoCall,
-    TournamentSweep,
+    TournamentSweep(usize),
 }
 
 // The most numbers of a line.
@@ -45,24 +57,25 @@ pub(crate) fn argument(x: i64) -> u64
     x as u64
 }
 
-fn load(numbers: &[i64], count: usize) -> Request
+fn load(bench: usize, numbers: &[i64], count: usize) -> Request
     requires { ⌜ count ≤ length (now numbers) ⌝ }
-    ensures { λ z. ⌜ z ≡ askedFor (loadBy (take count (now (numbers .entry)))) ⌝ }
+    ensures { λ z. ⌜ z ≡ askedFor (named bench (loadBy (take count (now (numbers .entry))))) ⌝ }
 {
     if count < 1 {
         return Request::NoCall;
     }
     Request::Load {
+        bench,
         n: argument(numbers[0]) as usize,
-        from: 1,
-        to: count,
+        from: 2,
+        to: count + 1,
     }
 }
 
 // n and k, the number of samples; then k dilutions, then the counts.
-fn load_samples(numbers: &[i64], count: usize) -> Request
+fn load_samples(bench: usize, numbers: &[i64], count: usize) -> Request
     requires { ⌜ count ≤ length (now numbers) ⌝ }
-    ensures { λ z. ⌜ z ≡ askedFor (samplesBy (take count (now (numbers .entry)))) ⌝ }
+    ensures { λ z. ⌜ z ≡ askedFor (named bench (samplesBy (take count (now (numbers .entry))))) ⌝ }
 {
     if count < 2 {
         return Request::NoCall;
@@ -75,89 +88,113 @@ fn load_samples(numbers: &[i64], count: usize) -> Request
         return Request::NoCall;
     }
     Request::LoadSamples {
+        bench,
         n: argument(numbers[0]) as usize,
-        from: 2,
-        middle: 2 + k,
-        to: count,
+        from: 3,
+        middle: 3 + k,
+        to: count + 1,
     }
 }
 
-fn turn(numbers: &[i64], count: usize) -> Request
+fn turn(bench: usize, numbers: &[i64], count: usize) -> Request
     requires { ⌜ count ≤ length (now numbers) ⌝ }
-    ensures { λ z. ⌜ z ≡ askedFor (turnBy (take count (now (numbers .entry)))) ⌝ }
+    ensures { λ z. ⌜ z ≡ askedFor (named bench (turnBy (take count (now (numbers .entry))))) ⌝ }
 {
     if count != 2 {
         return Request::NoCall;
     }
-    Request::Turn(argument(numbers[0]) as usize, argument(numbers[1]) as usize)
+    Request::Turn {
+        bench,
+        p: argument(numbers[0]) as usize,
+        q: argument(numbers[1]) as usize,
+    }
 }
 
-fn sweep(numbers: &[i64], count: usize) -> Request
+fn sweep(bench: usize, numbers: &[i64], count: usize) -> Request
     requires { ⌜ count ≤ length (now numbers) ⌝ }
-    ensures { λ z. ⌜ z ≡ askedFor (sweepBy Cyclic (take count (now (numbers .entry)))) ⌝ }
+    ensures { λ z. ⌜ z ≡ askedFor (named bench (sweepBy Cyclic (take count (now (numbers .entry))))) ⌝ }
 {
     if count != 0 {
         return Request::NoCall;
     }
-    Request::Sweep
+    Request::Sweep(bench)
 }
 
-fn tournament_sweep(numbers: &[i64], count: usize) -> Request
+fn tournament_sweep(bench: usize, numbers: &[i64], count: usize) -> Request
     requires { ⌜ count ≤ length (now numbers) ⌝ }
-    ensures { λ z. ⌜ z ≡ askedFor (sweepBy Tournament (take count (now (numbers .entry)))) ⌝ }
+    ensures { λ z. ⌜ z ≡ askedFor (named bench (sweepBy Tournament (take count (now (numbers .entry))))) ⌝ }
 {
     if count != 0 {
         return Request::NoCall;
     }
-    Request::TournamentSweep
+    Request::TournamentSweep(bench)
 }
 
-fn loose_pair(numbers: &[i64], count: usize) -> Request
+fn loose_pair(bench: usize, numbers: &[i64], count: usize) -> Request
     requires { ⌜ count ≤ length (now numbers) ⌝ }
-    ensures { λ z. ⌜ z ≡ askedFor (oneBy loosePair (take count (now (numbers .entry)))) ⌝ }
+    ensures { λ z. ⌜ z ≡ askedFor (named bench (oneBy loosePair (take count (now (numbers .entry))))) ⌝ }
 {
     if count != 1 {
         return Request::NoCall;
     }
-    Request::LoosePair(argument(numbers[0]))
+    Request::LoosePair {
+        bench,
+        t: argument(numbers[0]),
+    }
 }
 
-fn axis(numbers: &[i64], count: usize) -> Request
+fn axis(bench: usize, numbers: &[i64], count: usize) -> Request
     requires { ⌜ count ≤ length (now numbers) ⌝ }
-    ensures { λ z. ⌜ z ≡ askedFor (oneBy axis (take count (now (numbers .entry)))) ⌝ }
+    ensures { λ z. ⌜ z ≡ askedFor (named bench (oneBy axis (take count (now (numbers .entry))))) ⌝ }
 {
     if count != 1 {
         return Request::NoCall;
     }
-    Request::Axis(argument(numbers[0]) as usize)
+    Request::Axis {
+        bench,
+        i: argument(numbers[0]) as usize,
+    }
 }
 
-fn by_tag(tag: u8, numbers: &[i64], count: usize) -> Request
+// The numbers are those after the bench, here and in what it calls; the places count the bench too.
+fn by_tag(tag: u8, bench: usize, numbers: &[i64], count: usize) -> Request
     requires { ⌜ count ≤ length (now numbers) ⌝ }
-    ensures { λ z. ⌜ z ≡ askedFor (callBy tag (take count (now (numbers .entry)))) ⌝ }
+    ensures { λ z. ⌜ z ≡ askedFor (named bench (callBy tag (take count (now (numbers .entry))))) ⌝ }
 {
     if tag == b'L' {
-        return load(numbers, count);
+        return load(bench, numbers, count);
     }
     if tag == b'M' {
-        return load_samples(numbers, count);
+        return load_samples(bench, numbers, count);
     }
     if tag == b'T' {
-        return turn(numbers, count);
+        return turn(bench, numbers, count);
     }
     if tag == b'W' {
-        return sweep(numbers, count);
+        return sweep(bench, numbers, count);
     }
     if tag == b'Q' {
-        return loose_pair(numbers, count);
+        return loose_pair(bench, numbers, count);
     }
     if tag == b'A' {
-        return axis(numbers, count);
+        return axis(bench, numbers, count);
     }
     if tag == b'O' {
-        return tournament_sweep(numbers, count);
+        return tournament_sweep(bench, numbers, count);
     }
     Request::NoCall
+}
+
+// Document 02, W8: the bench stands after the tag.
+fn by_bench(tag: u8, numbers: &[i64], count: usize) -> Request
+    requires { ⌜ count ≤ length (now numbers) ⌝ }
+    ensures { λ z. ⌜ z ≡ askedFor (namedBy tag (take count (now (numbers .entry)))) ⌝ }
+{
+    if count < 1 {
+        return Request::NoCall;
+    }
+    let bench = argument(numbers[0]) as usize;
+    by_tag(tag, bench, &numbers[1..], count - 1)
 }
 
 // The request of a line, whose numbers are in the lent array then. A line has at most as many as the array has places.
@@ -167,5 +204,5 @@ pub fn read_line(line: &[u8], numbers: &mut [i64]) -> Request
     let Fields::Are { tag, count } = read_fields(line, numbers) else {
         return Request::NoCall;
     };
-    by_tag(tag, numbers, count)
+    by_bench(tag, numbers, count)
 }

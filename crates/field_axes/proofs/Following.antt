@@ -10,7 +10,8 @@ use lib.Seq.{length-take-le}
 use Rattle.ledger.specs.Call.{axis}
 use Rattle.report.specs.inner.AxisNumbers.{axesNumbers, axisNumbers}
 use Rattle.report.specs.laws.AxisNumbers.{axes-row, two-before}
-use Rattle.record.specs.Record.{answerOf, axisOf}
+use Rattle.record.specs.Record.{answerTo, rowTo}
+use Rattle.record.specs.Run.{own}
 use Rattle.record.specs.declared.Record.{Record}
 use Rattle.text.specs.Put.{Put}
 use Rattle.text.specs.laws.Put.{same-size}
@@ -37,13 +38,13 @@ module _ (n : ℕ) (rows : List (List ℤ)) (few : n ≤ 8) (w : Wide rows) wher
         mul-le-mul {n₁ = i + 1} {m₁ = n + 2} {n₂ = n} {m₂ = n + 2} (omega arith) (le-refl (n + 2)),
       )
 
-module _ (n : ℕ) (r : Record) (c : r .n ≡ n) (few : n ≤ 8) where
+module _ (n : ℕ) (r : Record) (c : r .solver .n ≡ n) (few : n ≤ 8) where
   row-used : (i : ℕ) → i < n → take (n + 2) (drop 1 (getD (axesNumbers r) i [])) ≡ axisSolution n r (suc i)
   unfolding axisNumbers axisSolution
   row-used i h =
       let e : n + 2 ≡ suc (suc n) = omega arith in
       rw (axes-row r i (omega arith) (omega arith), e)
-      (two-before (answerOf r (axis (suc i))) n (axisOf r (suc i)))
+      (two-before (answerTo r (own (axis (suc i)))) n (rowTo r 1 (suc i)))
 
   pub used-axes : (i : ℕ) → i ≤ n → used n (axesNumbers r) i ≡ axes n r i
   unfolding used axes

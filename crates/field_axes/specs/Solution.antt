@@ -10,7 +10,8 @@ use Rattle.ledger.specs.Refusal.{refusalOf}
 use Rattle.limits.specs.Unless.{unless}
 use Rattle.limits.specs.Limits.{leastSweeps, mostSweeps, toleranceLimit}
 use Rattle.report.specs.AxisNumbers.{axisValues}
-use Rattle.record.specs.Record.{answerOf, axisOf}
+use Rattle.record.specs.Record.{answerTo, rowTo}
+use Rattle.record.specs.Run.{own}
 use Rattle.record.specs.declared.Record.{Record}
 use Rattle.record.specs.declared.run.Run.{Run}
 use Rattle.run.specs.Run.{runOf}
@@ -24,7 +25,7 @@ outcomeNumber Spent = 2
 
 -- a_ii, r_i and the n numbers of row i of v
 unfoldable pub axisSolution : ℕ → Record → ℕ → List ℤ
-axisSolution n r i = axisValues (answerOf r (axis i)) ++ take n (axisOf r i)
+axisSolution n r i = axisValues (answerTo r (own (axis i))) ++ take n (rowTo r 1 i)
 
 -- for i = 1 to `last`
 unfoldable pub axes : ℕ → Record → ℕ → List ℤ
@@ -34,7 +35,7 @@ axes n r (suc last) = axes n r last ++ axisSolution n r (suc last)
 -- outcome, sweeps run, m, and the axes 1 to n
 unfoldable pub solution : ℕ → Run → List ℤ
 solution n z =
-    (pos (outcomeNumber (z .outcome)) ∷ pos (z .sweeps) ∷ pos (z .last .m) ∷ []) ++ axes n (z .last) n
+    (pos (outcomeNumber (z .outcome)) ∷ pos (z .sweeps) ∷ pos (z .last .solver .m) ∷ []) ++ axes n (z .last) n
 
 unfoldable pub solutionOf : ℕ → List ℤ → ℕ → ℕ → List ℤ
 solutionOf n numbers limit t = solution n (runOf n numbers limit t)

@@ -21,7 +21,7 @@ panelRun x = runOf 2 (panelEntries x) 16 0
 
 -- 'the three entries, sweeps run, m'
 unfoldable pub lineNumbers : Panel → List ℤ
-lineNumbers x = x .a11 ∷ x .a12 ∷ x .a22 ∷ pos (panelRun x .sweeps) ∷ pos (panelRun x .last .m) ∷ []
+lineNumbers x = x .a11 ∷ x .a12 ∷ x .a22 ∷ pos (panelRun x .sweeps) ∷ pos (panelRun x .last .solver .m) ∷ []
 
 -- numbers and a word, 'parted by tabs'
 unfoldable pub fieldsLine : List ℤ → List ℕ → List ℕ

@@ -1,4 +1,4 @@
--- 9,999,999,999 is beyond every range: a load with it as n is refused 5, an entry of it, of either sign, is not within the limit (refusal 8), a
+-- 9,999,999,999 is beyond every range: it is no bench, a load with it as n is refused 5, an entry of it, of either sign, is not within the limit (refusal 8), a
 -- tolerance of it is refused 2, and a channel or an axis of it 9; samples with it as n are refused 2. So are samples that have 4,294,967,295 for a
 -- dilution or a count, and a reading that is in a range is the number itself.
 use Prim.Native.Nat.{ℕ, _≤_, _<_}
@@ -12,10 +12,16 @@ use lib.IntN.{ℤ, natAbs, negsuc, pos}
 use Rattle.integer.specs.Within.{allWithin, within}
 use Rattle.limits.specs.Limits.{entryLimit, leastDilution, mostCount, mostDilution}
 use Rattle.readings.specs.Refusal.{samplesRefusal}
+use Rattle.ledger.specs.Bench.{isBench}
 use Rattle.ledger.specs.Call.{load, loadSamples, turn, loosePair, axis}
 use Rattle.ledger.specs.Refusal.{refusalOf, refusalUnder, entriesWithin}
 use Rattle.call_text.specs.Calls.{mostReading, reading}
 use Rattle.call_text.specs.Numbers.{beyond}
+
+-- it is no bench
+pub bench-beyond : isBench beyond ≡ false
+unfolding isBench within
+bench-beyond = refl
 
 and-false : (t : Bool) → (t && false) ≡ false
 and-false true = refl

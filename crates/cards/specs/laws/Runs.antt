@@ -60,16 +60,16 @@ threeRun = runOf 2 (twoByTwo (pos 50) (pos 25) (pos 50)) 1 0
 pub record Spends : Type 0 where
   pub outcome : threeRun .outcome ≡ Spent
   pub sweeps : threeRun .sweeps ≡ 1
-  pub turns : threeRun .last .m ≡ 1
-  pub channels : threeRun .last .n ≡ 2
-  pub shift : threeRun .last .e ≡ 0
-  pub axis-1 : answerOf (threeRun .last) (axis 1) ≡ Axis (pos 26624) 7172
-  pub row-1 : axisOf (threeRun .last) 1 ≡ pos 644245094 ∷ neg 858993459 ∷ pos 0 ∷ pos 0 ∷ pos 0 ∷ pos 0 ∷ pos 0 ∷ pos 0 ∷ []
-  pub axis-2 : answerOf (threeRun .last) (axis 2) ≡ Axis (pos 75776) 7172
-  pub row-2 : axisOf (threeRun .last) 2 ≡ pos 858993459 ∷ pos 644245094 ∷ pos 0 ∷ pos 0 ∷ pos 0 ∷ pos 0 ∷ pos 0 ∷ pos 0 ∷ []
+  pub turns : threeRun .last .solver .m ≡ 1
+  pub channels : threeRun .last .solver .n ≡ 2
+  pub shift : threeRun .last .solver .e ≡ 0
+  pub axis-1 : answerTo (threeRun .last) (own (axis 1)) ≡ Axis (pos 26624) 7172
+  pub row-1 : rowTo (threeRun .last) 1 1 ≡ pos 644245094 ∷ neg 858993459 ∷ pos 0 ∷ pos 0 ∷ pos 0 ∷ pos 0 ∷ pos 0 ∷ pos 0 ∷ []
+  pub axis-2 : answerTo (threeRun .last) (own (axis 2)) ≡ Axis (pos 75776) 7172
+  pub row-2 : rowTo (threeRun .last) 1 2 ≡ pos 858993459 ∷ pos 644245094 ∷ pos 0 ∷ pos 0 ∷ pos 0 ∷ pos 0 ∷ pos 0 ∷ pos 0 ∷ []
 
 pub spends : Spends
-unfolding runAfter runFrom tried noPair noTurn answerOf valueOf afterOfUnder acceptedOfUnder axisOf fresh loadedRecord inUse sweptOf workOf workedOf
+unfolding runAfter runFrom tried noPair noTurn answerOf valueOf afterOfUnder acceptedOfUnder rowTo fresh 1 loadedRecord inUse sweptOf workOf workedOf
     looseOf tabulate keptEntry entriesOf rowsOf flatOf chosen workBy workPair workPairs errorOf tableError cyclic rowsFrom row matrixOf equal
     symmetric entriesWithin refusalUnder diagonal sumℕ choose smallestFit fits threshold roundedUp u w minusSign negative rotationOf signed first
     second turnMatrix turnAxes turnedAxes array eight at turned newp newq newpp newpq newqq hpp hpq hqp hqq atPair rnd

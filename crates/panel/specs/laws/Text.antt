@@ -78,7 +78,7 @@ module _ (x : Panel) (s : SmallPanel 8 x) where
   unfolding panelRun
   sweeps-most = run-ends (load 2 (panelEntries x)) 16 0 .within
 
-  pub turns-most : panelRun x .last .m ≤ 16
+  pub turns-most : panelRun x .last .solver .m ≤ 16
   unfolding panelRun
   turns-most =
       let begins = matrix-begins 2 (panelEntries x) 16 0 panel-allowed in
@@ -140,7 +140,7 @@ line-few x s =
       entry-few (x .a12) (s .a12),
       entry-few (x .a22) (s .a22),
       count-few (panelRun x .sweeps) (sweeps-most x s),
-      count-few (panelRun x .last .m) (turns-most x s),
+      count-few (panelRun x .last .solver .m) (turns-most x s),
       word-few (panelRun x .outcome),
     )))
 

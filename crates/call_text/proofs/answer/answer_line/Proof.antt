@@ -48,7 +48,7 @@ axis c =
 
 refused : tie.Need-returns-10
 unfolding shown shownAs
-refused c = rw (c .before .before .before .answer7 .given .1) (c .two-numbers2 .ensures)
+refused c = rw (c .before .before .answer7 .given .1) (c .refused-line .ensures)
 
 pub answer-line-spec : {M : Type 1} → statement M
 answer-line-spec =
@@ -72,8 +72,6 @@ answer-line-spec =
     (λ c κs. search needs)
     (λ c. search needs)
     (λ c κs. search needs)
-    (λ c. search needs)
-    (λ c. search needs)
     (λ c. search needs)
     (λ c κs. search needs)
     loaded

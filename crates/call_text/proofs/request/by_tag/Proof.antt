@@ -1,5 +1,6 @@
 -- `request::by_tag` meets its contract: the tag decides.
 use borrow.Author.Needs.{needs}
+use Rattle.call_text.specs.Calls.{named}
 use Rattle.call_text.specs.Requests.{askedFor}
 use Rattle.call_text.proofs.Asking.{of-axis, of-load, of-none, of-pair, of-samples, of-sweep, of-tournament-sweep, of-turn}
 use Rattle.call_text.proofs.request.by_tag.Statement.{statement}
@@ -45,7 +46,7 @@ tournament-sweep c =
     (t .before .before .if5 .left) (t .before .if6 .left) (t .if7 .taken)) (c .tournament-sweep .ensures)
 
 other : tie.Need-returns-8
-unfolding askedFor
+unfolding named askedFor
 other c = rw (of-none _ _ (c .before .before .before .before .before .before .if1 .left) (c .before .before .before .before .before .if2 .left)
     (c .before .before .before .before .if3 .left) (c .before .before .before .if4 .left) (c .before .before .if5 .left) (c .before .if6 .left)
     (c .if7 .left))

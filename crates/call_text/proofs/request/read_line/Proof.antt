@@ -8,15 +8,15 @@ returns : tie.Need-returns
 returns c =
     asks-none _ _ _ _ (c .before .before .before .read-fields .ensures) (c .enum-told .given .1)
 
-by-tag-requires : tie.Need-by-tag-requires
-by-tag-requires c κs =
+by-bench-requires : tie.Need-by-bench-requires
+by-bench-requires c κs =
     let x = c .before .before in
     in-array _ _ _ _ (x .before .before .before .read-fields .ensures) _ _ (x .tag .given .1)
 
 returns-2 : tie.Need-returns-2
 returns-2 c =
     let x = c .before .before .before in
-    asks-some _ _ _ _ (x .before .before .before .read-fields .ensures) _ _ (x .tag .given .1) _ (c .by-tag .ensures)
+    asks-some _ _ _ _ (x .before .before .before .read-fields .ensures) _ _ (x .tag .given .1) _ (c .by-bench .ensures)
 
 pub read-line-spec : {M : Type 1} → statement M
 read-line-spec =
@@ -27,6 +27,6 @@ read-line-spec =
     (λ c. search needs)
     (λ c. search needs)
     returns
-    by-tag-requires
+    by-bench-requires
     (λ c. search needs)
     returns-2)

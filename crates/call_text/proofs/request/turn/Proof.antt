@@ -10,7 +10,7 @@ use Rattle.call_text.proofs.request.turn.Statement.{statement}
 use Rattle.call_text.proofs.request.turn.Tie as tie
 
 returns : tie.Need-returns
-returns c = no-turn _ _ (c .before .pre) (c .if1 .taken)
+returns c = no-turn _ _ _ (c .before .pre) (c .if1 .taken)
 
 returns-2 : tie.Need-returns-2
 returns-2 c =
@@ -18,7 +18,7 @@ returns-2 c =
     let s = a .before .before .before in
     let f : SFits w64 (getD (s .args .numbers .now) 0 (pos 0)) = search needs in
     let g : SFits w64 (getD (s .args .numbers .now) 1 (pos 0)) = search needs in
-    a-turn _ _ (s .pre) _ (rw (toZ-ofZ f) at (a .argument .ensures)) _ (rw (toZ-ofZ g) at (c .argument2 .ensures))
+    a-turn _ _ _ (s .pre) _ (rw (toZ-ofZ f) at (a .argument .ensures)) _ (rw (toZ-ofZ g) at (c .argument2 .ensures))
     (a .before .before .if1 .left)
 
 pub turn-spec : {M : Type 1} → statement M

@@ -26,8 +26,8 @@ sweeps c =
     let a = s .args in
     rw (c .run .ensures .is) (omega (arith, run-ends (load (a .n) (a .numbers .now)) (a .limit) (a .tolerance) .within, s .pre .allowed .sweeps))
 
-turns : (c : tie.After-run) (m : ℕ) → m ≡ c .run .result .last .m → m < 2 ^ 63
-turns c m made = rw made (omega (arith, c .run .ensures .keeps .turns))
+turns : (c : tie.After-run) (m : ℕ) → m ≡ c .run .result .last .solver .m → m < 2 ^ 63
+turns c m made = rw made (omega (arith, c .run .ensures .keeps .solver .turns))
 
 put-axes-requires : tie.Need-put-axes-requires
 put-axes-requires c κs =

@@ -25,9 +25,9 @@ module _ (c : tie.After-run-panel) where
       let e = ap (λ (z : Run). z .sweeps) (c .run-panel .ensures) in
       record { sfits = omega (arith, e, sweeps-most (start .args .x) (small 8 (start .args .x) (start .pre))) }
 
-  turned : (m : ℕ) → m ≡ c .run-panel .result .last .m → SFits w64 (pos m)
+  turned : (m : ℕ) → m ≡ c .run-panel .result .last .solver .m → SFits w64 (pos m)
   turned m made =
-      let e = ap (λ (z : Run). z .last .m) (c .run-panel .ensures) in
+      let e = ap (λ (z : Run). z .last .solver .m) (c .run-panel .ensures) in
       record { sfits = omega (arith, e, turns-most (start .args .x) (small 8 (start .args .x) (start .pre))) }
 
 returns : tie.Need-returns
@@ -46,7 +46,7 @@ returns c =
           ∷ toZ-ofZ g i
           ∷ toZ-ofZ h i
           ∷ (toZ-ofZ (swept ran) ∙ ap (λ (z : Run). pos (z .sweeps)) run) i
-          ∷ (toZ-ofZ (turned ran (turns .result) (turns .ensures)) ∙ ap pos (turns .ensures) ∙ ap (λ (z : Run). pos (z .last .m)) run) i
+          ∷ (toZ-ofZ (turned ran (turns .result) (turns .ensures)) ∙ ap pos (turns .ensures) ∙ ap (λ (z : Run). pos (z .last .solver .m)) run) i
           ∷ [];
       outcome = ap (λ (z : Run). z .outcome) run;
     }
