@@ -7,6 +7,7 @@ use denote.Ref.{now}
 use denote.Signature.{Slot, plain, typesAt}
 use denote.RattleType.{Denots}
 use contract.Lifetimes.{Lfts}
+use Rattle.ledger.specs.Bench.{by}
 use Rattle.ledger.specs.Call.{load, loadSamples, sweep, tournamentSweep, turn}
 use Rattle.record.specs.Done.{AxisDone, Done, LooseDone}
 use Rattle.record.specs.Kept.{Kept}
@@ -32,41 +33,42 @@ abbrev pub keeping : {n : ℕ} (ss : List (Slot n)) (κs : Lfts n) → Denots (t
 keeping ss κs a r = Kept r
 
 abbrev pub load-slots : List (Slot 2)
-load-slots = word ∷ integers ∷ []
+load-slots = word ∷ word ∷ integers ∷ []
 
 abbrev pub load-done : (κs : Lfts 2) → Denots (typesAt load-slots κs) → Record → Answer → Record → Type 0
-load-done κs a r z next = Done r (load (a .0) (now (a .1 .0))) z next
+load-done κs a r z next = Done r (by (a .0) (load (a .1 .0) (now (a .1 .1 .0)))) z next
 
 -- two slices of readings, at the second lifetime and at the third
 abbrev pub samples-slots : List (Slot 3)
-samples-slots = word ∷ SliceRefOf (1 ∷ []) tt (plain (λ κs. u32)) (λ κs. tt) ∷ SliceRefOf (2 ∷ []) tt (plain (λ κs. u32)) (λ κs. tt) ∷ []
+samples-slots =
+    word ∷ word ∷ SliceRefOf (1 ∷ []) tt (plain (λ κs. u32)) (λ κs. tt) ∷ SliceRefOf (2 ∷ []) tt (plain (λ κs. u32)) (λ κs. tt) ∷ []
 
 abbrev pub samples-done : (κs : Lfts 3) → Denots (typesAt samples-slots κs) → Record → Answer → Record → Type 0
-samples-done κs a r z next = Done r (loadSamples (a .0) (now (a .1 .0)) (now (a .1 .1 .0))) z next
+samples-done κs a r z next = Done r (by (a .0) (loadSamples (a .1 .0) (now (a .1 .1 .0)) (now (a .1 .1 .1 .0)))) z next
 
 abbrev pub turn-slots : List (Slot 1)
-turn-slots = word ∷ word ∷ []
+turn-slots = word ∷ word ∷ word ∷ []
 
 abbrev pub turn-done : (κs : Lfts 1) → Denots (typesAt turn-slots κs) → Record → Answer → Record → Type 0
-turn-done κs a r z next = Done r (turn (a .0) (a .1 .0)) z next
+turn-done κs a r z next = Done r (by (a .0) (turn (a .1 .0) (a .1 .1 .0))) z next
 
 abbrev pub sweep-slots : List (Slot 1)
-sweep-slots = []
+sweep-slots = word ∷ []
 
 abbrev pub sweep-done : (κs : Lfts 1) → Denots (typesAt sweep-slots κs) → Record → Answer → Record → Type 0
-sweep-done κs a r z next = Done r sweep z next
+sweep-done κs a r z next = Done r (by (a .0) sweep) z next
 
 abbrev pub tournament-done : (κs : Lfts 1) → Denots (typesAt sweep-slots κs) → Record → Answer → Record → Type 0
-tournament-done κs a r z next = Done r tournamentSweep z next
+tournament-done κs a r z next = Done r (by (a .0) tournamentSweep) z next
 
-abbrev pub one-slots : List (Slot 1)
-one-slots = word ∷ []
+abbrev pub two-slots : List (Slot 1)
+two-slots = word ∷ word ∷ []
 
-abbrev pub pair-done : (κs : Lfts 1) → Denots (typesAt one-slots κs) → Record → Answer → Record → Type 0
-pair-done κs a r z next = LooseDone r (a .0) z next
+abbrev pub pair-done : (κs : Lfts 1) → Denots (typesAt two-slots κs) → Record → Answer → Record → Type 0
+pair-done κs a r z next = LooseDone r (a .0) (a .1 .0) z next
 
-abbrev pub axis-done : (κs : Lfts 1) → Denots (typesAt one-slots κs) → Record → AxisAnswer → Record → Type 0
-axis-done κs a r z next = AxisDone r (a .0) z next
+abbrev pub axis-done : (κs : Lfts 1) → Denots (typesAt two-slots κs) → Record → AxisAnswer → Record → Type 0
+axis-done κs a r z next = AxisDone r (a .0) (a .1 .0) z next
 
 -- `play::call`: the request; the numbers, at the second lifetime; their readings, at the third
 abbrev pub call-numbers : Slot 3

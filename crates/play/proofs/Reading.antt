@@ -11,6 +11,7 @@ use lib.ListN.{length, take, drop, drop-of-length-le, length-drop, length-map, t
 use lib.Seq.{drop-append-le, length-take-le, take-append-le}
 use Rattle.text.specs.Parts.{split}
 use Rattle.ledger.specs.Call.{loadSamples}
+use Rattle.ledger.specs.Bench.{by}
 use Rattle.call_text.specs.Calls.{callOf, callWithin, numberLimit, reading}
 use Rattle.call_text.specs.Requests.{Asks, Placed, part, requestCall}
 use Rattle.call_text.specs.declared.request.Request.{Request}
@@ -56,27 +57,27 @@ read-call : (request : Request) (numbers : List ℤ) (entry : List ℕ) → Plac
     requestCall request numbers (map reading (take (samplesEnd request) numbers) ++ drop (samplesEnd request) entry)
     ≡ requestCall request numbers (map reading numbers)
 unfolding requestCall samplesEnd
-read-call (Load n from to) numbers entry p = refl
-read-call (LoadSamples n from middle to) numbers entry p =
-    λ i. some (loadSamples n (read-part numbers entry to (p .2) from middle (p .0) (p .1) i)
-    (read-part numbers entry to (p .2) middle to (p .1) (omega arith) i))
-read-call (Turn p q) numbers entry h = refl
-read-call Sweep numbers entry h = refl
-read-call (LoosePair t) numbers entry h = refl
-read-call (Axis i) numbers entry h = refl
+read-call (Load bench n from to) numbers entry p = refl
+read-call (LoadSamples bench n from middle to) numbers entry p =
+    λ i. some (by bench (loadSamples n (read-part numbers entry to (p .2) from middle (p .0) (p .1) i)
+    (read-part numbers entry to (p .2) middle to (p .1) (omega arith) i)))
+read-call (Turn bench p q) numbers entry h = refl
+read-call (Sweep bench) numbers entry h = refl
+read-call (LoosePair bench t) numbers entry h = refl
+read-call (Axis bench i) numbers entry h = refl
 read-call NoCall numbers entry h = refl
-read-call TournamentSweep numbers entry h = refl
+read-call (TournamentSweep bench) numbers entry h = refl
 
 pub samples-within : (request : Request) (size : ℕ) → Placed size request → samplesEnd request ≤ size
 unfolding samplesEnd
-samples-within (Load n from to) size p = omega arith
-samples-within (LoadSamples n from middle to) size p = p .2
-samples-within (Turn p q) size h = omega arith
-samples-within Sweep size h = omega arith
-samples-within (LoosePair t) size h = omega arith
-samples-within (Axis i) size h = omega arith
+samples-within (Load bench n from to) size p = omega arith
+samples-within (LoadSamples bench n from middle to) size p = p .2
+samples-within (Turn bench p q) size h = omega arith
+samples-within (Sweep bench) size h = omega arith
+samples-within (LoosePair bench t) size h = omega arith
+samples-within (Axis bench i) size h = omega arith
 samples-within NoCall size h = omega arith
-samples-within TournamentSweep size h = omega arith
+samples-within (TournamentSweep bench) size h = omega arith
 
 module _ (text : List ℕ) (left : Bool) (here : Cursor) where
   pub at-end : length text ≤ here .at → (numbers : List ℤ) (readings : List ℕ) (z : NextLine) → z ≡ endAt here (not left) →

@@ -8,13 +8,14 @@ use native.Mathlib.Omega.{arith}
 use lib.Dec.{eqb}
 use lib.IntN.{ℤ}
 use lib.ListN.{length}
+use Rattle.ledger.specs.Bench.{NamedCall}
 use Rattle.ledger.specs.Call.{Call, load, loadSamples, turn, sweepIn, loosePair, axis}
 use Rattle.ledger.specs.declared.Order.the-variants.{Cyclic, Tournament}
 use Rattle.record.specs.declared.AxisAnswer.{AxisAnswer}
 use Rattle.record.specs.declared.Record.{Record}
 use Rattle.call_text.specs.Answers.{answerLine, toldOf}
 use Rattle.call_text.specs.Calls.{callOf}
-use Rattle.call_text.specs.Requests.{askedFor, requestCall}
+use Rattle.call_text.specs.Requests.{askedBy, askedFor, requestCall}
 use Rattle.play.specs.Steps.{Reached, Steps, afterCall, firstCall, gone, linesFrom, pastLine, stepped, steppedBy, stoppedAt}
 use Rattle.play.specs.laws.Steps.{line-within}
 use Rattle.play.specs.Text.{unknownLine}
@@ -24,26 +25,26 @@ use Rattle.play.specs.declared.step.Stepped.{Stepped}
 use Rattle.play.specs.inner.Calls.{Answers, answerFor}
 use Rattle.play.specs.inner.Lines.{Reads, Says, endAt, isCall, lineAt, nextLine, saidBy, toldWith}
 
-is-call : (call : Call) → isCall (askedFor (some call)) ≡ true
-unfolding isCall askedFor
-is-call (load n numbers) = refl
-is-call (loadSamples n dilutions counts) = refl
-is-call (turn p q) = refl
-is-call (sweepIn Cyclic) = refl
-is-call (sweepIn Tournament) = refl
-is-call (loosePair t) = refl
-is-call (axis i) = refl
+is-call : (bench : ℕ) (call : Call) → isCall (askedBy bench call) ≡ true
+unfolding isCall askedBy
+is-call bench (load n numbers) = refl
+is-call bench (loadSamples n dilutions counts) = refl
+is-call bench (turn p q) = refl
+is-call bench (sweepIn Cyclic) = refl
+is-call bench (sweepIn Tournament) = refl
+is-call bench (loosePair t) = refl
+is-call bench (axis i) = refl
 
 no-call : isCall (askedFor none) ≡ false
 unfolding isCall askedFor
 no-call = refl
 
 -- a line with the call o
-said-line : (r : Record) (here : Cursor) (size : ℕ) (y : AxisAnswer) (next : Record) (o : Option Call) → y ≡ answerFor r o → next ≡ afterCall r o →
+said-line : (r : Record) (here : Cursor) (size : ℕ) (y : AxisAnswer) (next : Record) (o : Option NamedCall) → y ≡ answerFor r o → next ≡ afterCall r o →
     saidBy (lineAt here size (askedFor o)) y next ≡ steppedBy r here size o
-unfolding saidBy lineAt steppedBy toldWith toldOf answerFor afterCall answerLine
+unfolding saidBy lineAt steppedBy toldWith toldOf answerFor afterCall answerLine askedFor
 said-line r here size y next none a l = rw no-call
-said-line r here size y next (some call) a l = rw (is-call call, a, l)
+said-line r here size y next (some call) a l = rw (is-call (call .bench) (call .call), a, l)
 
 module _ (left : Bool) (r : Record) (here : Cursor) (y : AxisAnswer) (next : Record) where
   abbrev Goes : List (List ℕ) → Type 0
@@ -83,7 +84,7 @@ module _ (text : List ℕ) (left : Bool) (here : Cursor) (r : Record) (z : Stepp
       never false = refl
   onto (line ∷ part ∷ parts) q e l m = by (callOf line) refl e l
     where
-      by : (o : Option Call) → callOf line ≡ o → z ≡ steppedBy r here (length line) o → next ≡ afterCall r o →
+      by : (o : Option NamedCall) → callOf line ≡ o → z ≡ steppedBy r here (length line) o → next ≡ afterCall r o →
           ((here .at < z .next .at) × (z .next .at ≤ length text)) × Reached text next (z .next)
       by none c e l = absurd (true≢false (sym m ∙ ap (λ (s : Stepped). s .more) e))
       by (some call) c e l =

@@ -7,8 +7,8 @@ use mathlib.Core.Option.{Option, none, some}
 use lib.Dec.{eqb}
 use lib.ListN.{drop, length}
 use Rattle.text.specs.Parts.{split}
-use Rattle.ledger.specs.Call.{Call}
-use Rattle.record.specs.Record.{afterOf, fresh}
+use Rattle.ledger.specs.Bench.{NamedCall}
+use Rattle.record.specs.Record.{fresh, recordAfter}
 use Rattle.record.specs.declared.Record.{Record}
 use Rattle.call_text.specs.Answers.{answerLine, linePrinted}
 use Rattle.call_text.specs.Calls.{callOf}
@@ -29,20 +29,20 @@ unfoldable pub linesFrom : List ℕ → Cursor → List (List ℕ)
 linesFrom text here = split 10 (drop (here .at) text)
 
 -- the call of the first of them, if it is one
-unfoldable pub firstCall : List (List ℕ) → Option Call
+unfoldable pub firstCall : List (List ℕ) → Option NamedCall
 firstCall [] = none
 firstCall (part ∷ []) = none
 firstCall (line ∷ part ∷ parts) = callOf line
 
-unfoldable pub afterCall : Record → Option Call → Record
+unfoldable pub afterCall : Record → Option NamedCall → Record
 afterCall r none = r
-afterCall r (some call) = afterOf r call
+afterCall r (some call) = recordAfter r call
 
 -- the text's end, or a line that is no call
 unfoldable pub stoppedAt : Cursor → List ℕ → Stepped
 stoppedAt here text = record { more = false; next = here; line = linePrinted text }
 
-unfoldable pub steppedBy : Record → Cursor → ℕ → Option Call → Stepped
+unfoldable pub steppedBy : Record → Cursor → ℕ → Option NamedCall → Stepped
 steppedBy r here size none = stoppedAt here (unknownLine (here .line))
 steppedBy r here size (some call) = record { more = true; next = pastLine here size; line = linePrinted (answerLine r call) }
 
@@ -54,8 +54,8 @@ stepped left r here (line ∷ part ∷ parts) = steppedBy r here (length line) (
 -- What the lines before a cursor have come to: a fresh record at the text's start; or what a line that is a call leaves, and the cursor after it.
 pub data Reached (text : List ℕ) : Record → Cursor → Type 0 where
   begun : Reached text fresh startCursor
-  gone : {r : Record} {here : Cursor} (line part : List ℕ) (parts : List (List ℕ)) (call : Call) → Reached text r here →
-      linesFrom text here ≡ line ∷ part ∷ parts → callOf line ≡ some call → Reached text (afterOf r call) (pastLine here (length line))
+  gone : {r : Record} {here : Cursor} (line part : List ℕ) (parts : List (List ℕ)) (call : NamedCall) → Reached text r here →
+      linesFrom text here ≡ line ∷ part ∷ parts → callOf line ≡ some call → Reached text (recordAfter r call) (pastLine here (length line))
 
 -- the line at a cursor, played on the record r: what it prints, and the record after it
 pub record Steps (text : List ℕ) (left : Bool) (here : Cursor) (r : Record) (z : Stepped) (next : Record) : Type 0 where

@@ -6,8 +6,8 @@ use mathlib.Core.Option.{Option, none, some}
 use lib.Dec.{eqb, ltb}
 use lib.ListN.{length, take}
 use Rattle.text.specs.Parts.{split}
-use Rattle.ledger.specs.Call.{Call}
-use Rattle.record.specs.Record.{afterOf, fresh}
+use Rattle.ledger.specs.Bench.{NamedCall}
+use Rattle.record.specs.Record.{fresh, recordAfter}
 use Rattle.record.specs.declared.Record.{Record}
 use Rattle.text.specs.Decimal.{digits}
 use Rattle.call_text.specs.Answers.{answerLine}
@@ -19,9 +19,9 @@ unfoldable pub unknownLine : ℕ → List ℕ
 unknownLine k = line ((63 ∷ []) ∷ digits k ∷ [])
 
 -- a line that is a call prints its answer, and the lines after it are played on; at another line it stops
-unfoldable pub lineThen : Record → ℕ → Option Call → (Record → List ℕ) → List ℕ
+unfoldable pub lineThen : Record → ℕ → Option NamedCall → (Record → List ℕ) → List ℕ
 lineThen r k none go = unknownLine k
-lineThen r k (some call) go = answerLine r call ++ go (afterOf r call)
+lineThen r k (some call) go = answerLine r call ++ go (recordAfter r call)
 
 -- What the lines from number k on print, played on the record r. The last part has no line feed after it: it is no line where it is empty and no
 -- input is left after the text, else a line that was not read whole.

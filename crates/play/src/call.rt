@@ -44,11 +44,12 @@ pub(crate) fn call(
     ensures { λ z. ⌜ Answers (now (r .entry)) (requestCall request (now (numbers .entry)) (now (readings .entry))) z (now (r .exit)) ⌝ }
 {
     match request {
-        Request::Load { n, from, to } => {
+        Request::Load { bench, n, from, to } => {
             let numbers = entries_at(numbers, from, to);
-            plain(lent::load(r, n, numbers))
+            plain(lent::load(r, bench, n, numbers))
         }
         Request::LoadSamples {
+            bench,
             n,
             from,
             middle,
@@ -56,13 +57,13 @@ pub(crate) fn call(
         } => {
             let dilutions = readings_at(readings, from, middle);
             let counts = readings_at(readings, middle, to);
-            plain(lent::load_samples(r, n, dilutions, counts))
+            plain(lent::load_samples(r, bench, n, dilutions, counts))
         }
-        Request::Turn(p, q) => plain(lent::turn(r, p, q)),
-        Request::Sweep => plain(lent::sweep(r)),
-        Request::LoosePair(t) => plain(lent::loose_pair(r, t)),
-        Request::Axis(i) => lent::axis(r, i),
+        Request::Turn { bench, p, q } => plain(lent::turn(r, bench, p, q)),
+        Request::Sweep(bench) => plain(lent::sweep(r, bench)),
+        Request::LoosePair { bench, t } => plain(lent::loose_pair(r, bench, t)),
+        Request::Axis { bench, i } => lent::axis(r, bench, i),
         Request::NoCall => plain(Answer::Loaded),
-        Request::TournamentSweep => plain(lent::tournament_sweep(r)),
+        Request::TournamentSweep(bench) => plain(lent::tournament_sweep(r, bench)),
     }
 }

@@ -56,12 +56,12 @@ fn samples_end(request: Request) -> usize
     match request {
         Request::Load { .. } => 0,
         Request::LoadSamples { to, .. } => to,
-        Request::Turn(_, _) => 0,
-        Request::Sweep => 0,
-        Request::LoosePair(_) => 0,
-        Request::Axis(_) => 0,
+        Request::Turn { .. } => 0,
+        Request::Sweep(_) => 0,
+        Request::LoosePair { .. } => 0,
+        Request::Axis { .. } => 0,
         Request::NoCall => 0,
-        Request::TournamentSweep => 0,
+        Request::TournamentSweep(_) => 0,
     }
 }
 

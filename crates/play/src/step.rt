@@ -34,7 +34,7 @@ fn unknown_line(k: u64) -> Printed
 }
 
 fn answered_line(answer: AxisAnswer, r: Record) -> Printed
-    requires { ⌜ r .n ≤ 8 ⌝ }
+    requires { ⌜ r .solver .n ≤ 8 ⌝ }
     ensures { λ z. ⌜ Prints (shown (toldWith answer r)) z ⌝ }
 {
     let value = answer.value;
@@ -53,18 +53,18 @@ fn is_call(request: Request) -> bool
     match request {
         Request::Load { .. } => true,
         Request::LoadSamples { .. } => true,
-        Request::Turn(_, _) => true,
-        Request::Sweep => true,
-        Request::LoosePair(_) => true,
-        Request::Axis(_) => true,
+        Request::Turn { .. } => true,
+        Request::Sweep(_) => true,
+        Request::LoosePair { .. } => true,
+        Request::Axis { .. } => true,
         Request::NoCall => false,
-        Request::TournamentSweep => true,
+        Request::TournamentSweep(_) => true,
     }
 }
 
 // What a line prints, by its answer and the record after it.
 fn said(line: NextLine, answer: AxisAnswer, r: Record) -> Stepped
-    requires { ⌜ r .n ≤ 8 ⌝ }
+    requires { ⌜ r .solver .n ≤ 8 ⌝ }
     ensures { λ z. ⌜ Says line answer r z ⌝ }
 {
     let request = line.request;

@@ -3,9 +3,9 @@ use mathlib.Core.Path.{_≡_}
 use mathlib.Core.Option.{Option, none, some}
 use lib.IntN.{pos}
 use lib.ListN.{replicate}
-use Rattle.ledger.specs.Call.{Call}
+use Rattle.ledger.specs.Bench.{NamedCall}
 use Rattle.record.specs.Kept.{Kept}
-use Rattle.record.specs.Record.{answerOf}
+use Rattle.record.specs.Record.{answerTo}
 use Rattle.record.specs.declared.AxisAnswer.{AxisAnswer}
 use Rattle.record.specs.declared.Record.{Record}
 use Rattle.record.specs.declared.query.Answer.{Answer}
@@ -16,11 +16,11 @@ use Rattle.play.specs.Steps.{afterCall}
 unfoldable pub plainOf : Answer → AxisAnswer
 plainOf value = record { value = value; row = replicate 8 (pos 0) }
 
-unfoldable pub answerFor : Record → Option Call → AxisAnswer
+unfoldable pub answerFor : Record → Option NamedCall → AxisAnswer
 answerFor r none = plainOf Loaded
-answerFor r (some call) = record { value = answerOf r call; row = rowFor r call }
+answerFor r (some call) = record { value = answerTo r call; row = rowFor r call }
 
-pub record Answers (r : Record) (call : Option Call) (z : AxisAnswer) (next : Record) : Type 0 where
+pub record Answers (r : Record) (call : Option NamedCall) (z : AxisAnswer) (next : Record) : Type 0 where
   pub is : z ≡ answerFor r call
   pub leaves : next ≡ afterCall r call
   pub keeps : Kept next

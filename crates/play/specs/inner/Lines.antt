@@ -38,14 +38,14 @@ nextLine left here (line ∷ part ∷ parts) = lineAt here (length line) (askedF
 
 -- the place after a request's samples
 unfoldable pub samplesEnd : Request → ℕ
-samplesEnd (Load n from to) = 0
-samplesEnd (LoadSamples n from middle to) = to
-samplesEnd (Turn p q) = 0
-samplesEnd Sweep = 0
-samplesEnd (LoosePair t) = 0
-samplesEnd (Axis i) = 0
+samplesEnd (Load bench n from to) = 0
+samplesEnd (LoadSamples bench n from middle to) = to
+samplesEnd (Turn bench p q) = 0
+samplesEnd (Sweep bench) = 0
+samplesEnd (LoosePair bench t) = 0
+samplesEnd (Axis bench i) = 0
 samplesEnd NoCall = 0
-samplesEnd TournamentSweep = 0
+samplesEnd (TournamentSweep bench) = 0
 
 -- the line; its request is its call, with the numbers and readings in the arrays
 pub record Reads (text : List ℕ) (left : Bool) (here : Cursor) (numbers : List ℤ) (readings : List ℕ) (z : NextLine) : Type 0 where
@@ -55,17 +55,17 @@ pub record Reads (text : List ℕ) (left : Bool) (here : Cursor) (numbers : List
   pub in-readings : Placed (length readings) (z .request)
 
 unfoldable pub isCall : Request → Bool
-isCall (Load n from to) = true
-isCall (LoadSamples n from middle to) = true
-isCall (Turn p q) = true
-isCall Sweep = true
-isCall (LoosePair t) = true
-isCall (Axis i) = true
+isCall (Load bench n from to) = true
+isCall (LoadSamples bench n from middle to) = true
+isCall (Turn bench p q) = true
+isCall (Sweep bench) = true
+isCall (LoosePair bench t) = true
+isCall (Axis bench i) = true
 isCall NoCall = false
-isCall TournamentSweep = true
+isCall (TournamentSweep bench) = true
 
 unfoldable pub toldWith : AxisAnswer → Record → Told
-toldWith answer r = record { answer = answer .value; row = answer .row; n = r .n; refused = r .refused }
+toldWith answer r = record { answer = answer .value; row = answer .row; n = r .solver .n; refused = r .refused }
 
 unfoldable pub saidBy : NextLine → AxisAnswer → Record → Stepped
 saidBy line answer r =

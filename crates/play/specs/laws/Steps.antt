@@ -10,10 +10,10 @@ use borrow.Author.Tests.{ltb-true, ltb-false}
 use lib.Dec.{eqb, ltb}
 use lib.ListN.{drop, length, take}
 use lib.Seq.{take-append-seam}
-use Rattle.ledger.specs.Call.{Call}
+use Rattle.ledger.specs.Bench.{NamedCall}
 use Rattle.record.specs.Kept.{Kept}
-use Rattle.record.specs.Record.{afterOf, fresh}
-use Rattle.record.specs.laws.After.{after-kept, fresh-kept}
+use Rattle.record.specs.Record.{fresh, recordAfter}
+use Rattle.record.specs.laws.Named.{fresh-kept, named-kept}
 use Rattle.record.specs.declared.Record.{Record}
 use Rattle.call_text.specs.Answers.{answerLine, linePrinted}
 use Rattle.call_text.specs.Calls.{callOf}
@@ -53,7 +53,7 @@ module _ (text : List ℕ) (here : Cursor) (line part : List ℕ) (parts : List 
 
 pub reached-kept : (text : List ℕ) {r : Record} {here : Cursor} → Reached text r here → Kept r
 reached-kept text begun = fresh-kept
-reached-kept text (gone line part parts call h e c) = after-kept _ call (reached-kept text h)
+reached-kept text (gone line part parts call h e c) = named-kept _ call (reached-kept text h)
 
 pub reached-within : (text : List ℕ) {r : Record} {here : Cursor} → Reached text r here → Within text here
 unfolding startCursor pastLine
@@ -99,7 +99,7 @@ module _ (text : List ℕ) (left : Bool) (r : Record) (here : Cursor) where
   last false = alone (unknownLine (here .line))
 
   -- a line, by its call: o
-  called : (line part : List ℕ) (parts : List (List ℕ)) → linesFrom text here ≡ line ∷ part ∷ parts → (o : Option Call)
+  called : (line part : List ℕ) (parts : List (List ℕ)) → linesFrom text here ≡ line ∷ part ∷ parts → (o : Option NamedCall)
       → lineThen r (here .line) o (λ next. playedFrom left next (here .line + 1) (part ∷ parts))
       ≡ (let z = steppedBy r here (length line) o in printedBy z ++ cond (z .more) (rest text left (afterCall r o) (z .next)) [])
   unfolding lineThen steppedBy stoppedAt afterCall
@@ -133,9 +133,9 @@ unfolding played startCursor linesFrom
 from-start text left = refl
 
 -- a line that is a call prints its answer, and what the lines after it print on the record after it follows
-from-line : (text : List ℕ) (left : Bool) (r : Record) (here : Cursor) (line part : List ℕ) (parts : List (List ℕ)) (call : Call) →
+from-line : (text : List ℕ) (left : Bool) (r : Record) (here : Cursor) (line part : List ℕ) (parts : List (List ℕ)) (call : NamedCall) →
     linesFrom text here ≡ line ∷ part ∷ parts → callOf line ≡ some call →
-    rest text left r here ≡ answerLine r call ++ rest text left (afterOf r call) (pastLine here (length line))
+    rest text left r here ≡ answerLine r call ++ rest text left (recordAfter r call) (pastLine here (length line))
 unfolding playedFrom lineThen
 from-line text left r here line part parts call q c =
     rw (lines-on text here line part parts q, q, c, line-number text left r here (length line))

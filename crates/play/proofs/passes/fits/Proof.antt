@@ -11,7 +11,7 @@ use native.Mathlib.Omega.{arith}
 use Rattle.play.specs.Steps.{Reached}
 use Rattle.play.specs.laws.Steps.{rest}
 use Rattle.play.specs.Text.{played}
-use Rattle.play.proofs.Passing.{started, starts, fits-not, fits-all, fits-on}
+use Rattle.play.proofs.Passing.{started, starts, fits-not, fits-all, fits-on, line-full}
 use Rattle.play.proofs.passes.fits.Statement.{statement}
 use Rattle.play.proofs.passes.fits.Tie as tie
 
@@ -29,7 +29,7 @@ own-step-requires : tie.Need-own-step-requires Inv-loop μ-loop
 own-step-requires c κs = c .loop .inv .0
 
 full : (c : tie.After-own-step Inv-loop μ-loop) → length (c .own-step .result .done .line .bytes) ≡ 256
-full c = search needs
+full c = line-full (c .own-step .result) _ (c .own-step .ok)
 
 returns : tie.Need-returns Inv-loop μ-loop
 returns c =

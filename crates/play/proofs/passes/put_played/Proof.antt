@@ -1,21 +1,14 @@
 -- `passes::put_played` meets its contract. The invariant: what the lines so far print is written, and the next one is to be played on the
 -- record that they left.
 use Prim.Native.Nat.{_-_, _≤_}
-use mathlib.Core.Path.{_≡_, sym, _∙_}
-use lib.ListN.{length, length-map}
+use mathlib.Core.Path.{_≡_, sym}
+use lib.ListN.{length}
 use lib.Seq.{length-take-le}
 use borrow.Author.Needs.{needs}
-use denote.Struct.Laws as LL
-use Rattle.call_text.proofs.answer.Printed as Line
-use Rattle.call_text.proofs.answer.Printed.Laws as Line′
-use Rattle.play.proofs.step.Stepped as Done
-use Rattle.play.proofs.step.Stepped.Laws as Done′
-use Rattle.play.proofs.passes.OwnStep as Own
-use Rattle.play.proofs.passes.OwnStep.Laws as Own′
 use borrow.Author.Tests.{not-false, not-true}
 use native.Mathlib.Omega.{arith}
 use Rattle.text.specs.laws.Put.{same-size}
-use Rattle.play.proofs.Passing.{Wrote, room, written-last, written-more, wrote-nothing}
+use Rattle.play.proofs.Passing.{Wrote, line-full, room, written-last, written-more, wrote-nothing}
 use Rattle.play.proofs.passes.put_played.Statement.{statement}
 use Rattle.play.proofs.passes.put_played.Tie as tie
 
@@ -32,11 +25,7 @@ own-step-requires : tie.Need-own-step-requires Inv-loop μ-loop
 own-step-requires c κs = c .loop .inv .reached
 
 full : (c : tie.After-own-step Inv-loop μ-loop) → length (c .own-step .result .done .line .bytes) ≡ 256
-full c =
-    let own = LL.owed Own.the-type Own′.the-laws (c .own-step .result) _ (c .own-step .ok) in
-    let done = LL.owed Done.the-type Done′.the-laws (c .own-step .result .done) _ (own .0) in
-    let line = LL.owed Line.the-type Line′.the-laws (c .own-step .result .done .line) _ (done .1 .1 .0) in
-    sym (length-map (c .own-step .result .done .line .bytes) (λ v. v)) ∙ line .0 .1 .0 .1
+full c = line-full (c .own-step .result) _ (c .own-step .ok)
 
 in-line : (c : tie.After-own-step Inv-loop μ-loop) → c .own-step .result .done .line .len ≤ length (c .own-step .result .done .line .bytes)
 in-line c = omega (arith, full c, c .own-step .ensures .short)

@@ -252,7 +252,7 @@ module _ {M : Type 1} (𝓤 : URA M) (H : Heap 𝓤) (A : Atoms 𝓤) (W : Given
 
   -- ---- what is said, of the line, the answer y at v, and the record g
   module _ (line : NextLine) (line-is : Is Line.the-row line (line-value line ∷ [])) (y : AxisAnswer) (v : Val) (g : Record)
-      (g-is : Is Rec.the-row g (record-value g ∷ [])) (small : g .n ≤ 8) where
+      (g-is : Is Rec.the-row g (record-value g ∷ [])) (small : g .solver .n ≤ 8) where
     abbrev to-said : SaidCall 𝓤 H A mem run .Ghost
     to-said = ((tt, tt, tt, (line, (y, (g, tt))), (line-value line ∷ [], (v ∷ [], (record-value g ∷ [], tt)))), tt)
 
@@ -387,14 +387,14 @@ module _ {M : Type 1} (𝓤 : URA M) (H : Heap 𝓤) (A : Atoms 𝓤) (W : Given
         move ! (1 ∷ 2 ∷ 3 ∷ 4 ∷ 5 ∷ []) $ closes ! tt Rec.the-row g (record-value g ∷ []) b o $ feqI ! (List Val) (vptr b o ∷ [])
         (vptr b o ∷ []) refl $ fjoin3 ! $
         -- the record; its token; the locals; the answer; the text's token
-        move ! (4 ∷ []) $ use1 W (raw (SaidCall 𝓤 H A mem run .pre (to-said line line-is a u g g-is (so .keeps .size))))
-        (goes-said line line-is a u g g-is (so .keeps .size)) $
+        move ! (4 ∷ []) $ use1 W (raw (SaidCall 𝓤 H A mem run .pre (to-said line line-is a u g g-is (so .keeps .solver .size))))
+        (goes-said line line-is a u g g-is (so .keeps .solver .size)) $
         move ! (0 ∷ 3 ∷ []) $
-        calls-at ! fm (SaidCall 𝓤 H A mem run) known-said (to-said line line-is a u g g-is (so .keeps .size))
+        calls-at ! fm (SaidCall 𝓤 H A mem run) known-said (to-said line line-is a u g g-is (so .keeps .solver .size))
         (and-then ! (load ! (from ! (stop !)) (next ! _ 7 refl))
         (and-then ! (load ! (from ! (stop !)) (next ! _ 8 refl)) (and-then ! (load ! (from ! (stop !)) (next ! _ 18 refl)) (no-more !)))) (λ e.
         use1 W (later (some (λ (z : Stepped). given (Says line a g z) (‵ (Done.the-row .own z (e ∷ []))))))
-        (gives-said line line-is a u g g-is (so .keeps .size) e) $ await ! tt $
+        (gives-said line line-is a u g g-is (so .keeps .solver .size) e) $ await ! tt $
         pick ! (λ z. learn ! (λ told. peeks ! Done.the-row (Is Done.the-row) (shows 𝓤 H A Done.the-row) z (e ∷ [])
         (λ z-is. keep ! (1 ∷ 2 ∷ 3 ∷ 5 ∷ 0 ∷ []) $
         land ! (from ! (stop !)) (fills ! _ 0 refl (LL.lawful Done.the-type Done′.the-laws 𝓤 H A W .typed z _ z-is .0)) $
