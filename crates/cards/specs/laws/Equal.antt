@@ -21,16 +21,20 @@ use Rattle.limits.specs.Limits.{entryLimit, toleranceLimit, units}
 use Rattle.limits.specs.laws.Channels.{places}
 use Rattle.record.specs.laws.Fill.{kept-flatOf}
 use Rattle.record.specs.Flat.{keptEntry}
-use Rattle.record.specs.Record.{acceptedOfUnder, afterOf, answerOf, fresh, loadedRecord, valueOf}
+use Rattle.record.specs.Record.{answerTo, fresh, recordAfter}
+use Rattle.record.specs.Solver.{acceptedOfUnder, answerOf, loadedSolver, valueOf}
+use Rattle.record.specs.declared.Record.{Record}
+use Rattle.record.specs.laws.Named.{own-answers}
 use Rattle.ledger.specs.Pairs.{cyclic}
 use Rattle.rounding.specs.laws.Nearest.{rnd-zero}
-use Rattle.record.specs.laws.Accepted.{after-accepted, load-taken, loose-pair-taken}
+use Rattle.record.specs.laws.Accepted.{load-taken, loose-pair-taken}
 use Rattle.readings.specs.Samples.{Sample, z, total}
 use Rattle.scatter.specs.Table.{S, scatter, smallestShift, shift, shiftUnder, entries, tableFrom, tableFromUnder, tableOf, tableUnder}
 use Rattle.scatter.specs.laws.Entries.{entry-at, largest-zeros, length-entries, length-scatter, table-entries}
 use Rattle.turn.specs.laws.InUse.{inUse-inside}
-use Rattle.record.specs.Run.{noPair, stop}
+use Rattle.record.specs.Run.{noPair, own, stop}
 use Rattle.run.specs.Run.{runAfter, runOf}
+use Rattle.run.specs.laws.Calls.{own-after}
 use Rattle.record.specs.laws.Running.{run-settled}
 use Rattle.record.specs.declared.run.Outcome.the-variants.{Settled}
 use Rattle.record.specs.Loose.{looseOf}
@@ -109,28 +113,33 @@ module _ (n t : ℕ) (low : 2 ≤ n) (high : n ≤ 8) (few : t ≤ toleranceLimi
         same = λ i j h k. getD-repeated (n * n) (i * n + j) (pos 0) ∙ sym (getD-repeated (n * n) (j * n + i) (pos 0));
       }
 
-  loaded : afterOf fresh (load n (zeros n)) ≡ loadedRecord fresh n (zeros n) 0
-  unfolding acceptedOfUnder
-  loaded = after-accepted fresh (load n (zeros n)) (load-taken (fresh .n) (fresh .m) n (zeros n) zeros-load)
+  start : Record
+  start = recordAfter fresh (own (load n (zeros n)))
 
-  entry-zero : (i j : ℕ) → i < n → j < n → keptEntry (loadedRecord fresh n (zeros n) 0 .a) i j ≡ pos 0
-  unfolding loadedRecord matrixOf
+  loaded : start ≡ record { solver = loadedSolver n (zeros n) 0; refused = fresh .refused }
+  unfolding acceptedOfUnder start
+  loaded = own-after fresh (load n (zeros n)) (load-taken (fresh .solver .n) (fresh .solver .m) n (zeros n) zeros-load)
+
+  entry-zero : (i j : ℕ) → i < n → j < n → keptEntry (loadedSolver n (zeros n) 0 .a) i j ≡ pos 0
+  unfolding loadedSolver matrixOf
   entry-zero i j h k =
       kept-flatOf _ i j (omega arith) (omega arith) ∙ inUse-inside n _ i j h k ∙ rw (getD-repeated (n * n) (i * n + j) (pos 0)) (*ℤ-zero (pos units))
 
-  none : looseOf (keptEntry (loadedRecord fresh n (zeros n) 0 .a)) t (cyclic n) ≡ NoPair
+  none : looseOf (keptEntry (loadedSolver n (zeros n) 0 .a)) t (cyclic n) ≡ NoPair
   none =
-      first-loose n (keptEntry (loadedRecord fresh n (zeros n) 0 .a)) t .none-if-none
+      first-loose n (keptEntry (loadedSolver n (zeros n) 0 .a)) t .none-if-none
       (λ p q h. rw (entry-zero (p - 1) (q - 1) (omega (arith, h .0, h .1, h .2)) (omega (arith, h .0, h .1, h .2))) (omega arith))
 
-  asked : answerOf (loadedRecord fresh n (zeros n) 0) (loosePair t) ≡ NoPair
-  unfolding answerOf valueOf loadedRecord
-  asked = rw (eq-eqb (refusalOf n 0 (loosePair t)) 0 (loose-pair-taken n 0 (omega arith) t few)) none
+  asked : answerTo start (own (loosePair t)) ≡ NoPair
+  unfolding answerOf valueOf loadedSolver
+  asked =
+      own-answers start (loosePair t)
+      ∙ rw (loaded, eq-eqb (refusalOf n 0 (loosePair t)) 0 (loose-pair-taken n 0 (omega arith) t few)) none
 
   -- settled, 0 sweeps
-  zeros-settled : (limit : ℕ) → runOf n (zeros n) limit t ≡ stop Settled 0 (afterOf fresh (load n (zeros n)))
-  unfolding runAfter noPair
-  zeros-settled limit = run-settled limit 0 t false (afterOf fresh (load n (zeros n))) (rw (loaded, asked))
+  zeros-settled : (limit : ℕ) → runOf n (zeros n) limit t ≡ stop Settled 0 start
+  unfolding runAfter noPair start
+  zeros-settled limit = run-settled limit 0 t false start (rw asked)
 
 pub equal-settled : (n k limit t : ℕ) (s : Sample) → 2 ≤ n → n ≤ 8 → t ≤ toleranceLimit →
     (tableOf n (replicate k s) ≡ zeroTable) × SettledAtOnce (runOf n (take (n * n) (tableOf n (replicate k s) .entries)) limit t)

@@ -8,13 +8,16 @@ use lib.ListN.{replicate, take}
 use Rattle.integer.specs.Matrix.{matrixOf, rowMajor}
 use Rattle.integer.specs.Padded.{padded}
 use Rattle.integer.specs.Tabulate.{tabulate}
-use Rattle.ledger.specs.Call.{Call, load, loadSamples, loosePair}
+use Rattle.ledger.specs.Bench.{NamedCall, by, isBench}
+use Rattle.ledger.specs.Call.{load, loadSamples, loosePair}
 use Rattle.ledger.specs.Ledger.{empty, acceptedUnder, loadedState, plainState, sizeOf, turnsOf, ledgerFrom, ledgerFromUnder, ledgerStepUnder}
+use Rattle.ledger.specs.Ledger.{namedStepUnder}
 use Rattle.ledger.specs.Refusal.{equal, entriesWithin, refusalOf, refusalUnder, symmetric}
 use Rattle.limits.specs.Limits.{formerEntryLimit}
 use Rattle.limits.specs.laws.Values.{former-below}
 use Rattle.record.specs.Demand3.{Certifies}
-use Rattle.record.specs.Record.{acceptedOfUnder, afterFrom, afterFromUnder, afterOfUnder, fresh, loadedRecord, refusedOf, samplesRecord}
+use Rattle.record.specs.Record.{afterFrom, afterFromUnder, calledUnder, fresh, recordAfterUnder}
+use Rattle.record.specs.Solver.{acceptedOfUnder, afterOfUnder, loadedSolver, samplesSolver, unloaded}
 use Rattle.record.specs.laws.Demand3proof.{goes-on}
 use Rattle.rounding.specs.Rounding.{rnd}
 use Rattle.scatter.specs.Table.{S, scatter, largest, smallestShift, shiftUnder, entriesUnder, tableFromUnder, tableUnder}
@@ -34,28 +37,28 @@ beyond : (refusalUnder formerEntryLimit 0 0 (load 2 (twoByTwo (pos 1_048_577) (p
 unfolding refusalUnder entriesWithin symmetric equal matrixOf
 beyond = (refl, refl, refl)
 
-abbrev refused : List Call
-refused = load 2 (twoByTwo (pos 1_048_577) (pos 1) (pos 0)) ∷ []
+abbrev refused : List NamedCall
+refused = by 1 (load 2 (twoByTwo (pos 1_048_577) (pos 1) (pos 0))) ∷ []
 
 -- the former limit leaves neither of them a matrix; today's does
-left : (afterFromUnder formerEntryLimit fresh refused .n ≡ 0) × (ledgerFromUnder formerEntryLimit empty refused ≡ empty) ×
-    (afterFrom fresh refused .n ≡ 2) × (sizeOf (ledgerFrom empty refused) ≡ 2)
-unfolding afterFromUnder afterOfUnder acceptedOfUnder loadedRecord refusedOf fresh ledgerFromUnder ledgerStepUnder acceptedUnder plainState
-    loadedState sizeOf turnsOf refusalUnder entriesWithin symmetric equal matrixOf
+left : (afterFromUnder formerEntryLimit fresh refused .solver .n ≡ 0) × (ledgerFromUnder formerEntryLimit empty refused ≡ empty) ×
+    (afterFrom fresh refused .solver .n ≡ 2) × (sizeOf (ledgerFrom empty refused) ≡ 2)
+unfolding isBench within afterFromUnder recordAfterUnder calledUnder afterOfUnder acceptedOfUnder loadedSolver fresh unloaded ledgerFromUnder
+    namedStepUnder ledgerStepUnder acceptedUnder plainState loadedState sizeOf turnsOf refusalUnder entriesWithin symmetric equal matrixOf
 left = (refl, refl, refl, refl)
 
 -- card 11's samples: under the former limit the record's e is 26, and it stays so under today's, where they would have 25
-abbrev strong : Call
-strong = loadSamples 2 (100 ∷ 100 ∷ []) (65_535 ∷ 65_535 ∷ 0 ∷ 0 ∷ [])
+abbrev strong : NamedCall
+strong = by 1 (loadSamples 2 (100 ∷ 100 ∷ []) (65_535 ∷ 65_535 ∷ 0 ∷ 0 ∷ []))
 
-shifted : (afterFrom (afterFromUnder formerEntryLimit fresh (strong ∷ [])) (loosePair 0 ∷ []) .e ≡ 26) ×
-    (afterFrom fresh (strong ∷ loosePair 0 ∷ []) .e ≡ 25)
-unfolding afterFromUnder afterOfUnder acceptedOfUnder samplesRecord loadedRecord fresh refusalUnder samplesRefusal numberRefusal within allWithin
-    tabulate rowMajor samples sampleAt total z S scatter largest smallestShift shiftUnder
+shifted : (afterFrom (afterFromUnder formerEntryLimit fresh (strong ∷ [])) (by 2 (loosePair 0) ∷ []) .solver .e ≡ 26) ×
+    (afterFrom fresh (strong ∷ by 2 (loosePair 0) ∷ []) .solver .e ≡ 25)
+unfolding isBench within afterFromUnder recordAfterUnder calledUnder afterOfUnder acceptedOfUnder samplesSolver loadedSolver fresh unloaded
+    refusalUnder samplesRefusal numberRefusal allWithin tabulate rowMajor samples sampleAt total z S scatter largest smallestShift shiftUnder
 shifted = (refl, refl)
 
 -- and whatever calls come then, demand 3 holds
-pub goes : (later : List Call) →
+pub goes : (later : List NamedCall) →
     Certifies (afterFrom (afterFromUnder formerEntryLimit fresh refused) later) (ledgerFrom (ledgerFromUnder formerEntryLimit empty refused) later)
 goes later = goes-on formerEntryLimit (le-refl formerEntryLimit) former-below refused later .1
 

@@ -10,11 +10,13 @@ use Rattle.readings.specs.Ranges.{parametersInRange}
 use Rattle.job.specs.Range.{sampleInRange}
 use Rattle.job.specs.Reply.{printedBy, printedOf}
 use Rattle.job.specs.Text.{numberOf, numbersOf, isTag, recordOf, lineOf}
+use Rattle.ledger.specs.Bench.{isBench}
 use Rattle.ledger.specs.Call.{load}
 use Rattle.ledger.specs.Refusal.{equal, entriesWithin, refusalUnder, symmetric}
 use Rattle.readings.specs.Refusal.{numberRefusal, samplesRefusal}
-use Rattle.record.specs.Record.{acceptedOfUnder, afterOf, afterOfUnder, fresh, samplesRecord}
-use Rattle.record.specs.Run.{runFrom}
+use Rattle.record.specs.Record.{calledUnder, fresh, recordAfter, recordAfterUnder}
+use Rattle.record.specs.Run.{own, runFrom}
+use Rattle.record.specs.Solver.{acceptedOfUnder, afterOfUnder, samplesSolver, unloaded}
 use Rattle.run.specs.Run.{runAfter}
 use Rattle.report.specs.AxisNumbers.{axisValues}
 use Rattle.report.specs.Report.{headOf, loadFor, runFor, lineR, lineA, reportOf, runReport}
@@ -41,9 +43,9 @@ unfolding ascii jobOf split onto allWithin leadingZero valueFrom numberOf before
 read = refl
 
 -- the samples' table, e = 0, is what is loaded
-loaded : afterOf fresh (loadFor job) ≡ afterOf fresh (load 2 (twoByTwo (pos 50) (pos 25) (pos 50)))
-unfolding afterOfUnder acceptedOfUnder samplesRecord fresh refusalUnder samplesRefusal numberRefusal within allWithin entriesWithin symmetric equal
-    matrixOf tabulate rowMajor samples sampleAt total z S scatter largest smallestShift shiftUnder entriesUnder rnd
+loaded : recordAfter fresh (own (loadFor job)) ≡ recordAfter fresh (own (load 2 (twoByTwo (pos 50) (pos 25) (pos 50))))
+unfolding isBench within recordAfterUnder calledUnder afterOfUnder acceptedOfUnder samplesSolver fresh unloaded refusalUnder samplesRefusal
+    numberRefusal allWithin entriesWithin symmetric equal matrixOf tabulate rowMajor samples sampleAt total z S scatter largest smallestShift shiftUnder entriesUnder rnd
 loaded = refl
 
 ran : runFor job ≡ threeRun

@@ -11,18 +11,21 @@ use Rattle.integer.specs.Matrix.{diagonal, matrixOf}
 use Rattle.integer.specs.RoundedUp.{roundedUp}
 use Rattle.integer.specs.Sum.{sumℕ}
 use Rattle.integer.specs.Tabulate.{tabulate}
+use Rattle.integer.specs.Within.{within}
 use Rattle.ledger.specs.Axis.{errorOf, tableError}
+use Rattle.ledger.specs.Bench.{isBench}
 use Rattle.ledger.specs.Call.{axis, load, loosePair, sweep}
 use Rattle.ledger.specs.Pairs.{cyclic, row, rowsFrom}
 use Rattle.ledger.specs.Refusal.{equal, refusalUnder, symmetric, entriesWithin}
 use Rattle.record.specs.Flat.{entriesOf, flatOf, keptEntry, rowsOf}
 use Rattle.record.specs.Loose.{looseOf}
-use Rattle.record.specs.Record.{acceptedOfUnder, afterOf, afterOfUnder, answerOf, axisOf, fresh, loadedRecord, sweptOf, valueOf, workOf, workedOf}
+use Rattle.record.specs.Record.{answerTo, calledUnder, fresh, recordAfter, recordAfterUnder, rowTo}
+use Rattle.record.specs.Solver.{acceptedOfUnder, afterOfUnder, answerOf, axisOf, loadedSolver, sweptOf, unloaded, valueOf, workOf, workedOf}
 use Rattle.record.specs.Work.{chosen, workBy, workPair, workPairs}
 use Rattle.record.specs.declared.Record.{Record}
 use Rattle.record.specs.declared.query.Answer.the-variants.{Axis}
 use Rattle.rounding.specs.Rounding.{rnd}
-use Rattle.record.specs.Run.{noPair, noTurn, runFrom, tried}
+use Rattle.record.specs.Run.{noPair, noTurn, own, runFrom, tried}
 use Rattle.record.specs.declared.run.Outcome.the-variants.{Spent, Still}
 use Rattle.record.specs.declared.run.Run.{Run}
 use Rattle.record.specs.laws.Running.{run-still, run-sweeps}
@@ -35,12 +38,13 @@ use Rattle.cards.specs.Cards.{neg, twoByTwo}
 
 -- card 5: the record before the sweep
 abbrev stuck : Record
-stuck = afterOf fresh (load 2 (twoByTwo (pos 0) (pos 1) (pos 1_048_576)))
+stuck = recordAfter fresh (own (load 2 (twoByTwo (pos 0) (pos 1) (pos 1_048_576))))
 
 -- its pair is loose before and after a sweep, which makes no turn
-stays : (noPair (answerOf stuck (loosePair 0)) ≡ false) × (noTurn (answerOf stuck sweep) ≡ true) ×
-    (noPair (answerOf (afterOf stuck sweep) (loosePair 0)) ≡ false)
-unfolding noPair noTurn answerOf valueOf afterOfUnder acceptedOfUnder fresh loadedRecord inUse sweptOf workOf workedOf looseOf tabulate keptEntry
+stays : (noPair (answerTo stuck (own (loosePair 0))) ≡ false) × (noTurn (answerTo stuck (own sweep)) ≡ true) ×
+    (noPair (answerTo (recordAfter stuck (own sweep)) (own (loosePair 0))) ≡ false)
+unfolding isBench within answerTo recordAfterUnder calledUnder noPair noTurn answerOf valueOf afterOfUnder acceptedOfUnder fresh unloaded
+    loadedSolver inUse sweptOf workOf workedOf looseOf tabulate keptEntry
     entriesOf rowsOf flatOf chosen workBy workPair workPairs cyclic rowsFrom row matrixOf equal symmetric entriesWithin refusalUnder diagonal choose
     smallestFit fits threshold roundedUp u w minusSign negative eight at
 stays = (refl, refl, refl)
@@ -50,7 +54,7 @@ unfolding runAfter
 still limit h =
     ap (λ (run : Run). run .outcome)
     (run-sweeps limit 0 0 false stuck (stays .0) refl (limit - 1) (omega arith)
-    ∙ run-still (limit - 1) (0 + 1) 0 _ (afterOf stuck sweep) (stays .2) (stays .1))
+    ∙ run-still (limit - 1) (0 + 1) 0 _ (recordAfter stuck (own sweep)) (stays .2) (stays .1))
 
 -- card 12: the run of the three samples' table
 abbrev pub threeRun : Run
@@ -69,7 +73,8 @@ pub record Spends : Type 0 where
   pub row-2 : rowTo (threeRun .last) 1 2 ≡ pos 858993459 ∷ pos 644245094 ∷ pos 0 ∷ pos 0 ∷ pos 0 ∷ pos 0 ∷ pos 0 ∷ pos 0 ∷ []
 
 pub spends : Spends
-unfolding runAfter runFrom tried noPair noTurn answerOf valueOf afterOfUnder acceptedOfUnder rowTo fresh 1 loadedRecord inUse sweptOf workOf workedOf
+unfolding runAfter runFrom tried isBench within answerTo recordAfterUnder calledUnder rowTo noPair noTurn answerOf valueOf afterOfUnder
+    acceptedOfUnder axisOf fresh unloaded loadedSolver inUse sweptOf workOf workedOf
     looseOf tabulate keptEntry entriesOf rowsOf flatOf chosen workBy workPair workPairs errorOf tableError cyclic rowsFrom row matrixOf equal
     symmetric entriesWithin refusalUnder diagonal sumℕ choose smallestFit fits threshold roundedUp u w minusSign negative rotationOf signed first
     second turnMatrix turnAxes turnedAxes array eight at turned newp newq newpp newpq newqq hpp hpq hqp hqq atPair rnd
