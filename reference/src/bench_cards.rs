@@ -1,5 +1,5 @@
 //! Document 01's bench cards 1 to 12 and its printed example, the orders of its refusals, and document 02's loose pair, tournament
-//! sweep and load of samples.
+//! sweep, load of samples and benches.
 
 use crate::calls::play;
 use crate::choice::{choose, Choice};
@@ -7,7 +7,7 @@ use crate::examples::{KEEPS_TURNING, PRINTED};
 use crate::job;
 use crate::matrix::Matrix;
 use crate::pairs;
-use crate::record::{Record, AXIS_ONE, REFUSED_LIMIT, TURN_LIMIT, UNITS};
+use crate::record::{Record, AXIS_ONE, BENCHES, REFUSED_LIMIT, TURN_LIMIT, UNITS};
 use crate::report::{axes_program, job_run, report_into, table_program, Denied, Outcome};
 use crate::rounding::rnd;
 use crate::scatter::{shift, table, Sample};
@@ -295,33 +295,36 @@ fn a_report_longer_than_the_buffer_is_refused_last_and_the_buffer_stays() {
 #[test]
 fn calls_are_refused_in_their_order() {
     let mut record = Record::fresh();
-    assert_eq!(record.turn(0, 0), Err(10));
-    assert_eq!(record.sweep(), Err(10));
-    assert_eq!(record.tournament_sweep(), Err(10));
-    assert_eq!(record.loose_pair(-1), Err(10));
-    assert_eq!(record.axis(0), Err(10));
-    assert_eq!(record.load(1, &[]), Err(5));
-    assert_eq!(record.load(9, &[]), Err(5));
-    assert_eq!(record.load(2, &[0, 1, 2_000_000]), Err(6));
-    assert_eq!(record.load(2, &[0, 1, 2, 2_097_153]), Err(8));
-    assert_eq!(record.load(2, &[0, 1, 2, -2_097_152]), Err(7));
-    assert_eq!(record.refused(), 10);
-    assert_eq!(record.load(2, &[0, 1, 1, -2_097_152]), Ok(()));
+    assert_eq!(record.turn(1, 0, 0), Err(10));
+    assert_eq!(record.sweep(1), Err(10));
+    assert_eq!(record.tournament_sweep(1), Err(10));
+    assert_eq!(record.loose_pair(1, -1), Err(10));
+    assert_eq!(record.axis(1, 0), Err(10));
+    assert_eq!(record.load(1, 1, &[]), Err(5));
+    assert_eq!(record.load(1, 9, &[]), Err(5));
+    assert_eq!(record.load(1, 2, &[0, 1, 2_000_000]), Err(6));
+    assert_eq!(record.load(1, 2, &[0, 1, 2, 2_097_153]), Err(8));
+    assert_eq!(record.load(1, 2, &[0, 1, 2, -2_097_152]), Err(7));
+    assert_eq!(record.refused(), [10, 0, 0, 0]);
+    assert_eq!(record.load(1, 2, &[0, 1, 1, -2_097_152]), Ok(()));
     assert_eq!(
         record.kept().unwrap().v.numbers(),
         [AXIS_ONE, 0, 0, AXIS_ONE]
     );
     let before = record.kept().cloned();
-    assert_eq!(record.load(2, &[0, 1, 2, 0]), Err(7));
-    assert_eq!(record.turn(2, 1), Err(9));
-    assert_eq!(record.turn(1, 3), Err(9));
-    assert_eq!(record.turn(0, 2), Err(9));
-    assert_eq!(record.loose_pair(1_048_577), Err(2));
-    assert_eq!(record.loose_pair(-1), Err(2));
-    assert_eq!(record.axis(3), Err(9));
-    assert_eq!((record.kept(), record.refused()), (before.as_ref(), 17));
-    assert_eq!(record.loose_pair(1023), Ok(Some((1, 2))));
-    assert_eq!(record.loose_pair(1024), Ok(None));
+    assert_eq!(record.load(1, 2, &[0, 1, 2, 0]), Err(7));
+    assert_eq!(record.turn(1, 2, 1), Err(9));
+    assert_eq!(record.turn(1, 1, 3), Err(9));
+    assert_eq!(record.turn(1, 0, 2), Err(9));
+    assert_eq!(record.loose_pair(1, 1_048_577), Err(2));
+    assert_eq!(record.loose_pair(1, -1), Err(2));
+    assert_eq!(record.axis(1, 3), Err(9));
+    assert_eq!(
+        (record.kept(), record.refused()),
+        (before.as_ref(), [17, 0, 0, 0])
+    );
+    assert_eq!(record.loose_pair(1, 1023), Ok(Some((1, 2))));
+    assert_eq!(record.loose_pair(1, 1024), Ok(None));
 }
 
 /// Document 02, W5: "A second load, beside the plain one, takes n and samples, is refused as W1's writer refuses them, and loads their table. The
@@ -329,32 +332,32 @@ fn calls_are_refused_in_their_order() {
 #[test]
 fn a_load_of_samples_remembers_its_shift() {
     let mut record = Record::fresh();
-    assert_eq!(record.load_samples(9, &[1], &[0]), Err(2));
-    assert_eq!(record.load_samples(2, &[1], &[65_536]), Err(2));
-    assert_eq!(record.load_samples(2, &[1], &[0]), Err(6));
-    assert_eq!(record.load_samples(2, &[1], &[0, 0]), Err(3));
-    assert_eq!((record.kept(), record.refused()), (None, 4));
+    assert_eq!(record.load_samples(1, 9, &[1], &[0]), Err(2));
+    assert_eq!(record.load_samples(1, 2, &[1], &[65_536]), Err(2));
+    assert_eq!(record.load_samples(1, 2, &[1], &[0]), Err(6));
+    assert_eq!(record.load_samples(1, 2, &[1], &[0, 0]), Err(3));
+    assert_eq!((record.kept(), record.refused()), (None, [4, 0, 0, 0]));
     let e = |record: &Record| record.kept().unwrap().e;
     let strong = [100, 100];
     let counts = [65_535, 65_535, 0, 0];
-    assert_eq!(record.load_samples(2, &strong, &counts), Ok(25));
+    assert_eq!(record.load_samples(1, 2, &strong, &counts), Ok(25));
     assert_eq!(e(&record), 25);
     // "r_i gains 512 × n units", beside the entry 1,279,961 in units and no turn.
-    assert_eq!(record.axis(1).unwrap().r_i, 1_279_961 * UNITS + 2 * 512);
-    record.sweep().unwrap();
+    assert_eq!(record.axis(1, 1).unwrap().r_i, 1_279_961 * UNITS + 2 * 512);
+    record.sweep(1).unwrap();
     let before = record.kept().cloned();
     assert_eq!(e(&record), 25);
-    assert_eq!(record.load_samples(2, &strong, &counts[..3]), Err(6));
-    assert_eq!(record.load(2, &[0, 1, 2, 0]), Err(7));
+    assert_eq!(record.load_samples(1, 2, &strong, &counts[..3]), Err(6));
+    assert_eq!(record.load(1, 2, &[0, 1, 2, 0]), Err(7));
     assert_eq!(record.kept(), before.as_ref());
-    record.load(2, &[1_279_961; 4]).unwrap();
+    record.load(1, 2, &[1_279_961; 4]).unwrap();
     assert_eq!(e(&record), 0);
-    assert_eq!(record.axis(1).unwrap().r_i, 1_279_961 * UNITS);
+    assert_eq!(record.axis(1, 1).unwrap().r_i, 1_279_961 * UNITS);
     // Equal tables, one of samples with e = 0: nothing is gained.
     let printed = ([1, 5, 1], [0, 0, 1, 0, 5, 5]);
-    assert_eq!(record.load_samples(2, &printed.0, &printed.1), Ok(0));
+    assert_eq!(record.load_samples(1, 2, &printed.0, &printed.1), Ok(0));
     let mut plain = Record::fresh();
-    plain.load(2, &[50, 25, 25, 50]).unwrap();
+    plain.load(1, 2, &[50, 25, 25, 50]).unwrap();
     assert_eq!(record.kept(), plain.kept());
 }
 
@@ -392,7 +395,7 @@ fn the_loose_pair_is_the_first_in_row_order() {
         [0, a_23, 0, a_34],
         [a_14, 0, a_34, 0],
     ];
-    record.load(4, &rows.concat()).unwrap();
+    record.load(1, 4, &rows.concat()).unwrap();
     for (t, pair) in [
         (0, Some((1, 4))),
         (5 * UNITS - 1, Some((1, 4))),
@@ -402,16 +405,188 @@ fn the_loose_pair_is_the_first_in_row_order() {
         (9 * UNITS - 1, Some((3, 4))),
         (9 * UNITS, None),
     ] {
-        assert_eq!(record.loose_pair(t), Ok(pair), "t = {t}");
+        assert_eq!(record.loose_pair(1, t), Ok(pair), "t = {t}");
     }
 }
 
+/// "every one stopping at the old ceiling"
 #[test]
-fn the_count_of_refused_calls_stops() {
-    let mut record = Record::with_refused(REFUSED_LIMIT - 1);
-    for _ in 0..3 {
-        assert_eq!(record.sweep(), Err(10));
-        assert_eq!(record.refused(), REFUSED_LIMIT);
+fn each_count_of_refused_calls_stops() {
+    for bench in 1..=4 {
+        let place = bench as usize - 1;
+        let mut counts = [7; BENCHES];
+        counts[place] = REFUSED_LIMIT - 1;
+        let mut record = Record::with_refused(counts);
+        counts[place] = REFUSED_LIMIT;
+        for _ in 0..3 {
+            assert_eq!(record.sweep(bench), Err(10));
+            assert_eq!(record.refused(), counts);
+        }
+        // A count that stands still holds back no other.
+        let other = bench % 4 + 1;
+        assert_eq!(record.axis(other, 1), Err(10));
+        counts[other as usize - 1] += 1;
+        assert_eq!(record.refused(), counts);
+    }
+    let full = [REFUSED_LIMIT; BENCHES];
+    let mut record = Record::with_refused(full);
+    assert_eq!(record.load(3, 1, &[]), Err(5));
+    assert_eq!(record.load(3, 2, &[0; 4]), Ok(()));
+    assert_eq!(
+        (record.turn(0, 1, 2), record.turn(4, 2, 1)),
+        (Err(15), Err(9))
+    );
+    assert_eq!(record.refused(), full);
+}
+
+/// The refusals of each call, with no argument that is right: 10 before a matrix is loaded, for all but the loads.
+fn wrong_calls(record: &mut Record, bench: i128) -> [Option<i128>; 7] {
+    [
+        record.load(bench, 1, &[]).err(),
+        record.load_samples(bench, 9, &[], &[]).err(),
+        record.turn(bench, 2, 1).err(),
+        record.sweep(bench).err(),
+        record.tournament_sweep(bench).err(),
+        record.loose_pair(bench, -1).err(),
+        record.axis(bench, 0).err(),
+    ]
+}
+
+/// Document 02, W8: "A refused call raises its own bench's count and no other."
+#[test]
+fn each_bench_has_its_own_count() {
+    let mut record = Record::fresh();
+    let mut counts = [0; BENCHES];
+    for (rounds, bench) in [(3, 2), (1, 4), (2, 1), (5, 3), (1, 2)] {
+        for _ in 0..rounds {
+            assert_eq!(
+                wrong_calls(&mut record, bench),
+                [5, 2, 10, 10, 10, 10, 10].map(Some)
+            );
+            counts[bench as usize - 1] += 7;
+            assert_eq!((record.kept(), record.refused()), (None, counts));
+        }
+    }
+    assert_eq!(counts, [14, 28, 35, 7]);
+    record.load(1, 2, &[0; 4]).unwrap();
+    for bench in 1..=4 {
+        assert_eq!(
+            wrong_calls(&mut record, bench),
+            [Some(5), Some(2), Some(9), None, None, Some(2), Some(9)]
+        );
+        counts[bench as usize - 1] += 5;
+        assert_eq!(record.refused(), counts);
+    }
+}
+
+/// "A bench outside 1 to 4 gives 15, tried before everything else, and raises no count."
+#[test]
+fn another_bench_gives_15_before_everything_else_and_no_count() {
+    let others = [0, 5, -1, -4, 257, (1 << 32) + 1, 9_999_999_999, -(1 << 64)];
+    let right_calls = |record: &mut Record, bench: i128| {
+        [
+            record.load(bench, 2, &[3, 1, 1, 3]).err(),
+            record.load_samples(bench, 2, &[1, 1], &[0, 0, 1, 1]).err(),
+            record.turn(bench, 1, 2).err(),
+            record.sweep(bench).err(),
+            record.tournament_sweep(bench).err(),
+            record.loose_pair(bench, 0).err(),
+            record.axis(bench, 1).err(),
+        ]
+    };
+    // Without a matrix, before 10, 5 and 2; with one, before 9 and 2; where the turns are used up, before 11.
+    let mut none = Record::fresh();
+    none.axis(3, 1).unwrap_err();
+    let mut loaded = none.clone();
+    loaded.load(2, 2, &[50, 25, 25, 50]).unwrap();
+    let mut used_up = loaded.clone();
+    used_up.load(4, 8, &KEEPS_TURNING).unwrap();
+    while used_up.sweep(1).is_ok() {}
+    assert_eq!(used_up.sweep(2), Err(11));
+    for record in [none, loaded, used_up] {
+        for bench in others {
+            let mut called = record.clone();
+            assert_eq!(wrong_calls(&mut called, bench), [Some(15); 7], "{bench}");
+            assert_eq!(right_calls(&mut called, bench), [Some(15); 7], "{bench}");
+            assert_eq!(called, record);
+        }
+    }
+}
+
+/// The fields of each answer to a text of calls.
+fn answered(text: &str) -> Vec<Vec<String>> {
+    let fields = |line: &str| line.split('\t').map(str::to_string).collect();
+    play(text.as_bytes()).lines().map(fields).collect()
+}
+
+/// The counts that refused calls print are those of the benches that their lines name.
+#[test]
+fn counts_are_of_the_benches_that_the_lines_name() {
+    let mut seen = [0; 2];
+    for seed in 0..300 {
+        let text = generate_calls(seed);
+        let text = String::from_utf8_lossy(&text);
+        let mut counts = [0; BENCHES];
+        for (line, answer) in text.lines().zip(answered(&text)) {
+            let [tag, number, printed @ ..] = &answer[..] else {
+                continue;
+            };
+            if tag != "X" {
+                continue;
+            }
+            let bench = line.split('\t').nth(1).unwrap();
+            let place = ["1", "2", "3", "4"].iter().position(|name| *name == bench);
+            assert_eq!(place.is_none(), number == "15", "{line}");
+            if let Some(place) = place {
+                counts[place] += 1;
+            }
+            seen[usize::from(place.is_some())] += 1;
+            assert!(
+                printed.iter().eq(&counts.map(|count| count.to_string())),
+                "seed {seed}: {line}"
+            );
+        }
+    }
+    assert!(seen.iter().all(|&number| number > 300), "{seen:?}");
+}
+
+/// "Answers, kept matrix and axes don't depend on which of the four called": texts of calls in which each of the four is made another.
+#[test]
+fn answers_do_not_depend_on_which_of_the_four_called() {
+    let renamed = |text: &str, name: fn(usize, usize) -> usize| {
+        let mut lines = Vec::new();
+        for (number, line) in text.split('\n').enumerate() {
+            let mut fields: Vec<&str> = line.split('\t').collect();
+            let names = ["1", "2", "3", "4"];
+            if let Some(place) = names.iter().position(|name| fields.get(1) == Some(name)) {
+                fields[1] = names[name(number, place) % BENCHES];
+            }
+            lines.push(fields.join("\t"));
+        }
+        lines.join("\n")
+    };
+    let without_counts = |text: &str| {
+        let mut answers = answered(text);
+        for answer in &mut answers {
+            if answer[0] == "X" {
+                answer.truncate(2);
+            }
+        }
+        answers
+    };
+    for seed in 0..300 {
+        let text = generate_calls(seed);
+        let text = String::from_utf8_lossy(&text);
+        let expected = without_counts(&text);
+        let names: [fn(usize, usize) -> usize; 3] = [
+            |_, _| 0,
+            |_, place| place + 1,
+            |number, place| number * number / 2 + place,
+        ];
+        for name in names {
+            let renamed = renamed(&text, name);
+            assert_eq!(without_counts(&renamed), expected, "seed {seed}");
+        }
     }
 }
 
@@ -420,8 +595,8 @@ fn the_count_of_refused_calls_stops() {
 #[test]
 fn turns_are_used_up_at_448() {
     let mut record = Record::fresh();
-    record.load(8, &KEEPS_TURNING).unwrap();
-    assert!((0..TURN_LIMIT).any(|_| record.sweep().is_err()));
+    record.load(1, 8, &KEEPS_TURNING).unwrap();
+    assert!((0..TURN_LIMIT).any(|_| record.sweep(1).is_err()));
     let m = |record: &Record| record.kept().unwrap().m;
     assert!((421..=448).contains(&m(&record)), "{}", m(&record));
     let pairs: Vec<(i128, i128)> = (1..=8)
@@ -429,17 +604,17 @@ fn turns_are_used_up_at_448() {
         .collect();
     for &(p, q) in pairs.iter().cycle().take(2000) {
         let before = m(&record);
-        match record.turn(p, q) {
+        match record.turn(1, p, q) {
             Ok(made) => assert_eq!(m(&record), before + i128::from(made)),
             Err(number) => assert_eq!((number, before), (11, 448)),
         }
     }
     assert_eq!(m(&record), 448);
     assert_eq!(
-        (record.turn(2, 1), record.turn(1, 2), record.sweep()),
+        (record.turn(1, 2, 1), record.turn(1, 1, 2), record.sweep(1)),
         (Err(9), Err(11), Err(11))
     );
-    assert_eq!(record.axis(1).unwrap().row.len(), 8);
+    assert_eq!(record.axis(1, 1).unwrap().row.len(), 8);
 }
 
 /// Document 02, W10: "It is refused as the cyclic sweep is". Sweeps of both orders and single turns until just so many are made: with 28 left of
@@ -449,27 +624,30 @@ fn a_tournament_sweep_is_refused_11_as_the_cyclic_one() {
     let m = |record: &Record| record.kept().unwrap().m;
     for made in [420, 421] {
         let mut record = Record::fresh();
-        record.load(8, &KEEPS_TURNING).unwrap();
+        record.load(1, 8, &KEEPS_TURNING).unwrap();
         while m(&record) + 56 <= made {
             let before = m(&record);
-            let turns = record.sweep().unwrap() + record.tournament_sweep().unwrap();
+            let turns = record.sweep(1).unwrap() + record.tournament_sweep(1).unwrap();
             assert_eq!(m(&record), before + turns);
         }
         let pairs = (1..=8).flat_map(|p| (p + 1..=8).map(move |q| (p, q)));
         for (p, q) in pairs.cycle().take(2000) {
             if m(&record) < made {
-                record.turn(p, q).unwrap();
+                record.turn(1, p, q).unwrap();
             }
         }
         assert_eq!(m(&record), made);
         let before = record.clone();
         if made == 420 {
-            let turns = record.tournament_sweep().unwrap();
+            let turns = record.tournament_sweep(1).unwrap();
             assert_eq!(m(&record), 420 + turns);
         } else {
-            assert_eq!(record.tournament_sweep(), Err(11));
-            assert_eq!(record.sweep(), Err(11));
-            assert_eq!((record.kept(), record.refused()), (before.kept(), 2));
+            assert_eq!(record.tournament_sweep(1), Err(11));
+            assert_eq!(record.sweep(1), Err(11));
+            assert_eq!(
+                (record.kept(), record.refused()),
+                (before.kept(), [2, 0, 0, 0])
+            );
         }
     }
 }
@@ -482,8 +660,8 @@ fn a_tournament_sweep_is_refused_11_as_the_cyclic_one() {
 fn a_tournament_sweep_by_hand() {
     let mut record = Record::fresh();
     let rows = [[0, 0, 7225], [0, 0, 7225], [7225, 7225, 0]];
-    record.load(3, &rows.concat()).unwrap();
-    assert_eq!(record.tournament_sweep(), Ok(2));
+    record.load(1, 3, &rows.concat()).unwrap();
+    assert_eq!(record.tournament_sweep(1), Ok(2));
     let kept = record.kept().unwrap();
     let entries = [
         [-2064, -4148, -465],
@@ -508,11 +686,11 @@ fn a_tournament_sweep_by_hand() {
         ]
         .concat()
     );
-    assert_eq!(record.axis(1).unwrap().r_i, (4148 + 465) * UNITS + 7);
+    assert_eq!(record.axis(1, 1).unwrap().r_i, (4148 + 465) * UNITS + 7);
     // The cyclic sweep takes (1,3) before (2,3), and comes to another matrix.
     let mut other = Record::fresh();
-    other.load(3, &rows.concat()).unwrap();
-    other.sweep().unwrap();
+    other.load(1, 3, &rows.concat()).unwrap();
+    other.sweep(1).unwrap();
     assert_ne!(other.kept().unwrap().a, record.kept().unwrap().a);
 }
 
@@ -523,14 +701,14 @@ fn a_tournament_sweep_is_the_turns_of_its_pairs() {
         let rows = |i: usize, j: usize| KEEPS_TURNING[8 * (i - 1) + (j - 1)];
         let matrix = Matrix::by_rule(n, rows);
         let mut swept = Record::fresh();
-        swept.load(n as i128, matrix.numbers()).unwrap();
+        swept.load(1, n as i128, matrix.numbers()).unwrap();
         let mut turned = swept.clone();
         for _ in 0..4 {
             let made = pairs::tournament(n)
                 .into_iter()
-                .filter(|&(p, q)| turned.turn(p as i128, q as i128).unwrap())
+                .filter(|&(p, q)| turned.turn(1, p as i128, q as i128).unwrap())
                 .count();
-            assert_eq!(swept.tournament_sweep(), Ok(made as i128));
+            assert_eq!(swept.tournament_sweep(1), Ok(made as i128));
             assert_eq!(swept, turned);
         }
     }
@@ -544,13 +722,14 @@ fn the_kept_axes_turn_the_loaded_matrix_into_the_kept_one() {
         let Ok(job) = job::read(&text) else { continue };
         let loaded = table(job.n, &job.samples).entries;
         let mut record = Record::fresh();
-        record.load(job.n as i128, loaded.numbers()).unwrap();
-        // Lists that mix the two orders.
+        record.load(4, job.n as i128, loaded.numbers()).unwrap();
+        // Lists that mix the two orders, and the benches.
         for number in 0..job.sweep_limit {
+            let bench = number % 4 + 1;
             if (seed >> (number % 8)) & 1 == 0 {
-                record.sweep().unwrap();
+                record.sweep(bench).unwrap();
             } else {
-                record.tournament_sweep().unwrap();
+                record.tournament_sweep(bench).unwrap();
             }
         }
         let kept = record.kept().unwrap();
@@ -589,52 +768,73 @@ fn every_generated_text_is_read_to_an_answer() {
 fn a_text_of_calls_is_played_to_its_first_line_that_is_no_call() {
     assert_eq!(played(""), "");
     assert_eq!(
-        played("W\nL 2 50 25 25 50\nQ 0\nT 1 2\nA 1\nA 2\nQ 7168\nT 2 2\nA 0\nL 2\nL 1 -5\nL 2 -\nW\n"),
-        "X 10 1\nL\nQ 1 2\nT 1\nA 26624 7172 644245094 -858993459\nA 75776 7172 858993459 644245094\nQ none\nX 9 2\nX 9 3\n\
-         X 6 4\nX 5 5\n? 12\n"
+        played(
+            "W 1\nL 2 2 50 25 25 50\nQ 3 0\nT 4 1 2\nA 1 1\nA 2 2\nQ 3 7168\nT 4 2 2\nA 1 0\nL 2 2\nL 3 1 -5\nW -1\nL 4 2 -\nW 1\n"
+        ),
+        "X 10 1 0 0 0\nL\nQ 1 2\nT 1\nA 26624 7172 644245094 -858993459\nA 75776 7172 858993459 644245094\nQ none\nX 9 1 0 0 1\n\
+         X 9 2 0 0 1\nX 6 2 1 0 1\nX 5 2 1 1 1\nX 15 2 1 1 1\n? 13\n"
     );
     for no_call in [
         "\n",
-        "W",
+        "W\n",
+        "W 1",
         "W \n",
-        "W 1\n",
-        "w\n",
-        "O",
+        "W 1 \n",
+        "W 1 1\n",
+        "W 01\n",
+        "W -0\n",
+        "W +1\n",
+        "W x\n",
+        "W 0 0\n",
+        "w 1\n",
+        "O\n",
+        "O 1",
         "O \n",
-        "O 1\n",
-        "o\n",
+        "O 1 1\n",
+        "o 1\n",
         "L\n",
-        "L 2 -0\n",
-        "L 2 01\n",
-        "L 2 -01\n",
+        "L 1\n",
+        "L 9\n",
+        "L 1 2 -0\n",
+        "L 1 2 01\n",
+        "L 1 2 -01\n",
         "M\n",
-        "M 2\n",
-        "M 2 -1\n",
-        "M 2 1\n",
-        "M 2 3 1 1\n",
-        "M 2 3 -1 99999999999\n",
-        "M 2 00 1 1\n",
-        "M 2 2 1 1 0 0 0 -0\n",
-        "M 2 10000000000 1 1 0 0 0 0\n",
-        "M 2 99999999999999999999999999 1 1 0 0 0 0\n",
-        "m 2 2 1 1 0 0 0 0\n",
+        "M 1\n",
+        "M 1 2\n",
+        "M 1 2 -1\n",
+        "M 1 2 1\n",
+        "M 5 2 1\n",
+        "M 1 2 3 1 1\n",
+        "M 1 2 3 -1 99999999999\n",
+        "M 1 2 00 1 1\n",
+        "M 1 2 2 1 1 0 0 0 -0\n",
+        "M 1 2 10000000000 1 1 0 0 0 0\n",
+        "M 1 2 99999999999999999999999999 1 1 0 0 0 0\n",
+        "m 1 2 2 1 1 0 0 0 0\n",
+        "T\n",
         "T 1\n",
-        "T 1 2 3\n",
-        "A 1 2\n",
-        "A +1\n",
-        "A 00000000000\n",
-        "A 1234567890x\n",
+        "T 1 2\n",
+        "T 1 1 2 3\n",
+        "Q\n",
+        "Q 1\n",
+        "Q 5\n",
+        "A 1\n",
+        "A 1 1 2\n",
+        "A 1 +1\n",
+        "A +1 1\n",
+        "A 1 00000000000\n",
+        "A 1 1234567890x\n",
     ] {
         assert_eq!(played(no_call), "? 1\n", "{no_call:?}");
     }
 }
 
-/// `O` has no numbers; it is answered by `O` and the number of turns, or refused as `X` number count.
+/// `O` has no number but the bench; it is answered by `O` and the number of turns, or refused as `X`, the number and the four counts.
 #[test]
 fn a_tournament_sweep_is_a_call() {
     assert_eq!(
-        played("O\nL 2 50 25 25 50\nO\nA 1\nA 2\nO 0\n"),
-        "X 10 1\nL\nO 1\nA 26624 7172 644245094 -858993459\nA 75776 7172 858993459 644245094\n? 6\n"
+        played("O 3\nL 1 2 50 25 25 50\nO 2\nA 1 1\nA 4 2\nO 1 0\n"),
+        "X 10 0 0 1 0\nL\nO 1\nA 26624 7172 644245094 -858993459\nA 75776 7172 858993459 644245094\n? 6\n"
     );
 }
 
@@ -643,61 +843,97 @@ fn a_tournament_sweep_is_a_call() {
 fn a_wrong_call_gets_its_number() {
     let digits = "1".repeat(300);
     for (wrong, number) in [
-        ("Q -1", 2),
-        ("Q 10000000000", 2),
-        ("A -1", 9),
-        ("T -1 2", 9),
-        ("T 1 18446744073709551618", 9),
-        ("L -1 0", 5),
-        ("L 9 0", 5),
-        ("L 2 0", 6),
-        ("M -1 0", 2),
-        ("M 10000000000 2 1 1 0 0 0 0", 2),
-        ("M 2 2 1 1 0 0 0 10000000000", 2),
-        ("M 2 2 -1 1 0 0 0 0", 2),
-        ("M 2 2 1 1 0 0 0 -1", 2),
-        ("M 2 2 1 1 0 0 0", 6),
-        ("M 2 2 1 1", 6),
-        ("M 2 1 1 0 0", 3),
-        ("M 2 0", 3),
-        (&format!("M 2 2 1 1 0 0 {digits} 0"), 2),
-        ("L 2 10000000000 0 0 0", 8),
-        ("L 2 -10000000000 0 0 0", 8),
-        (&format!("L 2 -{digits} 0 0 0"), 8),
-        (&format!("Q {digits}"), 2),
+        ("Q 1 -1", 2),
+        ("Q 1 10000000000", 2),
+        ("A 1 -1", 9),
+        ("T 1 -1 2", 9),
+        ("T 1 1 18446744073709551618", 9),
+        ("L 1 -1 0", 5),
+        ("L 1 9 0", 5),
+        ("L 1 2 0", 6),
+        ("M 1 -1 0", 2),
+        ("M 1 10000000000 2 1 1 0 0 0 0", 2),
+        ("M 1 2 2 1 1 0 0 0 10000000000", 2),
+        ("M 1 2 2 -1 1 0 0 0 0", 2),
+        ("M 1 2 2 1 1 0 0 0 -1", 2),
+        ("M 1 2 2 1 1 0 0 0", 6),
+        ("M 1 2 2 1 1", 6),
+        ("M 1 2 1 1 0 0", 3),
+        ("M 1 2 0", 3),
+        (&format!("M 1 2 2 1 1 0 0 {digits} 0"), 2),
+        ("L 1 2 10000000000 0 0 0", 8),
+        ("L 1 2 -10000000000 0 0 0", 8),
+        (&format!("L 1 2 -{digits} 0 0 0"), 8),
+        (&format!("Q 1 {digits}"), 2),
     ] {
-        let text = format!("L 2 0 0 0 0\n{wrong}\n");
-        assert_eq!(played(&text), format!("L\nX {number} 1\n"), "{wrong}");
+        let text = format!("L 1 2 0 0 0 0\n{wrong}\n");
+        let answers = format!("L\nX {number} 1 0 0 0\n");
+        assert_eq!(played(&text), answers, "{wrong}");
+    }
+    // So is a bench.
+    let long = format!("-{digits}");
+    let beyond = [
+        "0",
+        "5",
+        "-1",
+        "-4",
+        "9999999999",
+        "10000000000",
+        "4294967297",
+    ];
+    for bench in beyond.into_iter().chain([&digits[..], &long]) {
+        for call in [
+            "Q {} 0",
+            "Q {} -1",
+            "A {} 1",
+            "A {} 3",
+            "T {} 1 2",
+            "T {} 2 1",
+            "W {}",
+            "O {}",
+            "L {} 2 1 0 0 1",
+            "L {} 9",
+            "M {} 2 2 1 1 0 0 1 1",
+            "M {} 9 0",
+        ] {
+            let text = call.replace("{}", bench) + "\nA 1 1\n";
+            assert_eq!(played(&text), "X 15 0 0 0 0\nX 10 1 0 0 0\n", "{text}");
+            let text = format!("L 2 2 0 1 1 0\n{text}");
+            let answers = "L\nX 15 0 0 0 0\nA 0 1024 1073741824 0\n";
+            assert_eq!(played(&text), answers, "{text}");
+        }
     }
 }
 
 #[test]
 fn a_line_has_at_most_4096_numbers() {
-    assert_eq!(played(&format!("L 2{}\n", " 0".repeat(4_095))), "X 6 1\n");
-    assert_eq!(played(&format!("L 2{}\n", " 0".repeat(4_096))), "? 1\n");
-    assert_eq!(
-        played(&format!("M 2 4094{}\n", " 1".repeat(4_094))),
-        "X 6 1\n"
-    );
-    assert_eq!(played(&format!("M 2 2{}\n", " 1".repeat(4_094))), "X 6 1\n");
-    assert_eq!(played(&format!("M 2 2{}\n", " 1".repeat(4_095))), "? 1\n");
+    let zeros = |count| " 0".repeat(count);
+    let ones = |count| " 1".repeat(count);
+    let (refused, no_call) = ("X 6 0 1 0 0\n", "? 1\n");
+    assert_eq!(played(&format!("L 2 2{}\n", zeros(4_094))), refused);
+    assert_eq!(played(&format!("L 2 2{}\n", zeros(4_095))), no_call);
+    assert_eq!(played(&format!("M 2 2 4093{}\n", ones(4_093))), refused);
+    assert_eq!(played(&format!("M 2 2 2{}\n", ones(4_093))), refused);
+    assert_eq!(played(&format!("M 2 2 2{}\n", ones(4_094))), no_call);
+    assert_eq!(played(&format!("L 5 2{}\n", zeros(4_095))), no_call);
 }
 
 /// "If input is left after 65,536 bytes, the last line says so"
 #[test]
 fn the_first_line_that_is_not_read_whole_is_said() {
-    let lines = "W\n".repeat(32_767);
+    let lines = "W 3\n".repeat(16_383);
     let answers = |text: &str| {
         played(&(lines.clone() + text))
             .lines()
-            .skip(32_767)
+            .skip(16_383)
             .collect::<Vec<_>>()
             .join("/")
     };
-    assert_eq!(answers("W\n"), "X 10 32768");
-    assert_eq!(answers("W\nW"), "X 10 32768/? 32769");
-    assert_eq!(answers("W\n\n"), "X 10 32768/? 32769");
-    assert_eq!(answers("WW\n"), "? 32768");
+    assert_eq!(answers("W 3\n"), "X 10 0 0 16384 0");
+    assert_eq!(answers("W 3\nW"), "X 10 0 0 16384 0/? 16385");
+    assert_eq!(answers("W 3\n\n"), "X 10 0 0 16384 0/? 16385");
+    assert_eq!(answers("W 33\n"), "? 16384");
+    assert_eq!(answers("WW 3\n"), "? 16384");
 }
 
 fn played(text: &str) -> String {

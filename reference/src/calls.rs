@@ -1,11 +1,11 @@
-//! A text of calls, played on one record: one call a line, one line of answer for each.
+//! A text of calls, played on one record: one call a line, with the bench that makes it; one line of answer for each.
 
 use crate::record::{Number, Record};
 use crate::text::{line, number, tagged, take_line};
 
 /// At most this many bytes are read, and those are played.
 pub const TEXT_LIMIT: usize = 65_536;
-/// A line has at most this many numbers.
+/// A line has at most this many numbers, the bench among them.
 pub const MOST_NUMBERS: usize = 4_096;
 /// A number of more digits stands for the greatest one of this many, with its sign.
 const DIGITS: usize = 10;
@@ -34,21 +34,22 @@ pub fn play(input: &[u8]) -> String {
         if rest.is_empty() && !left {
             break;
         }
-        let Some((call, after)) =
+        let Some(((bench, call), after)) =
             take_line(rest).and_then(|(fields, after)| Some((call(&fields)?, after)))
         else {
             answers += &tagged("?", &[line]);
             break;
         };
-        answers += &answer(&mut record, &call)
-            .unwrap_or_else(|number| tagged("X", &[number, record.refused()]));
+        answers += &answer(&mut record, bench, &call)
+            .unwrap_or_else(|number| tagged("X", &[&[number], &record.refused()[..]].concat()));
         rest = after;
     }
     answers
 }
 
-/// The call that a line's fields give. A negative n, dilution, count, p, q, t or i is a value out of its range, which the record refuses.
-fn call(fields: &[&[u8]]) -> Option<Call> {
+/// The bench, which comes first after the tag, and the call that a line's fields give. A negative bench, n, dilution, count, p, q, t or i is a
+/// value out of its range, which the record refuses.
+fn call(fields: &[&[u8]]) -> Option<(i128, Call)> {
     let (tag, fields) = fields.split_first()?;
     if fields.len() > MOST_NUMBERS {
         return None;
@@ -57,20 +58,22 @@ fn call(fields: &[&[u8]]) -> Option<Call> {
         .iter()
         .map(|field| signed(field))
         .collect::<Option<Vec<_>>>()?;
-    match (*tag, &numbers[..]) {
-        (b"L", [n, numbers @ ..]) => Some(Call::Load(*n, numbers.to_vec())),
+    let (bench, numbers) = numbers.split_first()?;
+    let call = match (*tag, numbers) {
+        (b"L", [n, numbers @ ..]) => Call::Load(*n, numbers.to_vec()),
         (b"M", [n, k, numbers @ ..]) => {
             // k has no minus, and k dilutions follow it.
             let (dilutions, counts) = numbers.split_at_checked(usize::try_from(*k).ok()?)?;
-            Some(Call::LoadSamples(*n, dilutions.to_vec(), counts.to_vec()))
+            Call::LoadSamples(*n, dilutions.to_vec(), counts.to_vec())
         }
-        (b"T", [p, q]) => Some(Call::Turn(*p, *q)),
-        (b"W", []) => Some(Call::Sweep),
-        (b"O", []) => Some(Call::TournamentSweep),
-        (b"Q", [t]) => Some(Call::LoosePair(*t)),
-        (b"A", [i]) => Some(Call::Axis(*i)),
-        _ => None,
-    }
+        (b"T", [p, q]) => Call::Turn(*p, *q),
+        (b"W", []) => Call::Sweep,
+        (b"O", []) => Call::TournamentSweep,
+        (b"Q", [t]) => Call::LoosePair(*t),
+        (b"A", [i]) => Call::Axis(*i),
+        _ => return None,
+    };
+    Some((*bench, call))
 }
 
 /// An optional minus and decimal digits, without a leading zero unless it is 0; `-0` is none.
@@ -90,24 +93,25 @@ fn unsigned(field: &[u8]) -> Option<i128> {
 }
 
 /// The line of a call's answer, or the number of its refusal.
-fn answer(record: &mut Record, call: &Call) -> Result<String, Number> {
+fn answer(record: &mut Record, bench: i128, call: &Call) -> Result<String, Number> {
     Ok(match call {
         Call::Load(n, numbers) => {
-            record.load(*n, numbers)?;
+            record.load(bench, *n, numbers)?;
             line(["L"])
         }
         Call::LoadSamples(n, dilutions, counts) => {
-            tagged("M", &[record.load_samples(*n, dilutions, counts)?.into()])
+            let e = record.load_samples(bench, *n, dilutions, counts)?;
+            tagged("M", &[e.into()])
         }
-        Call::Turn(p, q) => tagged("T", &[i128::from(record.turn(*p, *q)?)]),
-        Call::Sweep => tagged("W", &[record.sweep()?]),
-        Call::TournamentSweep => tagged("O", &[record.tournament_sweep()?]),
-        Call::LoosePair(t) => match record.loose_pair(*t)? {
+        Call::Turn(p, q) => tagged("T", &[i128::from(record.turn(bench, *p, *q)?)]),
+        Call::Sweep => tagged("W", &[record.sweep(bench)?]),
+        Call::TournamentSweep => tagged("O", &[record.tournament_sweep(bench)?]),
+        Call::LoosePair(t) => match record.loose_pair(bench, *t)? {
             Some((p, q)) => tagged("Q", &[p as i128, q as i128]),
             None => line(["Q", "none"]),
         },
         Call::Axis(i) => {
-            let axis = record.axis(*i)?;
+            let axis = record.axis(bench, *i)?;
             tagged("A", &[&[axis.a_ii, axis.r_i], &axis.row[..]].concat())
         }
     })

@@ -5,7 +5,7 @@ use crate::choice::choose;
 use crate::examples::{tabs, STRONG};
 use crate::job::Job;
 use crate::matrix::Matrix;
-use crate::record::{Record, UNITS};
+use crate::record::{Record, BENCHES, UNITS};
 use crate::report::job_run;
 use crate::scatter::table;
 use crate::turn::rotation;
@@ -27,13 +27,15 @@ impl Exact {
                 .map(|i| (0..n).map(|j| Whole::from(i128::from(i == j))).collect())
                 .collect(),
         };
+        // "so the error promise covers any mix of benches"
+        let mut benches = (1..=BENCHES as i128).cycle();
         for _ in 0..sweeps {
-            for (p, q) in pairs::by_row(n) {
+            for ((p, q), bench) in pairs::by_row(n).into_iter().zip(&mut benches) {
                 let a = &record.kept().unwrap().a;
                 if let Some(choice) = choose(a.at(p, p), a.at(q, q), a.at(p, q)) {
                     exact.turn(p - 1, q - 1, rotation(choice));
                 }
-                record.turn(p as i128, q as i128).unwrap();
+                record.turn(bench, p as i128, q as i128).unwrap();
             }
         }
         exact
@@ -83,7 +85,7 @@ fn bounded(job: &Job) -> Vec<(bool, bool)> {
     let (e, run) = job_run(job);
     let mut record = Record::fresh();
     let (dilutions, counts) = job.handed_over();
-    let loaded = record.load_samples(job.n as i128, &dilutions, &counts);
+    let loaded = record.load_samples(4, job.n as i128, &dilutions, &counts);
     assert_eq!((loaded, table.e), (Ok(e), e));
     let exact = Exact::of_sweeps(&mut record, run.sweeps);
     let kept = record.kept().unwrap();
@@ -113,7 +115,7 @@ fn a_buyer_finds_more_than_the_old_error_and_not_more_than_the_new() {
     assert_eq!(bounded(&job), [(true, false), (true, true)]);
     let mut record = Record::fresh();
     let (dilutions, counts) = job.handed_over();
-    record.load_samples(2, &dilutions, &counts).unwrap();
+    record.load_samples(1, 2, &dilutions, &counts).unwrap();
     let exact = Exact::of_sweeps(&mut record, 0);
     let sums = table(2, &job.samples).sums;
     let within = |error| exact.within(1, &sums, 1, 1_049_801 * 1024, error);

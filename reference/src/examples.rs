@@ -41,16 +41,17 @@ pub const JOBS: &[Example] = &[
 
 pub const CALLS: &[Example] = &[
     example("small", || {
-        tabs("L 2 50 25 25 50\nQ 0\nT 1 2\nA 1\nA 2\nW\nQ 7168\n")
+        tabs("L 1 2 50 25 25 50\nQ 2 0\nT 3 1 2\nA 4 1\nA 1 2\nW 2\nQ 3 7168\n")
     }),
     example("empty", Vec::new),
     example("refused", || tabs(REFUSED)),
     example("used_up", used_up),
-    example("no_call", || tabs("L 2 2 1 1 2\nW\nA 01\nA 1\n")),
-    example("no_line_feed", || tabs("L 2 2 1 1 2\nW\nA 1")),
+    example("no_call", || tabs("L 1 2 2 1 1 2\nW 2\nA 3 01\nA 4 1\n")),
+    example("no_samples", || tabs(NO_SAMPLES)),
+    example("no_line_feed", || tabs("L 1 2 2 1 1 2\nW 2\nA 3 1")),
     example("beyond_limit", calls_beyond_limit),
     example("line_feed_at_limit", || {
-        [calls_of_length(calls::TEXT_LIMIT), tabs("W\n")].concat()
+        [calls_of_length(calls::TEXT_LIMIT), tabs("W 1\n")].concat()
     }),
     example("byte_after_limit", || {
         calls_of_length(calls::TEXT_LIMIT + 1)
@@ -58,6 +59,8 @@ pub const CALLS: &[Example] = &[
     example("pairs", every_pair),
     example("tournament", tournament),
     example("samples", sample_loads),
+    example("samples_used_up", samples_used_up),
+    example("benches", || [tabs(BY_BENCHES), tabs("W\n")].concat()),
 ];
 
 /// A name, and the arguments of a program that is run at the repository's root.
@@ -115,11 +118,26 @@ pub const PRINTED: &str = "P 2 1 0\nS 1 0 0\nS 5 1 0\nS 1 5 5\nE 3\n";
 pub const STRONG: &str = "P 2 1 0\nS 1 1449 0\nS 1 0 0\nE 2\n";
 
 /// Calls at their refusals and beside them, blanks for tabs: 10 first, then 5, 6, 8 and 7, alone and in their order, then 2 and 9.
-const REFUSED: &str = "W\nT 1 2\nT 2 1\nQ 0\nQ 1048577\nA 1\nA 0\nL 1 5\nL 9\nL 0\nL 2 1 2 3\nL 2 1 2 3 4 5\nL 2\n\
-L 2 2097153 0 0 1\nL 2 -2097153 0 0 1\nL 2 1 2 3 1\nL 9 2097153\nL 2 2097153 2 3\nL 2 2097153 2 3 1\nL 9999999999 -9999999999\n\
-W\nL 2 50 25 25 50\nQ 25599\nQ 25600\nQ 1048576\nQ 1048577\nQ 9999999999\nT 1 1\nT 2 1\nT 0 1\nT 1 3\nT 0 0\n\
-T 9999999999 9999999999\nA 0\nA 3\nT 1 2\nL 2 1 2 3 1\nA 1\nA 2\nL 2 0 1 1 1048576\nT 1 2\nW\nQ 1023\nQ 1024\n\
-L 2 2097152 1 1 -2097152\nW\nA 1\nA 2\n";
+const REFUSED: &str = "W 2\nT 3 1 2\nT 1 2 1\nQ 4 0\nQ 3 1048577\nA 1 1\nA 2 0\nL 4 1 5\nL 4 9\nL 2 0\nL 3 2 1 2 3\nL 1 2 1 2 3 4 5\nL 2 2\n\
+L 1 2 2097153 0 0 1\nL 4 2 -2097153 0 0 1\nL 3 2 1 2 3 1\nL 1 9 2097153\nL 2 2 2097153 2 3\nL 3 2 2097153 2 3 1\nL 4 9999999999 -9999999999\nW 1\n\
+L 3 2 50 25 25 50\nQ 2 25599\nQ 4 25600\nQ 3 1048576\nQ 4 1048577\nQ 1 9999999999\nT 2 1 1\nT 1 2 1\nT 2 0 1\nT 4 1 3\nT 3 0 0\n\
+T 1 9999999999 9999999999\nA 4 0\nA 3 3\nT 2 1 2\nL 4 2 1 2 3 1\nA 3 1\nA 1 2\nL 2 2 0 1 1 1048576\nT 4 1 2\nW 3\nQ 1 1023\nQ 2 1024\n\
+L 2 2 2097152 1 1 -2097152\nW 4\nA 3 1\nA 1 2\n";
+
+/// Calls by each of the four benches and by others, blanks for tabs. With no matrix: each of the four refused, then 15 by a bench that is none of
+/// them, before 10, 5 and 2 and where a load is good, which then loads nothing. With one: 15 before 9 and 2, and where nothing else is wrong, which
+/// then changes nothing. Some of the numbers are one of the four in fewer bits. Then the other refusals, and a mix of benches. The example
+/// ends with a line without a bench.
+const BY_BENCHES: &str = "W 1\nT 2 1 2\nQ 3 0\nA 4 1\nO 4\nL 3 1 5\nM 4 9 0\nQ 4 1048577\n\
+W 0\nO 5\nT -1 1 2\nA 9999999999 1\nQ 18446744073709551617 0\nQ 4294967298 0\nA 257 1\nL 5 1 5\nM 0 9 0\nL -9999999999999 2 1 2 3\n\
+L 5 2 50 25 25 50\nW 1\nM 0 2 3 1 5 1 0 0 1 0 5 5\nA 2 1\nL -2 2 50 25 25 50\nQ 3 0\n\
+L 4 2 50 25 25 50\nT 0 2 1\nT 5 1 3\nA 5 3\nA -3 0\nQ 6 1048577\nA 4 1\n\
+T 0 1 2\nW 5\nO -1\nL 5 2 1 0 0 1\nM 10000000000 2 2 1 1 0 0 1 1\nA 0 1\nQ 4294967297 0\nA 1 1\nA 2 2\nQ 3 0\n\
+T 1 2 1\nA 2 3\nQ 3 1048577\nL 4 2 1 2 3\nL 1 2 1 2 3 4\nL 2 2 2097153 0 0 0\nM 3 2 1 1 0 0\nM 4 2 2 1 1 0\n\
+T 2 1 2\nA 3 1\nW 4\nA 1 2\nO 2\nQ 1 0\nQ 4 0\nM 3 2 2 1 1 1449 0 0 0\nA 1 1\nA 4 1\nA 5 1\nA 2 1\nT 3 1 1\n";
+
+/// A load of samples with fewer numbers after k than k is no call, blanks for tabs; with as many it is one, which is refused.
+const NO_SAMPLES: &str = "L 1 2 2 1 1 2\nM 2 2 3 1 1 1\nA 3 1\nM 4 2 3 1 1\nA 1 1\n";
 
 /// A matrix on which rounding keeps pairs turning.
 #[rustfmt::skip]
@@ -241,37 +259,71 @@ fn job_text(n: usize, sweep_limit: i128, tolerance: i128, samples: Vec<Sample>) 
     .into_bytes()
 }
 
-/// Sweeps until one is refused, then turns until one is: "11 turn with m = 448, or sweep with m + n(n−1)/2 > 448". Then calls that
-/// other refusals come before, and the axes.
-fn used_up() -> Vec<u8> {
-    let mut record = Record::fresh();
-    let mut lines = text::tagged("L", &[&[8], &KEEPS_TURNING[..]].concat());
-    record.load(8, &KEEPS_TURNING).expect("small numbers");
-    for _ in 0..TURN_LIMIT {
-        lines += &text::line(["W"]);
-        if record.sweep().is_err() {
+/// Sweeps until one is refused, then turns until one is: "11 turn with m = 448, or sweep with m + n(n−1)/2 > 448". The four benches call
+/// one after another. Then calls that other refusals come before, 15 among them, and the axes.
+fn use_up(record: &mut Record) -> String {
+    let mut lines = String::new();
+    let mut benches = (1..=4).cycle();
+    for bench in benches.by_ref().take(TURN_LIMIT as usize) {
+        lines += &text::tagged("W", &[bench]);
+        if record.sweep(bench).is_err() {
             break;
         }
     }
     let pairs = (1..=8).flat_map(|p| (p + 1..=8).map(move |q| (p, q)));
-    for (p, q) in pairs.cycle().take(2000) {
-        lines += &text::tagged("T", &[p, q]);
-        if record.turn(p, q).is_err() {
+    for ((p, q), bench) in pairs.cycle().take(2000).zip(benches) {
+        lines += &text::tagged("T", &[bench, p, q]);
+        if record.turn(bench, p, q).is_err() {
             break;
         }
     }
-    lines += "W\nT 2 1\nT 9 9\nA 9\nQ 1048577\nQ 0\n";
+    lines += "W 1\nO 2\nT 3 2 1\nT 4 9 9\nA 1 9\nQ 2 1048577\nQ 3 0\nT 5 1 2\n";
     for i in 1..=8 {
-        lines += &text::tagged("A", &[i]);
+        lines += &text::tagged("A", &[(i + 1) / 2, i]);
     }
-    tabs(&(lines + "L 2 2 1 1 2\nT 1 2\nW\nA 1\n"))
+    lines
+}
+
+/// That, from a plain load; then another one, with all turns left.
+fn used_up() -> Vec<u8> {
+    let mut record = Record::fresh();
+    let mut lines = text::tagged("L", &[&[2, 8], &KEEPS_TURNING[..]].concat());
+    record.load(2, 8, &KEEPS_TURNING).expect("small numbers");
+    lines += &use_up(&mut record);
+    tabs(&(lines + "L 4 2 2 1 1 2\nT 3 1 2\nW 2\nA 1 1\n"))
+}
+
+/// That, from a load of samples with a shift, so that each error is the larger one; then a plain load, and the samples again.
+fn samples_used_up() -> Vec<u8> {
+    let (dilutions, counts) = one_strong_channel();
+    let load = sample_load(3, 8, &dilutions, &counts);
+    let mut record = Record::fresh();
+    record
+        .load_samples(3, 8, &dilutions, &counts)
+        .expect("a good load");
+    let lines = load.clone() + &use_up(&mut record);
+    tabs(&(lines + "L 1 2 2 1 1 2\nA 2 1\n" + &load + "W 4\nA 3 8\n"))
+}
+
+/// Twelve samples of which the first channel asks for a shift; the entries of the seven others are small then, and rounding keeps pairs turning.
+fn one_strong_channel() -> (Vec<i128>, Vec<i128>) {
+    let mut random = Random::new(26);
+    let most = [1_500, 1, 1, 1, 1, 1, 1, 1].repeat(12);
+    let counts = most.into_iter().map(|most| random.between(0, most));
+    (vec![1; 12], counts.collect())
+}
+
+/// A load of samples by a bench: n, k, the dilutions, the counts.
+fn sample_load(bench: i128, n: usize, dilutions: &[i128], counts: &[i128]) -> String {
+    let k = dilutions.len() as i128;
+    text::tagged("M", &[&[bench, n as i128, k], dilutions, counts].concat())
 }
 
 /// Sweeps in tournament order of 2, 3, 5 and 8 channels, blanks for tabs: 10 before the load, the axes after each, then both orders in turn. The
 /// second matrix is the one of the hand-checked test.
-const TOURNAMENTS: &str = "O\nL 2 50 25 25 50\nO\nA 1\nA 2\nO\nL 3 0 0 7225 0 0 7225 7225 7225 0\nO\nA 1\nA 2\nA 3\n\
-L 3 0 0 7225 0 0 7225 7225 7225 0\nW\nA 1\nA 2\nA 3\nL 5 1 2 3 4 5 2 6 7 8 9 3 7 10 11 12 4 8 11 13 14 5 9 12 14 15\nO\nA 1\nA 2\nA 3\nA 4\nA 5\n\
-W\nO\nO\nW\nA 1\nA 2\nA 3\nA 4\nA 5\nQ 0\n";
+const TOURNAMENTS: &str = "O 1\nL 4 2 50 25 25 50\nO 3\nA 2 1\nA 3 2\nO 1\nL 2 3 0 0 7225 0 0 7225 7225 7225 0\nO 4\nA 3 1\nA 4 2\nA 1 3\n\
+L 2 3 0 0 7225 0 0 7225 7225 7225 0\nW 1\nA 3 1\nA 4 2\nA 2 3\nL 4 5 1 2 3 4 5 2 6 7 8 9 3 7 10 11 12 4 8 11 13 14 5 9 12 14 15\nO 3\nA 2 1\nA 1 2\n\
+A 3 3\nA 4 4\nA 2 5\nW 1\nO 3\nO 1\nW 4\nA 2 1\nA 3 2\nA 2 3\nA 4 4\nA 1 5\nQ 4 0\n";
 
 /// Those, then 8 channels at both sides of "11 .. sweep with m + n(n−1)/2 > 448": a tournament sweep with 28 turns left, and sweeps of both orders
 /// with 27 left.
@@ -279,19 +331,21 @@ fn tournament() -> Vec<u8> {
     let mut lines = TOURNAMENTS.to_string();
     for left in [28, 27] {
         let mut record = Record::fresh();
-        record.load(8, &KEEPS_TURNING).expect("small numbers");
-        lines += &text::tagged("L", &[&[8], &KEEPS_TURNING[..]].concat());
+        record.load(1, 8, &KEEPS_TURNING).expect("small numbers");
+        lines += &text::tagged("L", &[&[1, 8], &KEEPS_TURNING[..]].concat());
         let m = |record: &Record| record.kept().expect("a matrix").m;
         // Sweeps while another cannot pass the turns wanted, then single turns up to these.
         let wanted = TURN_LIMIT - left;
+        let mut benches = (1..=4).cycle();
         for tag in ["O", "W", "O"].into_iter().cycle() {
             if m(&record) + 28 > wanted {
                 break;
             }
-            lines += &text::line([tag]);
+            let bench = benches.next().expect("a cycle");
+            lines += &text::tagged(tag, &[bench]);
             match tag {
-                "W" => record.sweep(),
-                _ => record.tournament_sweep(),
+                "W" => record.sweep(bench),
+                _ => record.tournament_sweep(bench),
             }
             .expect("turns enough");
         }
@@ -300,13 +354,18 @@ fn tournament() -> Vec<u8> {
             if m(&record) == wanted {
                 break;
             }
-            if record.turn(p, q).expect("turns enough") {
-                lines += &text::tagged("T", &[p, q]);
+            let bench = benches.next().expect("a cycle");
+            if record.turn(bench, p, q).expect("turns enough") {
+                lines += &text::tagged("T", &[bench, p, q]);
             }
         }
-        lines += if left == 28 { "O\n" } else { "O\nW\nO\n" };
+        lines += if left == 28 {
+            "O 2\n"
+        } else {
+            "O 3\nW 4\nO 3\n"
+        };
         for i in 1..=8 {
-            lines += &text::tagged("A", &[i]);
+            lines += &text::tagged("A", &[(i + 1) / 2, i]);
         }
     }
     tabs(&lines)
@@ -314,52 +373,55 @@ fn tournament() -> Vec<u8> {
 
 /// Loads of samples, blanks for tabs: refused 2, 6 and 3, alone and in their order, before a matrix is loaded and after; with e = 0, 1 and 25,
 /// where each error gains 512 units a channel; then a plain load, which has e = 0 again. The certificate's job is the second that is loaded.
-const SAMPLE_LOADS: &str = "M 1 2 1 1 0 0\nM 9 0\nM 0 0\nM -2 0\nM 2 2 0 1 0 0 0 0\nM 2 2 1 101 0 0 0 0\nM 2 2 1 -1 0 0 0 0\n\
-M 2 2 1 1 65536 0 0 0\nM 2 2 1 1 0 0 0 -1\nM 2 2 1 1 0 0 0 10000000000\nM 2 2 1 1 0 0 0\nM 2 2 1 1 0 0 0 0 0\nM 2 2 1 1 0 0 0 0 65536\n\
-M 2 0\nM 2 1 1 0 0\nM 2 1 1 0\nM 2 1 101 0\nM 2 3 1 1 1\nA 1\nM 2 3 1 5 1 0 0 1 0 5 5\nA 1\nA 2\nW\nA 1\nA 2\n\
-M 2 2 1 1 1449 0 0 0\nA 1\nA 2\nM 2 2 100 100 65535 65535 0 0\nQ 0\nA 1\nO\nA 1\nA 2\nM 2 1 1 0 0\nA 1\nL 2 1 2 3 4\nA 1\n\
-L 2 50 25 25 50\nA 1\nT 1 2\nA 1\n\
-M 8 2 100 100 65535 0 65535 0 65535 0 65535 0 0 65535 0 65535 0 65535 0 65535\nA 1\nW\nA 1\nA 8\n";
+const SAMPLE_LOADS: &str = "M 2 1 2 1 1 0 0\nM 3 9 0\nM 1 0 0\nM 4 -2 0\nM 3 2 2 0 1 0 0 0 0\nM 4 2 2 1 101 0 0 0 0\nM 2 2 2 1 -1 0 0 0 0\n\
+M 1 2 2 1 1 65536 0 0 0\nM 1 2 2 1 1 0 0 0 -1\nM 3 2 2 1 1 0 0 0 10000000000\nM 4 2 2 1 1 0 0 0\nM 2 2 2 1 1 0 0 0 0 0\nM 4 2 2 1 1 0 0 0 0 65536\n\
+M 2 2 0\nM 1 2 1 1 0 0\nM 3 2 1 1 0\nM 2 2 1 101 0\nM 3 2 3 1 1 1\nA 4 1\nM 1 2 3 1 5 1 0 0 1 0 5 5\nA 4 1\nA 2 2\nW 1\nA 3 1\nA 2 2\n\
+M 3 2 2 1 1 1449 0 0 0\nA 1 1\nA 4 2\nM 4 2 2 100 100 65535 65535 0 0\nQ 3 0\nA 1 1\nO 2\nA 1 1\nA 4 2\nM 3 2 1 1 0 0\nA 2 1\nL 3 2 1 2 3 4\nA 1 1\n\
+L 2 2 50 25 25 50\nA 4 1\nT 4 1 2\nA 3 1\n\
+M 2 8 2 100 100 65535 0 65535 0 65535 0 65535 0 0 65535 0 65535 0 65535 0 65535\nA 1 1\nW 4\nA 2 1\nA 3 8\n";
 
 /// Those, then 257 samples, the strongest 256 that there are, with e = 39, and the longest job's.
 fn sample_loads() -> Vec<u8> {
     let mut lines = SAMPLE_LOADS.to_string();
-    let load = |n: usize, dilutions: &[i128], counts: &[i128]| {
-        let k = dilutions.len() as i128;
-        text::tagged("M", &[&[n as i128, k], dilutions, counts].concat())
-    };
-    lines += &load(2, &[1; 257], &[0; 514]);
-    lines += &load(2, &[100; 256], &[65_535, 0, 0, 65_535].repeat(128));
-    lines += "A 1\nW\nA 1\nA 2\n";
+    lines += &sample_load(2, 2, &[1; 257], &[0; 514]);
+    lines += &sample_load(3, 2, &[100; 256], &[65_535, 0, 0, 65_535].repeat(128));
+    lines += "A 4 1\nW 1\nA 2 1\nA 3 2\n";
     let job = job::read(&longest()).expect("a good job");
     let (dilutions, counts) = job.handed_over();
-    lines += &load(job.n, &dilutions, &counts);
-    lines += "A 1\nO\nW\nA 1\nA 8\nQ 1048576\n";
+    lines += &sample_load(4, job.n, &dilutions, &counts);
+    lines += "A 1 1\nO 2\nW 3\nA 4 1\nA 1 8\nQ 2 1048576\n";
     tabs(&lines)
 }
 
 /// As many bytes of calls as are read.
 pub fn longest_calls() -> Vec<u8> {
-    let text = [tabs(REFUSED), used_up(), tournament(), sample_loads()].concat();
-    with_calls(text, calls::TEXT_LIMIT, 1)
+    let text = [
+        tabs(BY_BENCHES),
+        tabs(REFUSED),
+        used_up(),
+        tournament(),
+        sample_loads(),
+        samples_used_up(),
+    ];
+    with_calls(text.concat(), calls::TEXT_LIMIT, 1)
 }
 
-/// A load of numbers beyond the limit.
-fn load_beyond() -> String {
-    text::tagged("L", &[&[8], &[-9_999_999_999; 64][..]].concat())
+/// Loads of numbers beyond the limit, by the four benches in turn.
+fn loads_beyond(count: usize) -> String {
+    let load = |bench| text::tagged("L", &[&[bench, 8], &[-9_999_999_999; 64][..]].concat());
+    (1..=4).cycle().take(count).map(load).collect()
 }
 
 /// Such loads, the last of which is not read whole.
 fn calls_beyond_limit() -> Vec<u8> {
-    let load = load_beyond();
-    load.repeat(calls::TEXT_LIMIT / load.len() + 1).into_bytes()
+    let load = loads_beyond(1).len();
+    loads_beyond(calls::TEXT_LIMIT / load + 1).into_bytes()
 }
 
 /// Such loads, and a last one of fewer and longer numbers, so that its line feed is the last of so many bytes.
 fn calls_of_length(length: usize) -> Vec<u8> {
-    let load = load_beyond();
-    let mut text = load.repeat(length / load.len());
-    text += "L\t8";
+    let mut text = loads_beyond(length / loads_beyond(1).len());
+    text += "L\t2\t8";
     let left = length - text.len() - 1;
     for place in 0..left / 12 {
         text += "\t-9999999999";
@@ -384,8 +446,12 @@ fn every_pair() -> Vec<u8> {
                 numbers[8 * p + q] = size;
                 numbers[8 * q + p] = size;
             }
-            lines += &text::tagged("L", &[&[8], &numbers[..]].concat());
-            lines += "Q\t5119\nQ\t5120\n";
+            lines += &text::tagged("L", &[&[1, 8], &numbers[..]].concat());
+            lines += if size < 0 {
+                "Q\t2\t5119\nQ\t3\t5120\n"
+            } else {
+                "Q\t4\t5119\nQ\t1\t5120\n"
+            };
         }
     }
     lines.into_bytes()
@@ -408,7 +474,7 @@ mod tests {
         for (length, line) in [(calls::TEXT_LIMIT, 86), (calls::TEXT_LIMIT + 1, 85)] {
             let mut text = calls_of_length(length);
             assert_eq!((text.len(), text.last()), (length, Some(&b'\n')));
-            text.extend(b"W\n");
+            text.extend(b"W\t1\n");
             assert!(answers(&text).ends_with(&format!("\n? {line}\n")));
         }
     }
@@ -470,7 +536,7 @@ mod tests {
         answers
             .lines()
             .map(|line| match line.split(' ').collect::<Vec<_>>()[..] {
-                ["X", number, _] => number.to_string(),
+                ["X", number, _, _, _, _] => number.to_string(),
                 ["Q", "none"] => "none".to_string(),
                 ["T", made] => format!("T {made}"),
                 ["M", e] => format!("M {}", if e == "0" { "0" } else { "above 0" }),
@@ -490,6 +556,7 @@ mod tests {
         let expected = [
             "10",
             "11",
+            "15",
             "2",
             "3",
             "5",
@@ -536,12 +603,23 @@ mod tests {
         assert!(["10", "2", "5", "6", "7", "8", "9"]
             .iter()
             .all(|&number| refused.contains(number)));
-        let used_up = of("used_up");
-        assert!(used_up.contains("\nX 11 1\nT 1\n") || used_up.contains("\nX 11 1\nT 0\n"));
-        assert!(used_up.contains("\nX 11 2\nX 11 3\nX 9 4\nX 9 5\nX 9 6\nX 2 7\n"));
+        // The same calls after either load: the first sweep that is refused, the turns up to one that is, then what comes before 11.
+        for (name, gained) in [("used_up", 0), ("samples_used_up", 8 * 512)] {
+            let used_up = of(name);
+            assert_eq!(used_up.matches("X 11 ").count(), 4, "{name}");
+            let tail = used_up.split("X 11 ").last().unwrap();
+            let starts = ["X 9 ", "X 9 ", "X 9 ", "X 2 ", "Q 1 2", "X 15 "];
+            let mut after = tail.lines().skip(1).zip(starts);
+            assert!(after.all(|(line, start)| line.starts_with(start)));
+            let least = 7 * TURN_LIMIT / 2 + gained;
+            let axes = tail.lines().filter(|line| line.starts_with("A ")).take(8);
+            let error = |line: &str| line.split(' ').nth(2).unwrap().parse::<i128>().unwrap();
+            assert!(axes.map(error).all(|error| error >= least), "{name}");
+        }
+        assert!(of("samples_used_up").starts_with("M 3\n"));
         let tournament = of("tournament");
-        assert!(tournament.starts_with("X 10 1\nL\nO 1\n"));
-        assert!(tournament.contains("\nX 11 2\nX 11 3\nX 11 4\nA "));
+        assert!(tournament.starts_with("X 10 1 0 0 0\nL\nO 1\n"));
+        assert!(tournament.contains("\nX 11 1 0 1 0\nX 11 1 0 1 1\nX 11 1 0 2 1\nA "));
         assert_eq!(tournament.matches('X').count(), 4);
         let samples = of("samples");
         assert!(["2", "3", "6", "10"]
@@ -552,7 +630,58 @@ mod tests {
         }
         assert_eq!(of("empty"), "");
         assert_eq!(of("no_call"), "L\nW 1\n? 3\n");
+        assert_eq!(
+            of("no_samples"),
+            "L\nX 6 0 1 0 0\nA 2048 1024 1073741824 0\n? 4\n"
+        );
         assert_eq!(of("no_line_feed"), "L\nW 1\n? 3\n");
-        assert!(of("beyond_limit").ends_with("X 8 84\n? 85\n"));
+        assert!(of("beyond_limit").ends_with("X 8 21 21 21 21\n? 85\n"));
+    }
+
+    #[test]
+    fn example_calls_name_each_bench() {
+        for example in CALLS {
+            let text = String::from_utf8((example.text)()).unwrap();
+            let named: BTreeSet<&str> = text
+                .lines()
+                .filter_map(|line| line.split('\t').nth(1))
+                .collect();
+            let all = match example.name {
+                "empty" => 0,
+                "no_line_feed" => 3,
+                _ => 4,
+            };
+            let four = ["1", "2", "3", "4"].iter();
+            let found = four.filter(|&bench| named.contains(bench)).count();
+            assert_eq!(found, all, "{}", example.name);
+        }
+    }
+
+    /// Each refusal of a call by one of the four benches raises one count; the counts come apart, and 15 leaves them.
+    #[test]
+    fn benches_are_refused_as_named() {
+        let text = [tabs(BY_BENCHES), tabs("W\n")].concat();
+        let answers = answers(&text);
+        let refused: Vec<Vec<i128>> = answers
+            .lines()
+            .filter_map(|line| line.strip_prefix("X "))
+            .map(|line| {
+                line.split(' ')
+                    .map(|field| field.parse().unwrap())
+                    .collect()
+            })
+            .collect();
+        let mut counts = [0; 4];
+        for (number, line) in refused.iter().map(|line| (line[0], &line[1..])) {
+            let raised: i128 = line.iter().zip(counts).map(|(new, old)| new - old).sum();
+            assert_eq!(raised, i128::from(number != 15));
+            counts.copy_from_slice(line);
+        }
+        assert_eq!(counts, [4, 4, 6, 6]);
+        assert_eq!(refused.iter().filter(|line| line[0] == 15).count(), 26);
+        let expected = ["10", "15", "2", "3", "5", "6", "7", "8", "9", "?", "A", "L"];
+        let kinds = kinds(&answers);
+        assert!(expected.iter().all(|&kind| kinds.contains(kind)));
+        assert!(answers.ends_with("X 9 4 4 6 6\n? 63\n"));
     }
 }

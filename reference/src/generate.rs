@@ -3,7 +3,7 @@
 use crate::calls::MOST_NUMBERS;
 use crate::matrix::Matrix;
 use crate::random::Random;
-use crate::record::{Record, ENTRY_LIMIT, TOLERANCE_LIMIT};
+use crate::record::{Record, BENCHES, ENTRY_LIMIT, TOLERANCE_LIMIT};
 use crate::samples::samples;
 
 /// The tags of both sweeps: cyclic and in tournament order.
@@ -23,8 +23,8 @@ pub fn calls_text(seed: u64) -> Vec<u8> {
 /// The text of calls and further ones, some of them refused, exactly `size` bytes together. A line of them is a call, and has at
 /// most a hundredth of the bytes, so that they are many.
 pub fn with_calls(mut text: Vec<u8>, size: usize, seed: u64) -> Vec<u8> {
-    /// The lengths of `Q` lines, with tolerances of 2 to 5 digits, of which one comes last.
-    const LAST: std::ops::RangeInclusive<usize> = 5..=8;
+    /// The lengths of `Q` lines, with tolerances of 2 to 7 digits, of which one comes last.
+    const LAST: std::ops::RangeInclusive<usize> = 7..=12;
     let random = &mut Random::new(seed);
     'texts: loop {
         for fields in any_or_used_up(random) {
@@ -39,11 +39,11 @@ pub fn with_calls(mut text: Vec<u8>, size: usize, seed: u64) -> Vec<u8> {
         }
     }
     while size - text.len() > *LAST.end() {
-        text.extend(b"A\t1\n");
+        text.extend(b"A\t2\t1\n");
     }
-    let digits = size - text.len() - b"Q\t\n".len();
+    let digits = size - text.len() - b"Q\t3\t\n".len();
     let tolerance = 10i128.pow(digits as u32 - 1);
-    text.extend(joined(&vec![fields("Q", &[tolerance])]));
+    text.extend(joined(&vec![fields("Q", &[3, tolerance])]));
     text
 }
 
@@ -180,14 +180,19 @@ fn any_calls(random: &mut Random) -> Lines {
     let mut n = random.between(2, 8);
     let careful = random.one_in(2);
     if careful {
-        lines.push(match random.one_in(2) {
+        let load = match random.one_in(2) {
             true => good_load(random, n),
             false => good_sample_load(random, n),
-        });
+        };
+        lines.push(by(bench(random), load));
     }
     for _ in 0..random.between(0, 60) {
         let wild = !careful && random.one_in(3);
-        lines.push(match random.between(0, 21) {
+        let bench = match careful {
+            true => bench(random),
+            false => any_bench(random),
+        };
+        let call = match random.between(0, 21) {
             0 => {
                 n = random.between(2, 8);
                 good_load(random, n)
@@ -234,9 +239,33 @@ fn any_calls(random: &mut Random) -> Lines {
                 };
                 fields("T", &[p, q])
             }
-        });
+        };
+        lines.push(by(bench, call));
     }
     lines
+}
+
+fn bench(random: &mut Random) -> i128 {
+    random.between(1, BENCHES as i128)
+}
+
+/// Now and then one outside 1 to 4; of these some are one of the four in fewer bits.
+fn any_bench(random: &mut Random) -> i128 {
+    if !random.one_in(8) {
+        return bench(random);
+    }
+    random.pick(&[
+        0,
+        5,
+        -1,
+        -4,
+        257,
+        (1 << 32) + 1,
+        9_999_999_999,
+        10_000_000_000,
+        (1 << 64) + 2,
+        -(1 << 64),
+    ])
 }
 
 /// Calls that use up the turns: a matrix of small numbers, on which rounding keeps some pairs turning, swept and turned
@@ -246,14 +275,18 @@ fn used_up(random: &mut Random) -> Lines {
     let n = random.between(6, 8);
     let matrix = symmetric(random, n as usize, |random, _, _| random.between(-1, 1));
     let mut record = Record::fresh();
-    record.load(n, matrix.numbers()).expect("small numbers");
-    let mut lines = vec![load_fields(n, matrix.numbers())];
+    let loading = bench(random);
+    record
+        .load(loading, n, matrix.numbers())
+        .expect("small numbers");
+    let mut lines = vec![by(loading, load_fields(n, matrix.numbers()))];
     for _ in 0..400 {
         let tag = random.pick(&SWEEPS);
-        lines.push(fields(tag, &[]));
+        let bench = bench(random);
+        lines.push(fields(tag, &[bench]));
         let swept = match tag {
-            "W" => record.sweep(),
-            _ => record.tournament_sweep(),
+            "W" => record.sweep(bench),
+            _ => record.tournament_sweep(bench),
         };
         if swept.is_err() {
             break;
@@ -263,27 +296,28 @@ fn used_up(random: &mut Random) -> Lines {
         .flat_map(|p| (p + 1..=n).map(move |q| (p, q)))
         .collect();
     for &(p, q) in pairs.iter().cycle().take(40 * pairs.len()) {
-        match record.turn(p, q) {
+        let bench = bench(random);
+        match record.turn(bench, p, q) {
             Ok(false) => {}
-            Ok(true) => lines.push(fields("T", &[p, q])),
+            Ok(true) => lines.push(fields("T", &[bench, p, q])),
             Err(_) => {
-                lines.push(fields("T", &[p, q]));
+                lines.push(fields("T", &[bench, p, q]));
                 break;
             }
         }
     }
-    for tail in [
-        &["W"][..],
-        &["O"],
-        &["T", "2", "1"],
-        &["A", "1"],
-        &["A", "0"],
-        &["Q", "0"],
-        &["Q", "1048577"],
-        &["T", "1", "2"],
+    for (tag, numbers) in [
+        ("W", &[][..]),
+        ("O", &[]),
+        ("T", &[2, 1]),
+        ("A", &[1]),
+        ("A", &[0]),
+        ("Q", &[0]),
+        ("Q", &[1_048_577]),
+        ("T", &[1, 2]),
     ] {
         if random.one_in(2) {
-            lines.push(tail.iter().map(|field| field.to_string()).collect());
+            lines.push(by(any_bench(random), fields(tag, numbers)));
         }
     }
     lines
@@ -332,8 +366,8 @@ fn refused_load(random: &mut Random) -> Vec<String> {
                 (n * n - 1) as usize,
                 (n * n + 1) as usize,
                 100,
+                MOST_NUMBERS - 2,
                 MOST_NUMBERS - 1,
-                MOST_NUMBERS,
             ]);
             numbers.resize(count, beyond);
         }
@@ -379,7 +413,7 @@ fn refused_sample_load(random: &mut Random) -> Vec<String> {
             3 => drop(counts.pop()),
             4 => counts.push(random.pick(&[0, 65_536])),
             _ => {
-                let most = MOST_NUMBERS - 2 - dilutions.len();
+                let most = MOST_NUMBERS - 3 - dilutions.len();
                 counts.resize(random.pick(&[0, 1, 2048, most]), 0);
             }
         }
@@ -430,10 +464,10 @@ fn damage_line(random: &mut Random, lines: &mut Lines, line: usize, most_digits:
     let other = random.index(lines.len());
     let single = lines[line].len() == 1;
     // The number of samples at its own bound: as many dilutions as numbers follow it, one more, and others.
-    if lines[line][0] == "M" && lines[line].len() > 2 && random.one_in(3) {
-        let after = lines[line].len() as i128 - 3;
+    if lines[line][0] == "M" && lines[line].len() > 3 && random.one_in(3) {
+        let after = lines[line].len() as i128 - 4;
         let k = random.pick(&[after, after + 1, 0, -1, 9_999_999_999, 10_000_000_000]);
-        lines[line][2] = k.to_string();
+        lines[line][3] = k.to_string();
         return;
     }
     let field = &mut lines[line][place];
@@ -488,6 +522,12 @@ fn fields(tag: &str, numbers: &[i128]) -> Vec<String> {
     std::iter::once(tag.to_string())
         .chain(numbers.iter().map(i128::to_string))
         .collect()
+}
+
+/// The fields of a call with the bench that makes it.
+fn by(bench: i128, mut call: Vec<String>) -> Vec<String> {
+    call.insert(1, bench.to_string());
+    call
 }
 
 fn load_fields(n: i128, numbers: &[i128]) -> Vec<String> {

@@ -227,7 +227,7 @@ mod tests {
             let n = job.n as i128;
             let mut record = Record::fresh();
             record
-                .load(n, table(job.n, &job.samples).entries.numbers())
+                .load(1, n, table(job.n, &job.samples).entries.numbers())
                 .unwrap();
             for _ in 0..run.sweeps {
                 for p in 1..=job.n {
@@ -236,7 +236,7 @@ mod tests {
                         if let Some(choice) = choose(a.at(p, p), a.at(q, q), a.at(p, q)) {
                             chosen.insert((choice.l, choice.f));
                         }
-                        record.turn(p as i128, q as i128).unwrap();
+                        record.turn(1, p as i128, q as i128).unwrap();
                     }
                 }
             }

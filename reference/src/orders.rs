@@ -2,7 +2,7 @@
 
 use crate::matrix::Matrix;
 use crate::record::{Record, ENTRY_LIMIT};
-use crate::report::{run_from, Outcome, Run, Sweep};
+use crate::report::{run_from, Outcome, Run, Sweep, RUN_BENCH};
 
 const ORDERS: [(&str, Sweep); 2] = [
     ("cyclic", Record::sweep),
@@ -23,7 +23,7 @@ pub fn figures() -> String {
                 .map(|matrix| {
                     let mut record = Record::fresh();
                     record
-                        .load(n as i128, matrix.numbers())
+                        .load(RUN_BENCH, n as i128, matrix.numbers())
                         .and_then(|()| run_from(record, sweep, SWEEP_LIMIT, TOLERANCE))
                         .expect("a run that nothing refuses")
                 })

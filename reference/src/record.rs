@@ -1,5 +1,5 @@
-//! Document 01, "The record and its calls", with the refusals 2 and 5 to 11 of its last sections, and document 02's tournament sweep and load of
-//! samples.
+//! Document 01, "The record and its calls", with the refusals 2 and 5 to 11 of its last sections, and document 02's tournament sweep, load of
+//! samples, and benches with their refusal 15.
 
 use crate::choice::choose;
 use crate::matrix::Matrix;
@@ -17,8 +17,10 @@ pub const ENTRY_LIMIT: i128 = 2_097_152;
 /// A tolerance lies from 0 to this.
 pub const TOLERANCE_LIMIT: i128 = 1_048_576;
 pub const TURN_LIMIT: i128 = 448;
-/// The count of refused calls stops here.
+/// Each count of refused calls stops here.
 pub const REFUSED_LIMIT: i128 = 4_294_967_295;
+/// "Each call on the record now names a bench from 1 to 4" (document 02, W8).
+pub const BENCHES: usize = 4;
 
 /// The number of a refusal.
 pub type Number = i128;
@@ -36,7 +38,8 @@ pub struct Kept {
 #[derive(Clone, Debug, PartialEq, Eq)]
 pub struct Record {
     kept: Option<Kept>,
-    refused: i128,
+    /// How many calls of each bench were refused.
+    refused: [i128; BENCHES],
 }
 
 /// The answer of the call Axis.
@@ -48,15 +51,16 @@ pub struct Axis {
 }
 
 impl Record {
-    /// "A fresh record holds no matrix and a count of 0 refused calls."
+    /// "A fresh record holds no matrix and a count of 0 refused calls", here for each bench.
     pub fn fresh() -> Record {
         Record {
             kept: None,
-            refused: 0,
+            refused: [0; BENCHES],
         }
     }
 
-    pub fn refused(&self) -> i128 {
+    /// The counts of benches 1 to 4.
+    pub fn refused(&self) -> [i128; BENCHES] {
         self.refused
     }
 
@@ -64,34 +68,36 @@ impl Record {
         self.kept.as_ref()
     }
 
-    /// **Load**. Refusals in the order 5, 6, 8, 7.
-    pub fn load(&mut self, n: i128, numbers: &[i128]) -> Result<(), Number> {
-        let loaded = loaded(n, numbers);
-        let kept = self.counted(loaded)?;
+    /// **Load**. Refusals in the order 15, 5, 6, 8, 7.
+    pub fn load(&mut self, bench: i128, n: i128, numbers: &[i128]) -> Result<(), Number> {
+        let kept = self.called(bench, |_| loaded(n, numbers))?;
         self.kept = Some(kept);
         Ok(())
     }
 
-    /// The second load (document 02, W5): "takes n and samples, is refused as W1's writer refuses them, and loads their table". The answer is its e.
+    /// The second load (document 02, W5): "takes n and samples, is refused as W1's writer refuses them, and loads their table". Refusals in the
+    /// order 15, 2, 6, 3. The answer is its e.
     pub fn load_samples(
         &mut self,
+        bench: i128,
         n: i128,
         dilutions: &[i128],
         counts: &[i128],
     ) -> Result<u32, Number> {
-        let loaded = readings::samples(n, dilutions, counts).map(|samples| {
+        let kept = self.called(bench, |_| {
+            let samples = readings::samples(n, dilutions, counts)?;
             let table = table(n as usize, &samples);
-            Kept::fresh(&table.entries, table.e)
-        });
-        let kept = self.counted(loaded)?;
+            Ok(Kept::fresh(&table.entries, table.e))
+        })?;
         let e = kept.e;
         self.kept = Some(kept);
         Ok(e)
     }
 
-    /// **Turn** p, q. Refusals in the order 10, 9, 11. The answer says whether a turn was made.
-    pub fn turn(&mut self, p: i128, q: i128) -> Result<bool, Number> {
-        let turned = self.loaded().and_then(|kept| {
+    /// **Turn** p, q. Refusals in the order 15, 10, 9, 11. The answer says whether a turn was made.
+    pub fn turn(&mut self, bench: i128, p: i128, q: i128) -> Result<bool, Number> {
+        let (kept, made) = self.called(bench, |record| {
+            let kept = record.loaded()?;
             let (p, q) = pair_within(p, q, kept.a.n()).ok_or(9)?;
             if kept.m == TURN_LIMIT {
                 return Err(11);
@@ -99,25 +105,29 @@ impl Record {
             let mut kept = kept.clone();
             let made = kept.turn_if_chosen(p, q);
             Ok((kept, made))
-        });
-        let (kept, made) = self.counted(turned)?;
+        })?;
         self.kept = Some(kept);
         Ok(made)
     }
 
-    /// **Sweep**, cyclic by row. Refusals in the order 10, 11. The answer is how many turns it made.
-    pub fn sweep(&mut self) -> Result<i128, Number> {
-        self.sweep_over(pairs::by_row)
+    /// **Sweep**, cyclic by row. Refusals in the order 15, 10, 11. The answer is how many turns it made.
+    pub fn sweep(&mut self, bench: i128) -> Result<i128, Number> {
+        self.sweep_over(bench, pairs::by_row)
     }
 
     /// The tournament sweep (document 02, W10): "It is refused as the cyclic sweep is and answers how many turns it made."
-    pub fn tournament_sweep(&mut self) -> Result<i128, Number> {
-        self.sweep_over(pairs::tournament)
+    pub fn tournament_sweep(&mut self, bench: i128) -> Result<i128, Number> {
+        self.sweep_over(bench, pairs::tournament)
     }
 
     /// A sweep of all pairs in an order, each chosen on the matrix as it then stands.
-    fn sweep_over(&mut self, in_order: fn(usize) -> Vec<Pair>) -> Result<i128, Number> {
-        let swept = self.loaded().and_then(|kept| {
+    fn sweep_over(
+        &mut self,
+        bench: i128,
+        in_order: fn(usize) -> Vec<Pair>,
+    ) -> Result<i128, Number> {
+        let (kept, made) = self.called(bench, |record| {
+            let kept = record.loaded()?;
             let n = kept.a.n() as i128;
             if kept.m + n * (n - 1) / 2 > TURN_LIMIT {
                 return Err(11);
@@ -128,28 +138,28 @@ impl Record {
                 .filter(|&(p, q)| kept.turn_if_chosen(p, q))
                 .count();
             Ok((kept, made as i128))
-        });
-        let (kept, made) = self.counted(swept)?;
+        })?;
         self.kept = Some(kept);
         Ok(made)
     }
 
-    /// **Loose pair** t: the first in row order whose entry exceeds t in size (document 02, W2). Refusals in the order 10, 2.
-    pub fn loose_pair(&mut self, t: i128) -> Result<Option<Pair>, Number> {
-        let found = self.loaded().and_then(|kept| {
+    /// **Loose pair** t: the first in row order whose entry exceeds t in size (document 02, W2). Refusals in the order 15, 10, 2.
+    pub fn loose_pair(&mut self, bench: i128, t: i128) -> Result<Option<Pair>, Number> {
+        self.called(bench, |record| {
+            let kept = record.loaded()?;
             if !(0..=TOLERANCE_LIMIT).contains(&t) {
                 return Err(2);
             }
             Ok(pairs::by_row(kept.a.n())
                 .into_iter()
                 .find(|&(p, q)| kept.a.at(p, q).abs() > t))
-        });
-        self.counted(found)
+        })
     }
 
-    /// **Axis** i: a_ii, r_i and row i of v. Refusals in the order 10, 9.
-    pub fn axis(&mut self, i: i128) -> Result<Axis, Number> {
-        let axis = self.loaded().and_then(|kept| {
+    /// **Axis** i: a_ii, r_i and row i of v. Refusals in the order 15, 10, 9.
+    pub fn axis(&mut self, bench: i128, i: i128) -> Result<Axis, Number> {
+        self.called(bench, |record| {
+            let kept = record.loaded()?;
             let n = kept.a.n();
             let i = index_within(i, n).ok_or(9)?;
             let beside: i128 = (1..=n)
@@ -164,25 +174,32 @@ impl Record {
                 r_i: beside + rounding + loading,
                 row: kept.v.row(i).to_vec(),
             })
-        });
-        self.counted(axis)
+        })
     }
 
-    /// "10 no matrix loaded": the first refusal of every call but load.
+    /// "10 no matrix loaded": the first refusal of every call but the loads, of a bench from 1 to 4.
     fn loaded(&self) -> Result<&Kept, Number> {
         self.kept.as_ref().ok_or(10)
     }
 
-    /// "the record changes only in its refused-call count", which stops at its limit.
-    fn counted<T>(&mut self, answer: Result<T, Number>) -> Result<T, Number> {
+    /// What a call comes to that a bench makes. "A bench outside 1 to 4 gives 15, tried before everything else, and raises no count." At another
+    /// refusal the record changes only in the count of that bench, which stops at its limit.
+    fn called<T>(
+        &mut self,
+        bench: i128,
+        call: impl FnOnce(&Record) -> Result<T, Number>,
+    ) -> Result<T, Number> {
+        let bench = index_within(bench, BENCHES).ok_or(15)?;
+        let answer = call(self);
         if answer.is_err() {
-            self.refused = (self.refused + 1).min(REFUSED_LIMIT);
+            let count = &mut self.refused[bench - 1];
+            *count = (*count + 1).min(REFUSED_LIMIT);
         }
         answer
     }
 
     #[cfg(test)]
-    pub fn with_refused(refused: i128) -> Record {
+    pub fn with_refused(refused: [i128; BENCHES]) -> Record {
         Record {
             kept: None,
             refused,
