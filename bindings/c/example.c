@@ -95,5 +95,6 @@ int main(void) {
     write_job(5);
     const char *job = "P\t2\t1\t0\nS\t101\t0\t0\n";
     report((const uint8_t *)job, strlen(job));
-    return play("L\t2\t50\t25\t25\t50\nT\t1\t2\nA\t1\n") || play("M\t2\t2\t100\t100\t65535\t65535\t0\t0\nA\t1\n") || list_panels();
+    return play("L\t1\t2\t50\t25\t25\t50\nT\t2\t1\t2\nA\t3\t1\n") || play("M\t4\t2\t2\t100\t100\t65535\t65535\t0\t0\nA\t1\t1\n") ||
+           list_panels();
 }

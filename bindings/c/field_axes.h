@@ -49,9 +49,11 @@ int64_t field_axes_report(const uint8_t *text, size_t text_length, uint8_t *out,
 
 #define FIELD_AXES_MOST_REPORT_BYTES 2048
 
-/* A text of calls, a line each, played on a fresh record. Into out: the answers, a line each and at most FIELD_AXES_MOST_ANSWER_BYTES bytes
-   each, up to that of the first line that is no call, with no 0 after them. Bytes past them stay. The answer is their length, or -12 for
-   a short buffer, which then stays. */
+/* A text of calls, a line each, played on a fresh record. Fields are parted by one tab; after the tag comes the bench that calls, 1 to 4: L bench n
+   numbers, M bench n k dilutions counts, T bench p q, W bench, O bench, Q bench t, A bench i. Into out: the answers, a line each and at most
+   FIELD_AXES_MOST_ANSWER_BYTES bytes each, up to that of the first line that is no call, with no 0 after them. A refused call is answered X, its
+   number, and how many calls of benches 1 to 4 were refused so far, four numbers; a bench outside 1 to 4 gives 15, before every other refusal, and
+   is not counted. Bytes past the answers stay. The answer is their length, or -12 for a short buffer, which then stays. */
 int64_t field_axes_calls(const uint8_t *text, size_t text_length, uint8_t *out, size_t out_length);
 
 #define FIELD_AXES_MOST_ANSWER_BYTES 256

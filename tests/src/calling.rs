@@ -46,8 +46,10 @@ pub fn case(seed: u64) -> Result<String, String> {
             shown(&answers)
         ));
     }
+    let by_no_bench = answers.windows(5).any(|bytes| bytes == b"X\t15\t");
     Ok(match got {
         Ok(_) if answers.contains(&b'?') => "played up to a line that is no call".to_string(),
+        Ok(_) if by_no_bench => "played, some by a bench outside 1 to 4".to_string(),
         Ok(_) => "played".to_string(),
         Err(Refused(number)) => format!("refused {number}"),
     })

@@ -22,8 +22,11 @@ fn main() {
         }
     }
     show_report("P\t2\t1\t0\nS\t101\t0\t0\n");
-    print!("{}", calls(b"L\t2\t50\t25\t25\t50\nT\t1\t2\nA\t1\n"));
-    let strong = b"M\t2\t2\t100\t100\t65535\t65535\t0\t0\nA\t1\n";
+    print!(
+        "{}",
+        calls(b"L\t1\t2\t50\t25\t25\t50\nT\t2\t1\t2\nA\t3\t1\n")
+    );
+    let strong = b"M\t4\t2\t2\t100\t100\t65535\t65535\t0\t0\nA\t1\t1\n";
     print!("{}", calls(strong));
     if let Err(Refused(number)) = show_panels() {
         println!("refused {number}");
