@@ -6,7 +6,7 @@ use Prim.Native.Nat.{ℕ, _+_, min}
 use lib.Dec.{eqb}
 use Rattle.ledger.specs.Bench.{NamedCall, by, isBench}
 use Rattle.limits.specs.Limits.{refusedLimit}
-use Rattle.record.specs.Record.{after, answerTo, countOf, fresh, isRefused, recordAfter}
+use Rattle.record.specs.Record.{after, answerTo, refusedBy, fresh, isRefused, recordAfter}
 use Rattle.record.specs.declared.Record.{Record}
 use Rattle.record.specs.declared.query.Answer.{Answer}
 
@@ -22,7 +22,7 @@ refusals bench r (c ∷ calls) = cond (eqb (c .bench) bench && isRefused (answer
 
 -- 'the record has a refused-call count for each, every one stopping at the old ceiling. A refused call raises its own bench's count and no other.'
 abbrev pub Counts : Type 0
-Counts = (calls : List NamedCall) (bench : ℕ) → isBench bench ≡ true → countOf (after calls) bench ≡ min (refusals bench fresh calls) refusedLimit
+Counts = (calls : List NamedCall) (bench : ℕ) → isBench bench ≡ true → refusedBy (after calls) bench ≡ min (refusals bench fresh calls) refusedLimit
 
 abbrev pub renamed : (ℕ → ℕ) → NamedCall → NamedCall
 renamed other c = by (other (c .bench)) (c .call)

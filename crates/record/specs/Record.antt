@@ -19,8 +19,8 @@ unfoldable pub fresh : Record
 fresh = record { solver = unloaded; refused = replicate benches 0 }
 
 -- the count of a bench
-unfoldable pub countOf : Record → ℕ → ℕ
-countOf r bench = getD (r .refused) (bench - 1) 0
+unfoldable pub refusedBy : Record → ℕ → ℕ
+refusedBy r bench = getD (r .refused) (bench - 1) 0
 
 -- 'every one stopping at the old ceiling': one refused call more
 unfoldable pub counted : ℕ → ℕ

@@ -18,7 +18,13 @@ pub fn load(r: &mut Record, bench: usize, n: usize, numbers: &[i64]) -> Answer
     done.answer
 }
 
-pub fn load_samples(r: &mut Record, bench: usize, n: usize, dilutions: &[u32], counts: &[u32]) -> Answer
+pub fn load_samples(
+    r: &mut Record,
+    bench: usize,
+    n: usize,
+    dilutions: &[u32],
+    counts: &[u32],
+) -> Answer
     requires { ⌜ Kept (now r) ⌝ }
     ensures { λ z. ⌜ Done (now (r .entry)) (by bench (loadSamples n (now (dilutions .entry)) (now (counts .entry)))) z (now (r .exit)) ⌝ }
 {

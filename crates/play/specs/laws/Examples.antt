@@ -59,10 +59,10 @@ examples = (refl, refl, refl, refl, refl, refl, refl, refl, refl, refl, refl, re
 benches :
     -- each has its own count
     (played false (ascii "W\t4\nO\t2\nT\t4\t1\t2\nA\t3\t1\nQ\t1\t0\n") ≡
-        ascii "X\t10\t0\t0\t0\t1\nX\t10\t0\t1\t0\t1\nX\t10\t0\t1\t0\t2\nX\t10\t0\t1\t1\t2\nX\t10\t1\t1\t1\t2\n")
+    ascii "X\t10\t0\t0\t0\t1\nX\t10\t0\t1\t0\t1\nX\t10\t0\t1\t0\t2\nX\t10\t0\t1\t1\t2\nX\t10\t1\t1\t1\t2\n")
     -- 0, 5, −1 and 2^64 + 1 are no benches: 15, before every other refusal, and no count is raised; nor is the matrix loaded
     × (played false (ascii "W\t0\nL\t5\t9\nA\t-1\t1\nQ\t18446744073709551617\t0\nW\t2\n") ≡
-        ascii "X\t15\t0\t0\t0\t0\nX\t15\t0\t0\t0\t0\nX\t15\t0\t0\t0\t0\nX\t15\t0\t0\t0\t0\nX\t10\t0\t1\t0\t0\n")
+    ascii "X\t15\t0\t0\t0\t0\nX\t15\t0\t0\t0\t0\nX\t15\t0\t0\t0\t0\nX\t15\t0\t0\t0\t0\nX\t10\t0\t1\t0\t0\n")
     × (played false (ascii "L\t5\t2\t1\t0\t0\t1\nW\t1\n") ≡ ascii "X\t15\t0\t0\t0\t0\nX\t10\t1\t0\t0\t0\n")
 unfolding ascii played playedFrom lineThen unknownLine split onto callOf callWithin numberLimit callOfFields withNumbers namedBy named callBy loadBy
     turnBy sweepBy oneBy argument eachNumber before signedOf withMinus withoutMinus unsignedOf standsFor numeral leadingZero valueFrom allWithin within

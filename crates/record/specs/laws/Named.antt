@@ -26,7 +26,7 @@ use Rattle.record.specs.Benches.{Benches-alike, Counts, answersFrom, ref
 use Rattle.record.specs.Flat.{keptEntry}
 use Rattle.record.specs.Kept.{Kept}
 use Rattle.record.specs.Loose.{looseOf}
-use Rattle.record.specs.Record.{after, afterFrom, afterFromUnder, answerTo, calledUnder, countOf, counted, fresh, isRefused, raised, recordAfter}
+use Rattle.record.specs.Record.{after, afterFrom, afterFromUnder, answerTo, calledUnder, refusedBy, counted, fresh, isRefused, raised, recordAfter}
 use Rattle.record.specs.Record.{recordAfterUnder, rowTo}
 use Rattle.record.specs.Run.{own}
 use Rattle.record.specs.Solver.{afterOf, afterOfUnder, answerOf, axisOf, valueOf}
@@ -123,14 +123,14 @@ refused-answer s call = by-refusal (eqb (refusalOf (s .n) (s .m) call) 0)
 
 -- the counts: a call raises that of its own bench if it is refused, and no other
 module _ (r : Record) (c : NamedCall) (bench : ℕ) (k : Kept r) (b : isBench bench ≡ true) where
-  own-count : c .bench ≡ bench → getD (raised (c .bench) (r .refused)) (bench - 1) 0 ≡ counted (countOf r bench)
-  unfolding raised countOf isBench
+  own-count : c .bench ≡ bench → getD (raised (c .bench) (r .refused)) (bench - 1) 0 ≡ counted (refusedBy r bench)
+  unfolding raised refusedBy isBench
   own-count e =
       let low = is-within 1 benches bench b in
       rw e (getD-set-same (r .refused) (bench - 1) _ 0 (omega (arith, low .0, low .1, k .counts)))
 
-  other-count : isBench (c .bench) ≡ true → (c .bench ≡ bench → ⊥) → getD (raised (c .bench) (r .refused)) (bench - 1) 0 ≡ countOf r bench
-  unfolding raised countOf isBench
+  other-count : isBench (c .bench) ≡ true → (c .bench ≡ bench → ⊥) → getD (raised (c .bench) (r .refused)) (bench - 1) 0 ≡ refusedBy r bench
+  unfolding raised refusedBy isBench
   other-count f d =
       let low = is-within 1 benches bench b in
       let here = is-within 1 benches (c .bench) f in
@@ -139,21 +139,21 @@ module _ (r : Record) (c : NamedCall) (bench : ℕ) (k : Kept r) (b : isBench be
   raises : Bool
   raises = eqb (c .bench) bench && isRefused (answerTo r c)
 
-  count-after : countOf (recordAfter r c) bench ≡ cond raises (counted (countOf r bench)) (countOf r bench)
-  unfolding raises recordAfterUnder calledUnder answerTo isRefused countOf
+  count-after : refusedBy (recordAfter r c) bench ≡ cond raises (counted (refusedBy r bench)) (refusedBy r bench)
+  unfolding raises recordAfterUnder calledUnder answerTo isRefused refusedBy
   count-after = by-bench (isBench (c .bench)) refl (ℕ-discrete (c .bench) bench)
     where
       by-refusal : isBench (c .bench) ≡ true → (t : Bool) → Dec (c .bench ≡ bench) →
           getD (cond t (r .refused) (raised (c .bench) (r .refused))) (bench - 1) 0 ≡
-          cond (eqb (c .bench) bench && not t) (counted (countOf r bench)) (countOf r bench)
+          cond (eqb (c .bench) bench && not t) (counted (refusedBy r bench)) (refusedBy r bench)
       by-refusal f true (yes e) = rw (eq-eqb (c .bench) bench e)
       by-refusal f true (no d) = rw (ne-eqb (c .bench) bench d)
       by-refusal f false (yes e) = rw (eq-eqb (c .bench) bench e) (own-count e)
       by-refusal f false (no d) = rw (ne-eqb (c .bench) bench d) (other-count f d)
 
       by-bench : (t : Bool) → isBench (c .bench) ≡ t → Dec (c .bench ≡ bench) →
-          countOf (cond t (calledUnder entryLimit r c) r) bench ≡
-          cond (eqb (c .bench) bench && isRefused (cond t (answerOf (r .solver) (c .call)) (Refused 15))) (counted (countOf r bench)) (countOf r bench)
+          refusedBy (cond t (calledUnder entryLimit r c) r) bench ≡
+          cond (eqb (c .bench) bench && isRefused (cond t (answerOf (r .solver) (c .call)) (Refused 15))) (counted (refusedBy r bench)) (refusedBy r bench)
       by-bench true f d = rw (refused-answer (r .solver) (c .call)) (by-refusal f (eqb (refusalOf (r .solver .n) (r .solver .m) (c .call)) 0) d)
       by-bench false f (yes e) = absurd (true≢false (sym b ∙ ap isBench (sym e) ∙ f))
       by-bench false f (no d) = rw (ne-eqb (c .bench) bench d)
@@ -171,32 +171,32 @@ stops most k rest true h = by-ceiling (decLt k most)
         (h, min-eq-right (omega (arith, l)) ∙ sym (min-eq-right (omega (arith, l))))
 
 module _ (bench : ℕ) (b : isBench bench ≡ true) where
-  module _ (r : Record) (c : NamedCall) (k : Kept r) (h : countOf r bench ≤ refusedLimit) where
-    raised-within : cond (raises r c bench k b) (counted (countOf r bench)) (countOf r bench) ≤ refusedLimit
+  module _ (r : Record) (c : NamedCall) (k : Kept r) (h : refusedBy r bench ≤ refusedLimit) where
+    raised-within : cond (raises r c bench k b) (counted (refusedBy r bench)) (refusedBy r bench) ≤ refusedLimit
     unfolding counted
-    raised-within = stops refusedLimit (countOf r bench) 0 (raises r c bench k b) h .0
+    raised-within = stops refusedLimit (refusedBy r bench) 0 (raises r c bench k b) h .0
 
     counts-on : (rest : ℕ) →
-        min (cond (raises r c bench k b) (counted (countOf r bench)) (countOf r bench) + rest) refusedLimit
-        ≡ min (countOf r bench + (cond (raises r c bench k b) 1 0 + rest)) refusedLimit
+        min (cond (raises r c bench k b) (counted (refusedBy r bench)) (refusedBy r bench) + rest) refusedLimit
+        ≡ min (refusedBy r bench + (cond (raises r c bench k b) 1 0 + rest)) refusedLimit
     unfolding counted
-    counts-on rest = stops refusedLimit (countOf r bench) rest (raises r c bench k b) h .1
+    counts-on rest = stops refusedLimit (refusedBy r bench) rest (raises r c bench k b) h .1
 
-  counts-from : (r : Record) (calls : List NamedCall) → Kept r → countOf r bench ≤ refusedLimit →
-      countOf (afterFrom r calls) bench ≡ min (countOf r bench + refusals bench r calls) refusedLimit
+  counts-from : (r : Record) (calls : List NamedCall) → Kept r → refusedBy r bench ≤ refusedLimit →
+      refusedBy (afterFrom r calls) bench ≡ min (refusedBy r bench + refusals bench r calls) refusedLimit
   unfolding afterFromUnder refusals raises
-  counts-from r [] k h = sym (ap (λ x. min x refusedLimit) (add-zero (countOf r bench)) ∙ min-eq-left h)
+  counts-from r [] k h = sym (ap (λ x. min x refusedLimit) (add-zero (refusedBy r bench)) ∙ min-eq-left h)
   counts-from r (c ∷ calls) k h =
       counts-from (recordAfter r c) calls (named-kept r c k) (rw (count-after r c bench k b) (raised-within r c k h))
       ∙ rw (count-after r c bench k b) (counts-on r c k h (refusals bench (recordAfter r c) calls))
 
 pub counts : Counts
-unfolding after fresh countOf
+unfolding after fresh refusedBy
 counts calls bench b =
     counts-from bench b fresh calls fresh-kept (rw none omega arith)
     ∙ ap (λ x. min x refusedLimit) (rw none (zero-add (refusals bench fresh calls)))
   where
-    none : countOf fresh bench ≡ 0
+    none : refusedBy fresh bench ≡ 0
     none = getD-repeated benches (bench - 1) 0
 
 -- two records with one state, on calls that are renamed and on those that are not
