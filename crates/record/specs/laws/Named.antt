@@ -17,7 +17,7 @@ use Rattle.integer.specs.Within.{within}
 use Rattle.integer.specs.laws.Within.{is-within}
 use Rattle.ledger.specs.Bench.{NamedCall, isBench}
 use Rattle.ledger.specs.Call.{Call, load, loadSamples, turn, sweepIn, loosePair, axis}
-use Rattle.ledger.specs.Pairs.{Pair, cyclic}
+use Rattle.ledger.specs.Pairs.{Pair}
 use Rattle.ledger.specs.Refusal.{refusalOf, refusalUnder}
 use Rattle.ledger.specs.declared.Order.the-variants.{Cyclic, Tournament}
 use Rattle.limits.specs.Limits.{benches, entryLimit, refusedLimit}
@@ -110,7 +110,7 @@ value-given s (loadSamples n dilutions counts) = refl
 value-given s (turn p q) = refl
 value-given s (sweepIn Cyclic) = refl
 value-given s (sweepIn Tournament) = refl
-value-given s (loosePair t) = loose-value (keptEntry (s .a)) t (cyclic (s .n))
+value-given s (loosePair t) = loose-value (keptEntry (s .a)) t _
 value-given s (axis i) = refl
 
 pub refused-answer : (s : Solver) (call : Call) → isRefused (answerOf s call) ≡ not (eqb (refusalOf (s .n) (s .m) call) 0)
