@@ -8,7 +8,7 @@ ghost use Rattle.record.specs.Kept.{Kept};
 ghost use Rattle.record.specs.Record.{counted, raised};
 ghost use Rattle.record.specs.RunDone.{RunDone, Runnable};
 ghost use Rattle.record.specs.declared.query.Answer.the-variants.{Refused};
-ghost use Rattle.record.specs.inner.Named.{leftBy};
+ghost use Rattle.record.specs.inner.Named.{countsLeft, leftBy};
 ghost use lib.ListN.{length};
 ghost use mathlib.Core.Bool.{true};
 ghost use mathlib.Core.Path.{_≡_};
@@ -79,6 +79,31 @@ fn is_bench(bench: usize) -> bool
         return false;
     }
     bench <= Record::BENCHES
+}
+
+// The counts that a call of a bench leaves: 'A refused call raises its own bench's count and no other.'
+fn counts_after(counts: [u32; 4], bench: usize, answer: Answer) -> [u32; 4]
+    requires { ⌜ isBench bench ≡ true ⌝ }
+    ensures { λ r. ⌜ r ≡ countsLeft counts bench answer ⌝ }
+{
+    if query::is_refused(answer) {
+        return raise(counts, bench);
+    }
+    counts
+}
+
+// What a call of a bench answers and leaves, by what it does to the state.
+fn answered(counts: [u32; 4], bench: usize, done: SolverStep) -> Step
+    requires { ⌜ isBench bench ≡ true ⌝ }
+    ensures { λ z. ⌜ (z .answer ≡ done .answer) × (z .next ≡ leftBy counts bench (done .answer) (done .next)) ⌝ }
+{
+    let answer = done.answer;
+    let solver = done.next;
+    let refused = counts_after(counts, bench, answer);
+    Step {
+        answer,
+        next: Record { solver, refused },
+    }
 }
 
 impl Record {
@@ -152,7 +177,8 @@ impl Record {
             return self.no_bench();
         }
         let solver = self.solver;
-        self.answered(bench, solver.load(n, numbers))
+        let refused = self.refused;
+        answered(refused, bench, solver.load(n, numbers))
     }
 
     // Document 02, W5: the second load, of the table of samples.
@@ -164,7 +190,8 @@ impl Record {
             return self.no_bench();
         }
         let solver = self.solver;
-        self.answered(bench, solver.load_samples(n, dilutions, counts))
+        let refused = self.refused;
+        answered(refused, bench, solver.load_samples(n, dilutions, counts))
     }
 
     // The load of a table, its entries and its e, that is no call: the run of a job uses it.
@@ -187,7 +214,8 @@ impl Record {
             return self.no_bench();
         }
         let solver = self.solver;
-        self.answered(bench, solver.turn(p, q))
+        let refused = self.refused;
+        answered(refused, bench, solver.turn(p, q))
     }
 
     pub fn sweep(self, bench: usize) -> Step
@@ -213,7 +241,8 @@ impl Record {
             return self.no_bench();
         }
         let solver = self.solver;
-        self.answered(bench, solver.sweep_in(order))
+        let refused = self.refused;
+        answered(refused, bench, solver.sweep_in(order))
     }
 
     pub fn loose_pair(self, bench: usize, t: u64) -> Step
@@ -224,7 +253,11 @@ impl Record {
             return self.no_bench();
         }
         let solver = self.solver;
-        self.answered(bench, solver.loose_pair(t))
+        let answer = solver.loose_pair(t);
+        Step {
+            answer,
+            next: self.asked(bench, answer),
+        }
     }
 
     pub fn axis(self, bench: usize, i: usize) -> AxisStep
@@ -241,13 +274,11 @@ impl Record {
             };
         }
         let solver = self.solver;
-        let done = solver.axis(i);
-        let answer = done.answer;
+        let answer = solver.axis(i);
         let value = answer.value;
-        let next = done.next;
         AxisStep {
             answer,
-            next: self.after(bench, value, next),
+            next: self.asked(bench, value),
         }
     }
 
@@ -281,31 +312,14 @@ impl Record {
         }
     }
 
-    // What a call of a bench answers and leaves, by what it does to the state; an axis call has its own.
-    fn answered(self, bench: usize, done: SolverStep) -> Step
-        requires { ⌜ Kept self × (isBench bench ≡ true) ⌝ }
-        ensures { λ z. ⌜ (z .answer ≡ done .answer) × (z .next ≡ leftBy self bench (done .answer) (done .next)) ⌝ }
-    {
-        let answer = done.answer;
-        let next = done.next;
-        Step {
-            answer,
-            next: self.after(bench, answer, next),
-        }
-    }
-
-    // The record that a call of a bench leaves: 'A refused call raises its own bench's count and no other.'
-    fn after(self, bench: usize, answer: Answer, solver: Solver) -> Self
-        requires { ⌜ Kept self × (isBench bench ≡ true) ⌝ }
-        ensures { λ r. ⌜ r ≡ leftBy self bench answer solver ⌝ }
+    // The record after a query of a bench, which leaves the state as it is.
+    fn asked(mut self, bench: usize, answer: Answer) -> Self
+        requires { ⌜ isBench bench ≡ true ⌝ }
+        ensures { λ r. ⌜ r ≡ leftBy (self .refused) bench answer (self .solver) ⌝ }
     {
         let refused = self.refused;
-        if query::is_refused(answer) {
-            return Record {
-                solver,
-                refused: raise(refused, bench),
-            };
-        }
-        Record { solver, refused }
+        let counts = counts_after(refused, bench, answer);
+        self.refused = counts;
+        self
     }
 }

@@ -12,9 +12,9 @@ ghost use Rattle.ledger.specs.Call.{axis, load, loadSamples, loosePair, sweepIn
 ghost use Rattle.ledger.specs.Refusal.{refusalOf};
 ghost use Rattle.record.specs.declared.query.Answer.the-variants.{Refused};
 ghost use Rattle.record.specs.Kept.{KeptSolver};
-ghost use Rattle.record.specs.Solver.{workedOf};
+ghost use Rattle.record.specs.Solver.{answerOf, axisOf, workedOf};
 ghost use Rattle.record.specs.Worked.{workAt};
-ghost use Rattle.record.specs.inner.Solved.{AxisSolved, Solved, SolverLoaded, SolverRan, SolverRunnable, Unloaded};
+ghost use Rattle.record.specs.inner.Solved.{Solved, SolverLoaded, SolverRan, SolverRunnable, Unloaded};
 ghost use mathlib.Core.Path.{_≡_};
 
 // Channels n, 0 where there is no matrix; turns made m; the shift e of a table made from readings, else 0; the kept matrix and axes, row after
@@ -30,11 +30,6 @@ pub struct Solver {
 // A call's answer, and the state that it leaves.
 pub struct SolverStep {
     pub answer: Answer,
-    pub next: Solver,
-}
-
-pub struct SolverAxisStep {
-    pub answer: AxisAnswer,
     pub next: Solver,
 }
 
@@ -167,46 +162,38 @@ impl Solver {
         }
     }
 
-    pub(crate) fn loose_pair(self, t: u64) -> SolverStep
+    // The queries leave the state as it is.
+    pub(crate) fn loose_pair(self, t: u64) -> Answer
         requires { ⌜ KeptSolver self ⌝ }
-        ensures { λ z. ⌜ Solved self (loosePair t) (z .answer) (z .next) ⌝ }
+        ensures { λ z. ⌜ z ≡ answerOf self (loosePair t) ⌝ }
     {
         let n = self.n;
         let number = query::loose_pair_refusal(n, t);
         if number != 0 {
-            return self.refuse(number);
+            return Answer::Refused(number);
         }
         let matrix = rows::unpacked(&self.a);
-        SolverStep {
-            answer: query::loose_pair_of(&matrix, n, t),
-            next: self,
-        }
+        query::loose_pair_of(&matrix, n, t)
     }
 
-    pub(crate) fn axis(self, i: usize) -> SolverAxisStep
+    pub(crate) fn axis(self, i: usize) -> AxisAnswer
         requires { ⌜ KeptSolver self ⌝ }
-        ensures { λ z. ⌜ AxisSolved self i (z .answer) (z .next) ⌝ }
+        ensures { λ z. ⌜ (z .value ≡ answerOf self (axis i)) × (z .row ≡ axisOf self i) ⌝ }
     {
         let n = self.n;
         let number = query::axis_refusal(n, i);
         if number != 0 {
-            return SolverAxisStep {
-                answer: AxisAnswer {
-                    value: Answer::Refused(number),
-                    row: [0; 8],
-                },
-                next: self,
+            return AxisAnswer {
+                value: Answer::Refused(number),
+                row: [0; 8],
             };
         }
         let matrix = rows::unpacked(&self.a);
         let entry = matrix[i - 1][i - 1];
         let error = query::error_of(&matrix, n, self.e, self.m, i - 1);
-        SolverAxisStep {
-            answer: AxisAnswer {
-                value: Answer::Axis { entry, error },
-                row: rows::row(&self.v, i - 1),
-            },
-            next: self,
+        AxisAnswer {
+            value: Answer::Axis { entry, error },
+            row: rows::row(&self.v, i - 1),
         }
     }
 
@@ -226,7 +213,7 @@ impl Solver {
         }
     }
 
-    // What a refused call answers and leaves; an axis call has its own.
+    // What a refused call answers and leaves.
     fn refuse(self, number: u32) -> SolverStep
         ensures { λ z. ⌜ (z .answer ≡ Refused number) × (z .next ≡ self) ⌝ }
     {

@@ -4,13 +4,12 @@ use mathlib.Core.Bool.{false}
 use Prim.Native.Nat.{ℕ, _≤_}
 use mathlib.Core.List.{List}
 use lib.IntN.{ℤ}
-use Rattle.ledger.specs.Call.{Call, axis}
+use Rattle.ledger.specs.Call.{Call}
 use Rattle.limits.specs.Limits.{mostSweeps, toleranceLimit}
 use Rattle.record.specs.declared.query.Answer.{Answer}
 use Rattle.record.specs.Kept.{KeptSolver}
 use Rattle.record.specs.Run.{runFrom, stop}
-use Rattle.record.specs.Solver.{afterOf, answerOf, axisOf, loadedSolver, unloaded}
-use Rattle.record.specs.declared.AxisAnswer.{AxisAnswer}
+use Rattle.record.specs.Solver.{afterOf, answerOf, loadedSolver, unloaded}
 use Rattle.record.specs.declared.solver.Solver.{Solver}
 use Rattle.record.specs.declared.solver.SolverRun.{SolverRun}
 
@@ -25,12 +24,6 @@ pub record Solved (s : Solver) (call : Call) (answer : Answer) (next : Solver) :
 
 pub record SolverLoaded (n : ℕ) (numbers : List ℤ) (e : ℕ) (next : Solver) : Type 0 where
   pub is : next ≡ loadedSolver n numbers e
-  pub keeps : KeptSolver next
-
-pub record AxisSolved (s : Solver) (i : ℕ) (answer : AxisAnswer) (next : Solver) : Type 0 where
-  pub answers : answer .value ≡ answerOf s (axis i)
-  pub row : answer .row ≡ axisOf s i
-  pub leaves : next ≡ afterOf s (axis i)
   pub keeps : KeptSolver next
 
 -- a matrix is loaded and not turned yet, the sweep limit is at most 16, and the tolerance is in its range

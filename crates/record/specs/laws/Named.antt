@@ -29,7 +29,7 @@ use Rattle.record.specs.Loose.{looseOf}
 use Rattle.record.specs.Record.{after, afterFrom, afterFromUnder, answerTo, calledUnder, refusedBy, counted, fresh, isRefused, raised, recordAfter}
 use Rattle.record.specs.Record.{recordAfterUnder, rowTo}
 use Rattle.record.specs.Run.{own}
-use Rattle.record.specs.Solver.{afterOf, afterOfUnder, answerOf, axisOf, valueOf}
+use Rattle.record.specs.Solver.{acceptedOf, afterOf, afterOfUnder, answerOf, axisOf, valueOf}
 use Rattle.record.specs.declared.Record.{Record}
 use Rattle.record.specs.declared.query.Answer.the-variants.{Pair as PairIs, Refused}
 use Rattle.record.specs.declared.solver.Solver.{Solver}
@@ -91,6 +91,15 @@ pub own-leaves : (r : Record) (call : Call) → refusalOf (r .solver .n) (r .sol
     recordAfter r (own call) ≡ record { solver = afterOf (r .solver) call; refused = r .refused }
 unfolding isBench within calledUnder
 own-leaves r call e = bench-leaves r (own call) refl ∙ rw (eq-eqb (refusalOf (r .solver .n) (r .solver .m) call) 0 e)
+
+-- queries leave the state as it is, refused or not
+pub query-leaves : (s : Solver) (call : Call) → acceptedOf s call ≡ s → afterOf s call ≡ s
+unfolding afterOfUnder
+query-leaves s call e = by-refusal (eqb (refusalOf (s .n) (s .m) call) 0)
+  where
+    by-refusal : (b : Bool) → cond b (acceptedOf s call) s ≡ s
+    by-refusal true = e
+    by-refusal false = refl
 
 -- a call that no refusal applies to is answered by something else
 loose-value : (a : Matrix) (t : ℕ) (pairs : List Pair) → isRefused (looseOf a t pairs) ≡ false

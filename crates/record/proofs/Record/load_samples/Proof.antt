@@ -17,7 +17,7 @@ returns c =
 returns-2 : tie.Need-returns-2
 returns-2 c =
     let called = c .before in
-    let checked = called .before .before in
+    let checked = called .before .before .before in
     let s = checked .before .before .before .before in
     let told = checked .before .is-bench .ensures in
     (of-bench (s .args .self) (s .args .bench) (loadSamples (s .args .n) (s .args .dilutions .now) (s .args .counts .now)) (s .pre) (sym told ∙ not-false _ (checked .if1 .left)) _ _ _ _
@@ -27,6 +27,6 @@ pub load-samples-spec : {M : Type 1} → statement M
 load-samples-spec =
     tie.close
     (tie.spec (λ c κs. search needs) (λ c κs. search needs) returns (λ c κs. search needs)
-    (λ c κs. let checked = c .before .before in
-    (checked .before .before .before .before .pre, sym (checked .before .is-bench .ensures) ∙ not-false _ (checked .if1 .left)))
+    (λ c κs. let checked = c .before .before .before in
+    sym (checked .before .is-bench .ensures) ∙ not-false _ (checked .if1 .left))
     returns-2)

@@ -1,5 +1,5 @@
 -- `record::solver::Solver::axis` meets its contract.
-use mathlib.Core.Path.{_≡_, refl, sym, _∙_}
+use mathlib.Core.Path.{_≡_, sym, ap, _∙_}
 use mathlib.Core.List.{[]}
 use Prim.Native.Nat.{_-_, _<_}
 use native.Mathlib.Omega.{arith}
@@ -16,26 +16,21 @@ use Rattle.ledger.specs.laws.Axis.{same-error}
 use Rattle.ledger.specs.Call.{axis}
 use Rattle.ledger.specs.Refusal.{refusalOf, refusalUnder}
 use Rattle.turn.specs.Turn.{at}
-use Rattle.record.specs.declared.query.Answer.the-variants.{Axis}
+use Rattle.record.specs.declared.query.Answer.the-variants.{Axis, Refused}
 use Rattle.record.specs.laws.Fill.{at-rowsOf}
 use Rattle.record.specs.Flat.{keptEntry}
-use Rattle.record.specs.Solver.{acceptedOfUnder, axisOf, valueOf}
-use Rattle.record.proofs.Outcome.{accepted, kept-small, refused}
+use Rattle.record.specs.Solver.{answerOf, axisOf, valueOf}
+use Rattle.record.proofs.Outcome.{kept-small}
 use Rattle.record.proofs.solver.Solver.axis.Statement.{statement}
 use Rattle.record.proofs.solver.Solver.axis.Tie as tie
 
 returns : tie.Need-returns
-unfolding refusalUnder axisOf
+unfolding answerOf refusalUnder axisOf
 returns c =
     let s = c .before .before in
     let e = c .before .axis-refusal .ensures in
-    let done = refused (s .args .t1) (axis (s .args .i)) (s .pre) _ e _ (c .if1 .taken) refl in
-    record {
-      answers = done .answers;
-      row = rw (ne-eqb (refusalOf (s .args .t1 .n) (s .args .t1 .m) (axis (s .args .i))) 0 (λ z. c .if1 .taken (e ∙ z)));
-      leaves = done .leaves;
-      keeps = done .keeps;
-    }
+    let test = ne-eqb (refusalOf (s .args .t1 .n) (s .args .t1 .m) (axis (s .args .i))) 0 (λ z. c .if1 .taken (e ∙ z)) in
+    (ap Refused e ∙ rw test, rw test)
 
 -- what the passed checks tell
 names : (c : tie.Else1) → (let s = c .before .before .args in Names (s .t1 .n) (s .i))
@@ -57,7 +52,7 @@ error-of-requires c κs =
     )
 
 returns-2 : tie.Need-returns-2
-unfolding refusalUnder valueOf acceptedOfUnder axisOf at
+unfolding answerOf refusalUnder valueOf axisOf at
 returns-2 c =
     let error = c .before .before .before in
     let unpacked = error .before .before .before in
@@ -72,13 +67,8 @@ returns-2 c =
     let error-is : error .error-of .result ≡ errorOf (r .n) (r .e) (keptEntry (r .a)) (r .m) i =
     error .error-of .ensures ∙ rw (unpacked .unpacked .ensures)
     (same-error (r .n) (r .e) _ _ (r .m) i (λ j l. at-rowsOf (r .a) i j (place checked) (omega (arith, l, s .pre .size)))) in
-    let done = accepted r (axis (s .args .i)) (s .pre) _ e _ r (checked .if1 .left) (λ k. Axis (word f entry k) (error-is k)) refl in
-    record {
-      answers = done .answers;
-      row = c .row .ensures ∙ rw (eq-eqb (refusalOf (r .n) (r .m) (axis (s .args .i))) 0 (sym e ∙ checked .if1 .left));
-      leaves = done .leaves;
-      keeps = done .keeps;
-    }
+    let test = eq-eqb (refusalOf (r .n) (r .m) (axis (s .args .i))) 0 (sym e ∙ checked .if1 .left) in
+    ((λ k. Axis (word f entry k) (error-is k)) ∙ rw test, c .row .ensures ∙ rw test)
 
 pub axis-spec : {M : Type 1} → statement M
 axis-spec =
