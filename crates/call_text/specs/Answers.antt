@@ -2,10 +2,8 @@
 use Prim.Native.Nat.{ℕ}
 use mathlib.Core.Bool.{true, false}
 use mathlib.Core.List.{List, [], _∷_, _++_, map}
-use lib.IntN.{ℤ, pos}
 use lib.ListN.{length, take, drop, replicate}
 use Rattle.ledger.specs.Bench.{NamedCall}
-use Rattle.ledger.specs.Call.{Call, load, loadSamples, turn, sweepIn, loosePair, axis}
 use Rattle.record.specs.Record.{answerTo, recordAfter, rowTo}
 use Rattle.record.specs.declared.Record.{Record}
 use Rattle.text.specs.Decimal.{digits, number}
@@ -32,22 +30,10 @@ shownAs (Refused k) t = line ((88 ∷ []) ∷ digits k ∷ map digits (t .refuse
 unfoldable pub shown : Told → List ℕ
 shown t = shownAs (t .answer) t
 
--- row i of v, of an axis call
-unfoldable pub rowBy : Record → ℕ → Call → List ℤ
-rowBy r bench (load n numbers) = replicate 8 (pos 0)
-rowBy r bench (loadSamples n dilutions counts) = replicate 8 (pos 0)
-rowBy r bench (turn p q) = replicate 8 (pos 0)
-rowBy r bench (sweepIn order) = replicate 8 (pos 0)
-rowBy r bench (loosePair t) = replicate 8 (pos 0)
-rowBy r bench (axis i) = rowTo r bench i
-
-abbrev pub rowFor : Record → NamedCall → List ℤ
-rowFor r c = rowBy r (c .bench) (c .call)
-
 -- the answer of a call on the record r, with n and the counts after it
 unfoldable pub toldOf : Record → NamedCall → Told
 toldOf r c =
-    record { answer = answerTo r c; row = rowFor r c; n = recordAfter r c .solver .n; refused = recordAfter r c .refused }
+    record { answer = answerTo r c; row = rowTo r c; n = recordAfter r c .solver .n; refused = recordAfter r c .refused }
 
 unfoldable pub answerLine : Record → NamedCall → List ℕ
 answerLine r c = shown (toldOf r c)

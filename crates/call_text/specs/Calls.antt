@@ -72,7 +72,7 @@ unfoldable pub named : ℕ → Option Call → Option NamedCall
 named bench none = none
 named bench (some call) = some (by bench call)
 
--- 'the bench stands after the tag'
+-- README: 'The first number of a call is the bench that makes it'
 unfoldable pub namedBy : ℕ → List ℤ → Option NamedCall
 namedBy tag [] = none
 namedBy tag (bench ∷ numbers) = named (argument bench) (callBy tag numbers)
@@ -92,7 +92,7 @@ callOfFields most ((tag ∷ b ∷ bs) ∷ fields) = none
 unfoldable pub callWithin : ℕ → List ℕ → Option NamedCall
 callWithin most line = callOfFields most (split 9 line)
 
--- README: 'A line has at most 4,096 numbers; more make it no call'
+-- README: 'A line has at most 4,096 numbers, the bench among them; more make it no call'
 unfoldable pub numberLimit : ℕ
 numberLimit = 4096
 

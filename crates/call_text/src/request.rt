@@ -185,7 +185,7 @@ fn by_tag(tag: u8, bench: usize, numbers: &[i64], count: usize) -> Request
     Request::NoCall
 }
 
-// Document 02, W8: the bench stands after the tag.
+// The bench stands after the tag.
 fn by_bench(tag: u8, numbers: &[i64], count: usize) -> Request
     requires { ⌜ count ≤ length (now numbers) ⌝ }
     ensures { λ z. ⌜ z ≡ askedFor (namedBy tag (take count (now (numbers .entry)))) ⌝ }

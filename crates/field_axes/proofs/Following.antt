@@ -44,7 +44,7 @@ module _ (n : ℕ) (r : Record) (c : r .solver .n ≡ n) (few : n ≤ 8) where
   row-used i h =
       let e : n + 2 ≡ suc (suc n) = omega arith in
       rw (axes-row r i (omega arith) (omega arith), e)
-      (two-before (answerTo r (own (axis (suc i)))) n (rowTo r 1 (suc i)))
+      (two-before (answerTo r (own (axis (suc i)))) n (rowTo r (own (axis (suc i)))))
 
   pub used-axes : (i : ℕ) → i ≤ n → used n (axesNumbers r) i ≡ axes n r i
   unfolding used axes

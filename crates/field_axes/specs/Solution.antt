@@ -25,7 +25,7 @@ outcomeNumber Spent = 2
 
 -- a_ii, r_i and the n numbers of row i of v
 unfoldable pub axisSolution : ℕ → Record → ℕ → List ℤ
-axisSolution n r i = axisValues (answerTo r (own (axis i))) ++ take n (rowTo r 1 i)
+axisSolution n r i = axisValues (answerTo r (own (axis i))) ++ take n (rowTo r (own (axis i)))
 
 -- for i = 1 to `last`
 unfoldable pub axes : ℕ → Record → ℕ → List ℤ

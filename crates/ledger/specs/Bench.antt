@@ -12,6 +12,6 @@ pub record NamedCall : Type 0 where
 abbrev pub by : ℕ → Call → NamedCall
 by bench call = record { bench = bench; call = call }
 
--- 'a bench from 1 to 4'
+-- 'a bench from 1 to 4'; 'A bench outside 1 to 4 gives 15, tried before everything else'
 unfoldable pub isBench : ℕ → Bool
 isBench bench = within 1 benches bench

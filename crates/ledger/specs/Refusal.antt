@@ -1,4 +1,5 @@
--- Document 01, 'Caused by the input' and 'Caused by the state': every refusal of a call, and their order.
+-- Document 01, 'Caused by the input' and 'Caused by the state': every refusal of a call by its arguments and the state, and their order. Document
+-- 02's 15, which is tried before them, is of the bench alone (specs/Bench).
 use Prim.Native.Nat.{ℕ, _+_, _-_, _*_, _/_}
 use mathlib.Core.Bool.{Bool, true, false, _&&_}
 use mathlib.Core.List.{List, [], _∷_}

@@ -15,7 +15,7 @@ use Rattle.record.specs.declared.Record.{Record}
 use Rattle.record.specs.declared.query.Answer.{Answer}
 use Rattle.record.specs.declared.query.Answer.the-variants.{Refused}
 use Rattle.record.specs.declared.solver.Solver.{Solver}
-use Rattle.record.specs.inner.Named.{countsLeft, leftBy}
+use Rattle.record.specs.inner.Named.{countsLeft, leftWith}
 use Rattle.record.specs.laws.Named.{bench-answers, bench-leaves, named-kept, no-bench-answers, no-bench-leaves, refused-answer}
 
 module _ (r : Record) (bench : ℕ) (call : Call) (k : Kept r) where
@@ -28,7 +28,7 @@ module _ (r : Record) (bench : ℕ) (call : Call) (k : Kept r) where
         keeps = rw leaves (named-kept r (by bench call) k);
       }
 
-  left-is : leftBy (r .refused) bench (answerOf (r .solver) call) (afterOf (r .solver) call) ≡ calledUnder entryLimit r (by bench call)
+  left-is : leftWith (r .refused) bench (answerOf (r .solver) call) (afterOf (r .solver) call) ≡ calledUnder entryLimit r (by bench call)
   unfolding countsLeft calledUnder
   left-is = rw (refused-answer (r .solver) call) (by-refusal (eqb (refusalOf (r .solver .n) (r .solver .m) call) 0))
     where
@@ -40,7 +40,7 @@ module _ (r : Record) (bench : ℕ) (call : Call) (k : Kept r) where
 
   -- from what the call answers and does to the state
   pub of-bench : isBench bench ≡ true → (answer given : Answer) (next : Record) (solver : Solver) → given ≡ answerOf (r .solver) call →
-      solver ≡ afterOf (r .solver) call → answer ≡ given → next ≡ leftBy (r .refused) bench given solver → Done r (by bench call) answer next
+      solver ≡ afterOf (r .solver) call → answer ≡ given → next ≡ leftWith (r .refused) bench given solver → Done r (by bench call) answer next
   of-bench b answer given next solver e f a g =
       let leaves : next ≡ recordAfter r (by bench call) = g ∙ rw (e, f) left-is ∙ sym (bench-leaves r (by bench call) b) in
       record {

@@ -28,7 +28,7 @@ use Rattle.record.specs.Solver.{acceptedOfUnder, afterOf, afterOfUnder, 
 use Rattle.record.specs.Record.{answerTo}
 use Rattle.record.specs.declared.Record.{Record}
 use Rattle.record.specs.declared.solver.Solver.{Solver}
-use Rattle.record.specs.laws.Turning.{matrix-small, works-grow, works-least}
+use Rattle.record.specs.laws.Turning.{works-grow, works-least}
 use Rattle.record.specs.Work.{Work, workPair, workPairs}
 use Rattle.record.specs.Worked.{Ready, workAt}
 use Rattle.record.proofs.Sweeping.{pair-shaped}

@@ -6,16 +6,16 @@ use Prim.Native.Nat.{ℕ, _+_, min}
 use lib.Dec.{eqb}
 use Rattle.ledger.specs.Bench.{NamedCall, by, isBench}
 use Rattle.limits.specs.Limits.{refusedLimit}
-use Rattle.record.specs.Record.{after, answerTo, refusedBy, fresh, isRefused, recordAfter}
+use Rattle.record.specs.Record.{after, answerTo, fresh, isRefused, recordAfter, refusedBy, rowTo}
 use Rattle.record.specs.declared.Record.{Record}
-use Rattle.record.specs.declared.query.Answer.{Answer}
+use Rattle.record.specs.declared.AxisAnswer.{AxisAnswer}
 
--- the answers of a list of calls, each on the record that those before it leave
-unfoldable pub answersFrom : Record → List NamedCall → List Answer
+-- the answers of a list of calls, each with its row, on the record that those before it leave
+unfoldable pub answersFrom : Record → List NamedCall → List AxisAnswer
 answersFrom r [] = []
-answersFrom r (c ∷ calls) = answerTo r c ∷ answersFrom (recordAfter r c) calls
+answersFrom r (c ∷ calls) = record { value = answerTo r c; row = rowTo r c } ∷ answersFrom (recordAfter r c) calls
 
--- how many of them are refusals of a bench's calls
+-- how many calls of a bench are refused
 unfoldable pub refusals : ℕ → Record → List NamedCall → ℕ
 refusals bench r [] = 0
 refusals bench r (c ∷ calls) = cond (eqb (c .bench) bench && isRefused (answerTo r c)) 1 0 + refusals bench (recordAfter r c) calls

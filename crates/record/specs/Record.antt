@@ -9,7 +9,7 @@ use lib.ListN.{getD, replicate, set}
 use Rattle.ledger.specs.Bench.{NamedCall, isBench}
 use Rattle.ledger.specs.Refusal.{refusalUnder}
 use Rattle.limits.specs.Limits.{benches, entryLimit, refusedLimit}
-use Rattle.record.specs.Solver.{afterOfUnder, answerOf, axisOf, unloaded}
+use Rattle.record.specs.Solver.{afterOfUnder, answerOf, rowOf, unloaded}
 use Rattle.record.specs.declared.Record.{Record}
 use Rattle.record.specs.declared.query.Answer.{Answer}
 use Rattle.record.specs.declared.query.Answer.the-variants.{Loaded, SamplesLoaded, Turned, Swept, TournamentSwept, Pair, NoPair, Axis, Refused}
@@ -35,8 +35,8 @@ unfoldable pub answerTo : Record → NamedCall → Answer
 answerTo r c = cond (isBench (c .bench)) (answerOf (r .solver) (c .call)) (Refused 15)
 
 -- row i of v, with the answer of an axis call
-unfoldable pub rowTo : Record → ℕ → ℕ → List ℤ
-rowTo r bench i = cond (isBench bench) (axisOf (r .solver) i) (replicate 8 (pos 0))
+unfoldable pub rowTo : Record → NamedCall → List ℤ
+rowTo r c = cond (isBench (c .bench)) (rowOf (r .solver) (c .call)) (replicate 8 (pos 0))
 
 -- the record after a call of one of the four benches, under a limit of the entries: 'A refused call raises its own bench's count'
 unfoldable pub calledUnder : ℕ → Record → NamedCall → Record

@@ -13,9 +13,12 @@ use Rattle.record.specs.declared.run.Run.{Run}
 use Rattle.record.specs.declared.query.Answer.{Answer}
 use Rattle.record.specs.declared.query.Answer.the-variants.{Loaded, SamplesLoaded, Turned, Swept, TournamentSwept, Pair, NoPair, Axis, Refused}
 
--- document 02, W8: a run's record is its own, and its calls are those of bench 1
+-- 'A run takes a fresh record of its own': since document 02's W8 a call names a bench, and a run's calls name bench 1
+abbrev pub ownBench : ℕ
+ownBench = 1
+
 abbrev pub own : Call → NamedCall
-own call = by 1 call
+own call = by ownBench call
 
 -- a loose-pair call answers none
 unfoldable pub noPair : Answer → Bool

@@ -101,6 +101,15 @@ answerOf s call =
     let number = refusalOf (s .n) (s .m) call in
     cond (eqb number 0) (valueOf s call) (Refused number)
 
--- row i of v, with the answer of an axis call
+-- row i of v, with the answer of an axis call; zeros where it is refused
 unfoldable pub axisOf : Solver → ℕ → List ℤ
 axisOf s i = cond (eqb (refusalOf (s .n) (s .m) (axis i)) 0) (entriesOf (s .v) (i - 1)) (replicate 8 (pos 0))
+
+-- and zeros with every other answer
+unfoldable pub rowOf : Solver → Call → List ℤ
+rowOf s (load n numbers) = replicate 8 (pos 0)
+rowOf s (loadSamples n dilutions counts) = replicate 8 (pos 0)
+rowOf s (turn p q) = replicate 8 (pos 0)
+rowOf s (sweepIn order) = replicate 8 (pos 0)
+rowOf s (loosePair t) = replicate 8 (pos 0)
+rowOf s (axis i) = axisOf s i

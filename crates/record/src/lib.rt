@@ -1,15 +1,14 @@
 // The record and its calls: the state that holds one matrix with its axes and the turns made of it, and a count of refused calls for each bench.
 use ledger::Order;
 ghost use Rattle.ledger.specs.Bench.{by, isBench};
-ghost use Rattle.ledger.specs.Call.{axis, load, loadSamples, loosePair, sweep, sweepIn, tournamentSweep, turn};
+ghost use Rattle.ledger.specs.Call.{load, loadSamples, sweep, sweepIn, tournamentSweep, turn};
 ghost use Rattle.ledger.specs.Refusal.{refusalOf};
-ghost use Rattle.record.specs.Done.{AxisDone, Done, Fresh, LooseDone, TableLoaded};
+ghost use Rattle.record.specs.Done.{AxisDone, Done, Fresh, GivesCounts, LooseDone, TableLoaded};
 ghost use Rattle.record.specs.Kept.{Kept};
 ghost use Rattle.record.specs.Record.{counted, raised};
 ghost use Rattle.record.specs.RunDone.{RunDone, Runnable};
 ghost use Rattle.record.specs.declared.query.Answer.the-variants.{Refused};
-ghost use Rattle.record.specs.inner.Named.{countsLeft, leftBy};
-ghost use lib.ListN.{length};
+ghost use Rattle.record.specs.inner.Named.{countsLeft, leftWith};
 ghost use mathlib.Core.Bool.{true};
 ghost use mathlib.Core.Path.{_≡_};
 
@@ -95,7 +94,7 @@ fn counts_after(counts: [u32; 4], bench: usize, answer: Answer) -> [u32; 4]
 // What a call of a bench answers and leaves, by what it does to the state.
 fn answered(counts: [u32; 4], bench: usize, done: SolverStep) -> Step
     requires { ⌜ isBench bench ≡ true ⌝ }
-    ensures { λ z. ⌜ (z .answer ≡ done .answer) × (z .next ≡ leftBy counts bench (done .answer) (done .next)) ⌝ }
+    ensures { λ z. ⌜ (z .answer ≡ done .answer) × (z .next ≡ leftWith counts bench (done .answer) (done .next)) ⌝ }
 {
     let answer = done.answer;
     let solver = done.next;
@@ -140,7 +139,7 @@ impl Record {
 
     // How many calls of bench 1, 2, 3 and 4 were refused.
     pub fn refused_calls(self) -> [u32; 4]
-        ensures { λ r. ⌜ r ≡ self .refused ⌝ }
+        ensures { λ r. ⌜ GivesCounts self r ⌝ }
     {
         self.refused
     }
@@ -194,7 +193,7 @@ impl Record {
         answered(refused, bench, solver.load_samples(n, dilutions, counts))
     }
 
-    // The load of a table, its entries and its e, that is no call: the run of a job uses it.
+    // The load of a table, its entries and its e. It is no call and names no bench: a run, whose record is its own, begins with it.
     pub fn load_table(self, n: usize, numbers: &[i64], e: u32) -> Self
         requires { ⌜ Kept self × (refusalOf 0 0 (load n (now numbers)) ≡ 0) ⌝ }
         ensures { λ r. ⌜ TableLoaded self n (now (numbers .entry)) e r ⌝ }
@@ -315,7 +314,7 @@ impl Record {
     // The record after a query of a bench, which leaves the state as it is.
     fn asked(mut self, bench: usize, answer: Answer) -> Self
         requires { ⌜ isBench bench ≡ true ⌝ }
-        ensures { λ r. ⌜ r ≡ leftBy (self .refused) bench answer (self .solver) ⌝ }
+        ensures { λ r. ⌜ r ≡ leftWith (self .refused) bench answer (self .solver) ⌝ }
     {
         let refused = self.refused;
         let counts = counts_after(refused, bench, answer);

@@ -12,6 +12,9 @@ use crate::query::Answer;
 use crate::sweep;
 use ledger::Order;
 
+// The bench that a run's calls on its own record name.
+pub const OWN_BENCH: usize = 1;
+
 // How a run ends.
 pub enum Outcome {
     Settled,

@@ -125,7 +125,7 @@ module _ (n : ℕ) (r : Record) (i : ℕ) (c : r .solver .n ≡ n) (h : n ≤ 8)
   unfolding axisValues
   values-are = rw (axis-answer r (suc i) (omega arith) (omega arith), place)
 
-  row-is : take n (rowTo r 1 (suc i)) ≡ tabulate n (keptEntry (r .solver .v) i)
+  row-is : take n (rowTo r (own (axis (suc i)))) ≡ tabulate n (keptEntry (r .solver .v) i)
   unfolding axisOf entriesOf eight tabulate
   row-is =
       rw (own-row r (suc i), eq-eqb _ 0 (axis-taken (r .solver .n) (r .solver .m) (suc i) (omega arith) (omega arith)), place)
@@ -134,7 +134,7 @@ module _ (n : ℕ) (r : Record) (i : ℕ) (c : r .solver .n ≡ n) (h : n ≤ 8)
   line-is : lineA r (suc i) ≡ numberLine 65 (pos (suc i) ∷ keptEntry (r .solver .a) i i ∷ pos (errorAt r i) ∷ tabulate n (keptEntry (r .solver .v) i))
   unfolding lineA
   line-is =
-      ap (λ k. numberLine 65 (pos (suc i) ∷ (axisValues (answerTo r (own (axis (suc i)))) ++ take k (rowTo r 1 (suc i))))) c
+      ap (λ k. numberLine 65 (pos (suc i) ∷ (axisValues (answerTo r (own (axis (suc i)))) ++ take k (rowTo r (own (axis (suc i))))))) c
       ∙ ap₂ (λ (values row : List ℤ). numberLine 65 (pos (suc i) ∷ (values ++ row))) values-are row-is
 
 module _ (j : Job) (p : Proper j) where

@@ -26,7 +26,7 @@ module _ (r : Record) where
   line-same i l h =
       let e : r .solver .n + 3 ≡ suc (suc (suc (r .solver .n))) = omega arith in
       rw (axes-row r i (omega arith) (omega arith), e)
-      (ap (λ (l : List ℤ). numberLine 65 (pos (suc i) ∷ l)) (two-before (answerTo r (own (axis (suc i)))) (r .solver .n) (rowTo r 1 (suc i))))
+      (ap (λ (l : List ℤ). numberLine 65 (pos (suc i) ∷ l)) (two-before (answerTo r (own (axis (suc i)))) (r .solver .n) (rowTo r (own (axis (suc i))))))
 
 pub text-same : (k : ℕ) (z : Run) → z .last .solver .n ≤ 8 → textOf (headOf k z) (z .outcome) (axesNumbers (z .last)) (z .last .solver .n) ≡ runReport k z
 unfolding textOf runReport lineR

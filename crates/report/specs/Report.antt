@@ -25,7 +25,7 @@ lineR k z = wordLine 82 (headOf k z) (outcomeWord (z .outcome))
 
 -- '`A` i a_ii r_i and row i of v'; 65 is `A`
 unfoldable pub lineA : Record → ℕ → List ℕ
-lineA r i = numberLine 65 (pos i ∷ (axisValues (answerTo r (own (axis i))) ++ take (r .solver .n) (rowTo r 1 i)))
+lineA r i = numberLine 65 (pos i ∷ (axisValues (answerTo r (own (axis i))) ++ take (r .solver .n) (rowTo r (own (axis i)))))
 
 -- 'then for i = 1 to n'
 unfoldable pub runReport : ℕ → Run → List ℕ

@@ -6,6 +6,7 @@ ghost use Rattle.record.specs.Kept.{Kept};
 ghost use Rattle.report.specs.inner.AxisNumbers.{axesNumbers, axisNumbers};
 use record::Answer;
 use record::Record;
+use record::run::OWN_BENCH;
 
 // Three numbers, and a row after them.
 fn numbers_of(number: i64, entry: i64, error: i64, row: [i64; 8]) -> [i64; 11]
@@ -31,7 +32,7 @@ fn axis_numbers(r: Record, i: usize) -> [i64; 11]
     requires { ⌜ Kept r × (1 ≤ i) × (i ≤ r .solver .n) ⌝ }
     ensures { λ z. ⌜ z ≡ axisNumbers r i ⌝ }
 {
-    let step = r.axis(1, i);
+    let step = r.axis(OWN_BENCH, i);
     let answered = step.answer;
     let value = answered.value;
     let row = answered.row;

@@ -3,6 +3,7 @@ pub mod word;
 
 use record::Record;
 use record::Run;
+use record::run::OWN_BENCH;
 ghost use Rattle.run.specs.Run.{Allowed, Runs, RunsTable};
 
 pub fn run(n: usize, numbers: &[i64], limit: u64, tolerance: u64) -> Run
@@ -10,7 +11,7 @@ pub fn run(n: usize, numbers: &[i64], limit: u64, tolerance: u64) -> Run
     ensures { λ z. ⌜ Runs n (now (numbers .entry)) limit tolerance z ⌝ }
 {
     let fresh = Record::new();
-    let loaded = fresh.load(1, n, numbers);
+    let loaded = fresh.load(OWN_BENCH, n, numbers);
     let r = loaded.next;
     r.run(limit, tolerance)
 }

@@ -20,7 +20,7 @@ use Rattle.ledger.specs.Refusal.{equal, refusalUnder, symmetric, entriesWithin}
 use Rattle.record.specs.Flat.{entriesOf, flatOf, keptEntry, rowsOf}
 use Rattle.record.specs.Loose.{looseOf}
 use Rattle.record.specs.Record.{answerTo, calledUnder, fresh, recordAfter, recordAfterUnder, rowTo}
-use Rattle.record.specs.Solver.{acceptedOfUnder, afterOfUnder, answerOf, axisOf, loadedSolver, sweptOf, unloaded, valueOf, workOf, workedOf}
+use Rattle.record.specs.Solver.{acceptedOfUnder, afterOfUnder, answerOf, axisOf, loadedSolver, rowOf, sweptOf, unloaded, valueOf, workOf, workedOf}
 use Rattle.record.specs.Work.{chosen, workBy, workPair, workPairs}
 use Rattle.record.specs.declared.Record.{Record}
 use Rattle.record.specs.declared.query.Answer.the-variants.{Axis}
@@ -68,13 +68,13 @@ pub record Spends : Type 0 where
   pub channels : threeRun .last .solver .n ≡ 2
   pub shift : threeRun .last .solver .e ≡ 0
   pub axis-1 : answerTo (threeRun .last) (own (axis 1)) ≡ Axis (pos 26624) 7172
-  pub row-1 : rowTo (threeRun .last) 1 1 ≡ pos 644245094 ∷ neg 858993459 ∷ pos 0 ∷ pos 0 ∷ pos 0 ∷ pos 0 ∷ pos 0 ∷ pos 0 ∷ []
+  pub row-1 : rowTo (threeRun .last) (own (axis 1)) ≡ pos 644245094 ∷ neg 858993459 ∷ pos 0 ∷ pos 0 ∷ pos 0 ∷ pos 0 ∷ pos 0 ∷ pos 0 ∷ []
   pub axis-2 : answerTo (threeRun .last) (own (axis 2)) ≡ Axis (pos 75776) 7172
-  pub row-2 : rowTo (threeRun .last) 1 2 ≡ pos 858993459 ∷ pos 644245094 ∷ pos 0 ∷ pos 0 ∷ pos 0 ∷ pos 0 ∷ pos 0 ∷ pos 0 ∷ []
+  pub row-2 : rowTo (threeRun .last) (own (axis 2)) ≡ pos 858993459 ∷ pos 644245094 ∷ pos 0 ∷ pos 0 ∷ pos 0 ∷ pos 0 ∷ pos 0 ∷ pos 0 ∷ []
 
 pub spends : Spends
 unfolding runAfter runFrom tried isBench within answerTo recordAfterUnder calledUnder rowTo noPair noTurn answerOf valueOf afterOfUnder
-    acceptedOfUnder axisOf fresh unloaded loadedSolver inUse sweptOf workOf workedOf
+    acceptedOfUnder axisOf rowOf fresh unloaded loadedSolver inUse sweptOf workOf workedOf
     looseOf tabulate keptEntry entriesOf rowsOf flatOf chosen workBy workPair workPairs errorOf tableError cyclic rowsFrom row matrixOf equal
     symmetric entriesWithin refusalUnder diagonal sumℕ choose smallestFit fits threshold roundedUp u w minusSign negative rotationOf signed first
     second turnMatrix turnAxes turnedAxes array eight at turned newp newq newpp newpq newqq hpp hpq hqp hqq atPair rnd

@@ -12,11 +12,12 @@ use lib.Seq.{length-take-le}
 use mir.Facts.{and-yes}
 use Rattle.ledger.specs.laws.Accepted.{load-accepted}
 use Rattle.limits.specs.laws.Unless.{neither, passed}
-use Rattle.ledger.specs.Call.{load}
+use Rattle.ledger.specs.Call.{axis, load}
 use Rattle.ledger.specs.Refusal.{refusalOf}
 use Rattle.limits.specs.Limits.{toleranceLimit, leastSweeps, mostSweeps}
 use Rattle.report.specs.laws.AxisNumbers.{length-row, length-values}
 use Rattle.record.specs.Record.{rowTo}
+use Rattle.record.specs.Run.{own}
 use Rattle.record.specs.declared.Record.{Record}
 use Rattle.field_axes.specs.Solution.{axes, axisSolution, solution, solutionOf, solveRefusal}
 use Rattle.field_axes.specs.inner.Solvable.{Solvable}
@@ -38,7 +39,7 @@ numbers-few n h = mul-le-mul {n₁ = n} {m₁ = n + 2} {n₂ = 8} {m₂ = 10} h 
 
 pub length-axis : (n : ℕ) (r : Record) (i : ℕ) → n ≤ 8 → length (axisSolution n r i) ≡ n + 2
 unfolding axisSolution
-length-axis n r i h = simp (length-append, length-values, length-take-le n (rowTo r 1 i) (rw length-row h)) (omega arith)
+length-axis n r i h = simp (length-append, length-values, length-take-le n (rowTo r (own (axis i))) (rw length-row h)) (omega arith)
 
 pub length-axes : (n : ℕ) (r : Record) (last : ℕ) → n ≤ 8 → length (axes n r last) ≡ last * (n + 2)
 unfolding axes

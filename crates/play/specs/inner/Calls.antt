@@ -5,12 +5,11 @@ use lib.IntN.{pos}
 use lib.ListN.{replicate}
 use Rattle.ledger.specs.Bench.{NamedCall}
 use Rattle.record.specs.Kept.{Kept}
-use Rattle.record.specs.Record.{answerTo}
+use Rattle.record.specs.Record.{answerTo, rowTo}
 use Rattle.record.specs.declared.AxisAnswer.{AxisAnswer}
 use Rattle.record.specs.declared.Record.{Record}
 use Rattle.record.specs.declared.query.Answer.{Answer}
 use Rattle.record.specs.declared.query.Answer.the-variants.{Loaded}
-use Rattle.call_text.specs.Answers.{rowFor}
 use Rattle.play.specs.Steps.{afterCall}
 
 unfoldable pub plainOf : Answer → AxisAnswer
@@ -18,7 +17,7 @@ plainOf value = record { value = value; row = replicate 8 (pos 0) }
 
 unfoldable pub answerFor : Record → Option NamedCall → AxisAnswer
 answerFor r none = plainOf Loaded
-answerFor r (some call) = record { value = answerTo r call; row = rowFor r call }
+answerFor r (some call) = record { value = answerTo r call; row = rowTo r call }
 
 pub record Answers (r : Record) (call : Option NamedCall) (z : AxisAnswer) (next : Record) : Type 0 where
   pub is : z ≡ answerFor r call

@@ -1,7 +1,7 @@
 -- Short texts of calls and what they print, as theorems about the definitions.
 use mathlib.Core.Path.{_≡_, refl}
 use mathlib.Core.Bool.{true, false}
-use mathlib.Core.List.{List, []}
+use mathlib.Core.List.{[]}
 use Rattle.integer.specs.Matrix.{matrixOf}
 use Rattle.integer.specs.Within.{allWithin, within}
 use Rattle.text.specs.Ascii.{ascii}
@@ -11,10 +11,10 @@ use Rattle.readings.specs.Refusal.{numberRefusal, samplesRefusal}
 use Rattle.ledger.specs.Bench.{isBench}
 use Rattle.ledger.specs.Refusal.{equal, refusalUnder, symmetric}
 use Rattle.ledger.specs.Refusal.{entriesWithin}
-use Rattle.record.specs.Record.{answerTo, calledUnder, counted, fresh, raised, recordAfterUnder}
-use Rattle.record.specs.Solver.{acceptedOfUnder, afterOfUnder, answerOf, loadedSolver, unloaded, valueOf}
+use Rattle.record.specs.Record.{answerTo, calledUnder, counted, fresh, raised, recordAfterUnder, rowTo}
+use Rattle.record.specs.Solver.{acceptedOfUnder, afterOfUnder, answerOf, loadedSolver, rowOf, unloaded, valueOf}
 use Rattle.text.specs.Decimal.{digits, digitsBy}
-use Rattle.call_text.specs.Answers.{answerLine, rowBy, shown, shownAs, toldOf}
+use Rattle.call_text.specs.Answers.{answerLine, shown, shownAs, toldOf}
 use Rattle.call_text.specs.Calls.{argument, callBy, callOf, callOfFields, callWithin, loadBy, named, namedBy, numberLimit, oneBy, reading, samplesBy}
 use Rattle.call_text.specs.Calls.{sweepBy, turnBy, withNumbers}
 use Rattle.call_text.specs.Numbers.{eachNumber, numeral, signedOf, standsFor, unsignedOf, withMinus, withoutMinus}
@@ -51,7 +51,7 @@ examples :
     × (played false (ascii "L\t1\t2\t1\t0\t0\t1\nA\t1\t-1\nA\t1\t18446744073709551617\n") ≡ ascii "L\nX\t9\t1\t0\t0\t0\nX\t9\t2\t0\t0\t0\n")
 unfolding ascii played playedFrom lineThen unknownLine split onto callOf callWithin numberLimit callOfFields withNumbers namedBy named callBy loadBy
     turnBy sweepBy oneBy argument eachNumber before signedOf withMinus withoutMinus unsignedOf standsFor numeral leadingZero valueFrom allWithin within
-    answerLine toldOf shown shownAs rowBy isBench answerTo recordAfterUnder calledUnder raised counted fresh unloaded afterOfUnder answerOf
+    answerLine toldOf shown shownAs rowTo rowOf isBench answerTo recordAfterUnder calledUnder raised counted fresh unloaded afterOfUnder answerOf
     acceptedOfUnder loadedSolver valueOf refusalUnder entriesWithin symmetric equal matrixOf line further digits digitsBy
 examples = (refl, refl, refl, refl, refl, refl, refl, refl, refl, refl, refl, refl, refl, refl, refl, refl, refl, refl, refl, refl, refl, refl)
 
@@ -64,11 +64,14 @@ benches :
     × (played false (ascii "W\t0\nL\t5\t9\nA\t-1\t1\nQ\t18446744073709551617\t0\nW\t2\n") ≡
     ascii "X\t15\t0\t0\t0\t0\nX\t15\t0\t0\t0\t0\nX\t15\t0\t0\t0\t0\nX\t15\t0\t0\t0\t0\nX\t10\t0\t1\t0\t0\n")
     × (played false (ascii "L\t5\t2\t1\t0\t0\t1\nW\t1\n") ≡ ascii "X\t15\t0\t0\t0\t0\nX\t10\t1\t0\t0\t0\n")
+    -- nor with a matrix loaded
+    × (played false (ascii "L\t1\t2\t1\t0\t0\t1\nT\t0\t2\t1\nO\t5\nM\t6\t9\t0\n") ≡
+    ascii "L\nX\t15\t0\t0\t0\t0\nX\t15\t0\t0\t0\t0\nX\t15\t0\t0\t0\t0\n")
 unfolding ascii played playedFrom lineThen unknownLine split onto callOf callWithin numberLimit callOfFields withNumbers namedBy named callBy loadBy
     turnBy sweepBy oneBy argument eachNumber before signedOf withMinus withoutMinus unsignedOf standsFor numeral leadingZero valueFrom allWithin within
-    answerLine toldOf shown shownAs rowBy isBench answerTo recordAfterUnder calledUnder raised counted fresh unloaded afterOfUnder answerOf
-    refusalUnder line further digits digitsBy
-benches = (refl, refl, refl)
+    answerLine toldOf shown shownAs rowTo rowOf isBench answerTo recordAfterUnder calledUnder raised counted fresh unloaded afterOfUnder answerOf
+    acceptedOfUnder loadedSolver valueOf samplesBy reading refusalUnder entriesWithin symmetric equal matrixOf line further digits digitsBy
+benches = (refl, refl, refl, refl)
 
 -- Loads of samples
 samples :
@@ -81,6 +84,6 @@ samples :
     × (played false (ascii "M\t1\t2\t2\t1\n") ≡ ascii "?\t1\n")
 unfolding ascii played playedFrom lineThen unknownLine split onto callOf callWithin numberLimit callOfFields withNumbers namedBy named callBy
     samplesBy reading samplesRefusal numberRefusal argument eachNumber before signedOf withMinus withoutMinus unsignedOf standsFor numeral leadingZero
-    valueFrom allWithin within answerLine toldOf shown shownAs rowBy isBench answerTo recordAfterUnder calledUnder raised counted fresh unloaded
+    valueFrom allWithin within answerLine toldOf shown shownAs rowTo rowOf isBench answerTo recordAfterUnder calledUnder raised counted fresh unloaded
     afterOfUnder answerOf refusalUnder line further digits digitsBy
 samples = (refl, refl, refl, refl, refl)

@@ -1,7 +1,5 @@
 -- `record::is_bench` meets its contract.
-use native.Mathlib.Omega.{arith}
 use borrow.Author.Tests.{le-leb, lt-leb}
-use mathlib.Core.Path.{sym}
 use Rattle.integer.specs.Within.{within}
 use Rattle.ledger.specs.Bench.{isBench}
 use Rattle.record.proofs.is_bench.Statement.{statement}

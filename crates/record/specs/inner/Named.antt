@@ -10,5 +10,5 @@ use Rattle.record.specs.declared.solver.Solver.{Solver}
 unfoldable pub countsLeft : List ℕ → ℕ → Answer → List ℕ
 countsLeft counts bench answer = cond (isRefused answer) (raised bench counts) counts
 
-abbrev pub leftBy : List ℕ → ℕ → Answer → Solver → Record
-leftBy counts bench answer solver = record { solver = solver; refused = countsLeft counts bench answer }
+abbrev pub leftWith : List ℕ → ℕ → Answer → Solver → Record
+leftWith counts bench answer solver = record { solver = solver; refused = countsLeft counts bench answer }

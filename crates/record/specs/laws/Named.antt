@@ -1,5 +1,5 @@
 -- Calls that name a bench: what they leave is kept, an answer is a refusal exactly when a refusal applies, and what holds of every list of them.
-use mathlib.Core.Path.{_≡_, refl, sym, ap, ap₂, _∙_}
+use mathlib.Core.Path.{_≡_, refl, sym, ap, _∙_}
 use mathlib.Core.Bool.{Bool, true, false, true≢false, cond, not, _&&_}
 use mathlib.Core.List.{List, [], _∷_, map}
 use Prim.Native.Nat.{ℕ, suc, _+_, _-_, _≤_, _<_, min}
@@ -8,7 +8,7 @@ use native.Mathlib.Nat.{add-zero, le-refl, min-eq-left, min-eq-right, zero-add}
 use native.Mathlib.Omega.{arith}
 use lib.Dec.{eqb, ltb}
 use lib.IntN.{natAbs}
-use lib.ListN.{getD, length, length-set, set}
+use lib.ListN.{getD, length, length-set}
 use lib.Seq.{getD-set-other, getD-set-same}
 use borrow.Author.Tests.{eq-eqb, le-ltb, lt-ltb, ne-eqb}
 use Rattle.integer.specs.Matrix.{Matrix}
@@ -29,7 +29,8 @@ use Rattle.record.specs.Loose.{looseOf}
 use Rattle.record.specs.Record.{after, afterFrom, afterFromUnder, answerTo, calledUnder, refusedBy, counted, fresh, isRefused, raised, recordAfter}
 use Rattle.record.specs.Record.{recordAfterUnder, rowTo}
 use Rattle.record.specs.Run.{own}
-use Rattle.record.specs.Solver.{acceptedOf, afterOf, afterOfUnder, answerOf, axisOf, valueOf}
+use Rattle.record.specs.Solver.{acceptedOf, afterOf, afterOfUnder, answerOf, axisOf, rowOf, valueOf}
+use Rattle.record.specs.declared.AxisAnswer.{AxisAnswer}
 use Rattle.record.specs.declared.Record.{Record}
 use Rattle.record.specs.declared.query.Answer.the-variants.{Pair as PairIs, Refused}
 use Rattle.record.specs.declared.solver.Solver.{Solver}
@@ -54,7 +55,11 @@ module _ (limit : ℕ) (some : 1 ≤ limit) (below : limit ≤ entryLimit) (r : 
   named-kept-under = by-bench (isBench (c .bench))
     where
       by-bench : (b : Bool) → Kept (cond b (calledUnder limit r c) r)
-      by-bench true = record { solver = after-kept-under limit some below (r .solver) (c .call) (k .solver); counts = counts-kept (eqb (refusalUnder limit (r .solver .n) (r .solver .m) (c .call)) 0) }
+      by-bench true =
+          record {
+            solver = after-kept-under limit some below (r .solver) (c .call) (k .solver);
+            counts = counts-kept (eqb (refusalUnder limit (r .solver .n) (r .solver .m) (c .call)) 0);
+          }
       by-bench false = k
 
 pub named-kept : (r : Record) (c : NamedCall) → Kept r → Kept (recordAfter r c)
@@ -74,6 +79,10 @@ module _ (r : Record) (c : NamedCall) where
   unfolding answerTo
   bench-answers e = rw e
 
+  pub bench-row : isBench (c .bench) ≡ true → rowTo r c ≡ rowOf (r .solver) (c .call)
+  unfolding rowTo
+  bench-row e = rw e
+
   pub bench-leaves : isBench (c .bench) ≡ true → recordAfter r c ≡ calledUnder entryLimit r c
   unfolding recordAfterUnder
   bench-leaves e = rw e
@@ -83,9 +92,9 @@ pub own-answers : (r : Record) (call : Call) → answerTo r (own call) ≡ answe
 unfolding isBench within
 own-answers r call = bench-answers r (own call) refl
 
-pub own-row : (r : Record) (i : ℕ) → rowTo r 1 i ≡ axisOf (r .solver) i
-unfolding rowTo isBench within
-own-row r i = refl
+pub own-row : (r : Record) (i : ℕ) → rowTo r (own (axis i)) ≡ axisOf (r .solver) i
+unfolding rowOf isBench within
+own-row r i = bench-row r (own (axis i)) refl
 
 pub own-leaves : (r : Record) (call : Call) → refusalOf (r .solver .n) (r .solver .m) call ≡ 0 →
     recordAfter r (own call) ≡ record { solver = afterOf (r .solver) call; refused = r .refused }
@@ -218,15 +227,21 @@ module _ (other : ℕ → ℕ) (same : (bench : ℕ) → isBench (other bench) �
       by-bench true = refl
       by-bench false = refl
 
+  alike-answer : (r r′ : Record) (c : NamedCall) → r .solver ≡ r′ .solver →
+      _≡_ {A = AxisAnswer} (record { value = answerTo r (renamed other c); row = rowTo r (renamed other c) })
+      (record { value = answerTo r′ c; row = rowTo r′ c })
+  unfolding answerTo rowTo
+  alike-answer r r′ c e = rw (same (c .bench), e)
+
   alike : (r r′ : Record) (calls : List NamedCall) → r .solver ≡ r′ .solver →
       (answersFrom r (map (renamed other) calls) ≡ answersFrom r′ calls) × (afterFrom r (map (renamed other) calls) .solver ≡ afterFrom r′ calls .solver)
-  unfolding answersFrom afterFromUnder answerTo
+  unfolding answersFrom afterFromUnder
   alike r r′ [] e = (refl, e)
   alike r r′ (c ∷ calls) e =
       let next : recordAfter r (renamed other c) .solver ≡ recordAfter r′ c .solver =
       solver-after r (renamed other c) ∙ rw (same (c .bench), e) (sym (solver-after r′ c)) in
       let on = alike (recordAfter r (renamed other c)) (recordAfter r′ c) calls next in
-      (ap₂ _∷_ (rw (same (c .bench), e)) (on .0), on .1)
+      ((λ i. alike-answer r r′ c e i ∷ on .0 i), on .1)
 
 pub benches-alike : Benches-alike
 unfolding after

@@ -13,7 +13,7 @@ use Rattle.report.specs.AxisNumbers.{axisValues}
 
 -- i, a_ii, r_i and the eight entries of row i of v
 unfoldable pub axisNumbers : Record → ℕ → List ℤ
-axisNumbers r i = pos i ∷ (axisValues (answerTo r (own (axis i))) ++ rowTo r 1 i)
+axisNumbers r i = pos i ∷ (axisValues (answerTo r (own (axis i))) ++ rowTo r (own (axis i)))
 
 -- those of axes 1 to n, and zeros after them
 unfoldable pub axesNumbers : Record → List (List ℤ)

@@ -53,7 +53,7 @@ two-before a n row =
     let e : suc (suc n) ≡ length (axisValues a) + n = omega (arith, length-values a) in
     rw e (take-append-add (axisValues a) row n)
 
-pub length-row : (r : Record) (i : ℕ) → length (rowTo r 1 i) ≡ 8
+pub length-row : (r : Record) (i : ℕ) → length (rowTo r (own (axis i))) ≡ 8
 unfolding axisOf entriesOf
 length-row r i = rw (own-row r i) (by-test (eqb (refusalOf (r .solver .n) (r .solver .m) (axis i)) 0))
   where
@@ -64,7 +64,7 @@ length-row r i = rw (own-row r i) (by-test (eqb (refusalOf (r .solver .n) (r .so
 pub length-numbers : (r : Record) (i : ℕ) → length (axisNumbers r i) ≡ 11
 unfolding axisNumbers
 length-numbers r i =
-    omega (arith, length-append (axisValues (answerTo r (own (axis i)))) (rowTo r 1 i), length-values (answerTo r (own (axis i))), length-row r i)
+    omega (arith, length-append (axisValues (answerTo r (own (axis i)))) (rowTo r (own (axis i))), length-values (answerTo r (own (axis i))), length-row r i)
 
 pub length-axes-row : (r : Record) (i : ℕ) → i < 8 → length (getD (axesNumbers r) i []) ≡ 11
 unfolding axesNumbers
@@ -90,7 +90,7 @@ axis-answer r i h k =
 
 -- the numbers of an axis, from what the call answers
 pub numbers-by : (r : Record) (i : ℕ) (value : Answer) (row : List ℤ) (entry : ℤ) (error : ℕ) →
-    value ≡ answerTo r (own (axis i)) → row ≡ rowTo r 1 i → value ≡ Axis entry error → pos i ∷ entry ∷ pos error ∷ row ≡ axisNumbers r i
+    value ≡ answerTo r (own (axis i)) → row ≡ rowTo r (own (axis i)) → value ≡ Axis entry error → pos i ∷ entry ∷ pos error ∷ row ≡ axisNumbers r i
 unfolding axisNumbers axisValues
 numbers-by r i value row entry error a b e = rw (← a, e, b)
 

@@ -88,7 +88,7 @@ use Rattle.call_text.specs.declared.request.Request.{Request}
 use Rattle.call_text.specs.declared.request.Request.the-variants.{Load, LoadSamples, Turn, Sweep, LoosePair, Axis, NoCall, TournamentSweep}
 use Rattle.call_text.proofs.request.Request as Req
 use Rattle.call_text.proofs.request.Request.Laws as Req′
-use Rattle.call_text.specs.Answers.{rowBy}
+use Rattle.record.specs.Solver.{rowOf}
 use Rattle.call_text.specs.Requests.{Placed, part, requestCall}
 use Rattle.play.specs.inner.Calls.{Answers, plainOf}
 use Rattle.play.proofs.Frame.{Blocks, Slot as Local, block-at, env, frame, fresh, holds, with-held, allocates, releases, here}
@@ -413,7 +413,7 @@ module _ {M : Type 1} (𝓤 : URA M) (H : Heap 𝓤) (A : Atoms 𝓤) (W : Given
       -- `W` bench
       sweep-matched : Triple 𝓤 (C #record·lent·sweep) (SweepCall 𝓤 H A) → (s : ℕ) → s < 2 ^ 64 →
           Sq W (Before (Sweep s)) (runs C Λ E pieces.s-1 (Then (Sweep s)))
-      unfolding requestCall rowBy
+      unfolding requestCall rowOf
       sweep-matched known s fs =
           switches-to ! (load ! (from ! (vrt ! refl (fld ! refl (stop !)))) (within ! _ 2 refl (λ Δ. look-tag ! 0 (whole !)))) sweep-arm refl $
           assigns ! (of-opd ! (load ! (from ! (vrt ! refl (fld ! refl (stop !))))
@@ -433,7 +433,7 @@ module _ {M : Type 1} (𝓤 : URA M) (H : Heap 𝓤) (A : Atoms 𝓤) (W : Given
       -- `O` bench
       tournament-matched : Triple 𝓤 (C #record·lent·tournament-sweep) (TournamentCall 𝓤 H A) → (s : ℕ) → s < 2 ^ 64 →
           Sq W (Before (TournamentSweep s)) (runs C Λ E pieces.s-1 (Then (TournamentSweep s)))
-      unfolding requestCall rowBy
+      unfolding requestCall rowOf
       tournament-matched known s fs =
           switches-to ! (load ! (from ! (vrt ! refl (fld ! refl (stop !)))) (within ! _ 2 refl (λ Δ. look-tag ! 0 (whole !)))) tournament-arm refl $
           assigns ! (of-opd ! (load ! (from ! (vrt ! refl (fld ! refl (stop !))))
@@ -453,7 +453,7 @@ module _ {M : Type 1} (𝓤 : URA M) (H : Heap 𝓤) (A : Atoms 𝓤) (W : Given
       -- `Q` bench t
       pair-matched : Triple 𝓤 (C #record·lent·loose-pair) (PairCall 𝓤 H A) → (s t : ℕ) → s < 2 ^ 64 → t < 2 ^ 64 →
           Sq W (Before (LoosePair s t)) (runs C Λ E pieces.s-1 (Then (LoosePair s t)))
-      unfolding requestCall rowBy
+      unfolding requestCall rowOf
       pair-matched known s t fs fits =
           switches-to ! (load ! (from ! (vrt ! refl (fld ! refl (stop !)))) (within ! _ 2 refl (λ Δ. look-tag ! 0 (whole !)))) pair-arm refl $
           assigns ! (of-opd ! (load ! (from ! (vrt ! refl (fld ! refl (stop !))))
@@ -478,7 +478,7 @@ module _ {M : Type 1} (𝓤 : URA M) (H : Heap 𝓤) (A : Atoms 𝓤) (W : Given
       -- `T` bench p q
       turn-matched : Triple 𝓤 (C #record·lent·turn) (TurnCall 𝓤 H A) → (s i j : ℕ) → s < 2 ^ 64 → i < 2 ^ 64 → j < 2 ^ 64 →
           Sq W (Before (Turn s i j)) (runs C Λ E pieces.s-1 (Then (Turn s i j)))
-      unfolding requestCall rowBy
+      unfolding requestCall rowOf
       turn-matched known s i j fs fi fj =
           switches-to ! (load ! (from ! (vrt ! refl (fld ! refl (stop !)))) (within ! _ 2 refl (λ Δ. look-tag ! 0 (whole !)))) turn-arm refl $
           assigns ! (of-opd ! (load ! (from ! (vrt ! refl (fld ! refl (stop !))))
@@ -506,7 +506,7 @@ module _ {M : Type 1} (𝓤 : URA M) (H : Heap 𝓤) (A : Atoms 𝓤) (W : Given
       load-matched : Triple 𝓤 (C #record·lent·load) (LoadCall 𝓤 H A) → Triple 𝓤 (C #play·call·entries-at) (EntriesCall 𝓤 H A) → (s n i j : ℕ) →
           s < 2 ^ 64 → n < 2 ^ 64 → i < 2 ^ 64 → j < 2 ^ 64 → Placed (length (now numbers)) (Load s n i j) →
           Sq W (Before (Load s n i j)) (runs C Λ E pieces.s-1 (Then (Load s n i j)))
-      unfolding requestCall rowBy
+      unfolding requestCall rowOf
       load-matched known known-part s n i j fs fits fi fj placed =
           switches-to ! (load ! (from ! (vrt ! refl (fld ! refl (stop !)))) (within ! _ 2 refl (λ Δ. look-tag ! 0 (whole !)))) load-arm refl $
           assigns ! (of-opd ! (load ! (from ! (vrt ! refl (fld ! refl (stop !))))
@@ -548,7 +548,7 @@ module _ {M : Type 1} (𝓤 : URA M) (H : Heap 𝓤) (A : Atoms 𝓤) (W : Given
           (s n i m j : ℕ) → s < 2 ^ 64 → n < 2 ^ 64 → i < 2 ^ 64 → m < 2 ^ 64 → j < 2 ^ 64 →
           Placed (length (now readings)) (LoadSamples s n i m j) →
           Sq W (Before (LoadSamples s n i m j)) (runs C Λ E pieces.s-1 (Then (LoadSamples s n i m j)))
-      unfolding requestCall rowBy
+      unfolding requestCall rowOf
       samples-matched known known-part s n i m j fs fits fi fm′ fj placed =
           let first : (i ≤ m) × (m ≤ length (now readings)) = (placed .0, omega (arith, placed .1, placed .2)) in
           switches-to ! (load ! (from ! (vrt ! refl (fld ! refl (stop !)))) (within ! _ 2 refl (λ Δ. look-tag ! 0 (whole !)))) samples-arm refl $

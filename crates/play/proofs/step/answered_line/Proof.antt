@@ -11,7 +11,7 @@ returns : tie.Need-returns
 unfolding toldWith
 returns c =
     let n = c .before in
-    rw (← n .before .channels .ensures, ← n .refused-calls .ensures) (c .answer-line .ensures)
+    rw (← n .before .channels .ensures, ← n .refused-calls .ensures .is) (c .answer-line .ensures)
 
 pub answered-line-spec : {M : Type 1} → statement M
 answered-line-spec = tie.close (tie.spec (λ c κs. search needs) (λ c κs. search needs) answer-line-requires returns)

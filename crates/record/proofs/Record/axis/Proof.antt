@@ -4,7 +4,7 @@ use borrow.Author.Needs.{needs}
 use borrow.Author.Tests.{not-false, not-true}
 use Rattle.ledger.specs.Call.{axis}
 use Rattle.record.specs.Record.{rowTo}
-use Rattle.record.specs.Solver.{acceptedOfUnder}
+use Rattle.record.specs.Solver.{acceptedOfUnder, rowOf}
 use Rattle.record.specs.laws.Named.{query-leaves}
 use Rattle.record.proofs.Benches.{no-bench, of-bench}
 use Rattle.record.proofs.Record.axis.Statement.{statement}
@@ -24,7 +24,7 @@ asked-requires c κs =
     sym (checked .before .is-bench .ensures) ∙ not-false _ (checked .if1 .left)
 
 returns-2 : tie.Need-returns-2
-unfolding rowTo acceptedOfUnder
+unfolding rowTo rowOf acceptedOfUnder
 returns-2 c =
     let called = c .before in
     let checked = called .before .before in

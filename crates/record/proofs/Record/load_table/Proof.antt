@@ -1,7 +1,6 @@
 -- `record::Record::load_table` meets its contract.
 use mathlib.Core.Path.{ap}
 use borrow.Author.Needs.{needs}
-use Rattle.record.specs.declared.Record.{Record}
 use Rattle.record.specs.declared.solver.Solver.{Solver}
 use Rattle.record.proofs.Record.load_table.Statement.{statement}
 use Rattle.record.proofs.Record.load_table.Tie as tie

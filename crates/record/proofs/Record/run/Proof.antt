@@ -1,5 +1,4 @@
 -- `record::Record::run` meets its contract.
-use borrow.Author.Needs.{needs}
 use Rattle.record.proofs.Record.run.Statement.{statement}
 use Rattle.record.proofs.Record.run.Tie as tie
 
