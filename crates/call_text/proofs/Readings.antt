@@ -1,7 +1,7 @@
 -- Readings, by the argument that a number is; and a list of them, written place after place.
 use Prim.Native.Nat.{ℕ, suc, _+_, _≤_, _<_}
 use mathlib.Core.Path.{_≡_, refl, sym, _∙_}
-use mathlib.Core.List.{List, [], _++_, append-assoc, map, map-append}
+use mathlib.Core.List.{List, _++_, append-assoc, map, map-append}
 use native.Mathlib.Numerals.{add-one}
 use native.Mathlib.Omega.{arith}
 use borrow.Author.Tests.{le-leb, lt-leb}

@@ -10,8 +10,8 @@ ghost use Rattle.ledger.specs.declared.Order.the-variants.{Cyclic, Tournament};
 ghost use Rattle.call_text.specs.Calls.{argument, callBy, loadBy, named, namedBy, oneBy, samplesBy, sweepBy, turnBy};
 ghost use Rattle.call_text.specs.Requests.{Asks, askedFor};
 
-// A call with its bench and its arguments, or no call. Of a load's list it has the places among the line's numbers: from `from` to before `to`; of samples the
-// dilutions stand before `middle` and the counts from there on.
+// A call with its bench and its arguments, or no call. Of a load's list it has the places among the line's numbers: from `from` to before `to`; of
+// samples the dilutions stand before `middle` and the counts from there on.
 pub enum Request {
     Load {
         bench: usize,

@@ -2,7 +2,7 @@
 use Prim.Native.Nat.{ℕ}
 use mathlib.Core.Path.{_≡_, ap}
 use mathlib.Core.List.{List}
-use lib.IntN.{ℤ, pos, negℤ}
+use lib.IntN.{pos, negℤ}
 use borrow.Author.Tests.{eq-eqb, ne-eqb}
 use Rattle.text.specs.Put.{Put}
 use Rattle.text.specs.laws.Put.{front-length}

@@ -7,7 +7,7 @@ use lib.Dec.{eqb}
 use lib.IntN.{ℤ, pos}
 use lib.ListN.{getD}
 use Rattle.integer.specs.Square.{sq}
-use Rattle.integer.specs.Sum.{sum, sumℕ}
+use Rattle.integer.specs.Sum.{sumℕ}
 use Rattle.integer.specs.Dot.{dot}
 use Rattle.integer.specs.Tabulate.{tabulate}
 

@@ -1,12 +1,12 @@
 -- The numbers of a sample, written one after the other: the first j counts stand after the dilution.
 use Prim.Native.Nat.{ℕ, _+_, _*_, _<_, _≤_}
-use mathlib.Core.Path.{_≡_, ap, _∙_}
+use mathlib.Core.Path.{_≡_, ap}
 use mathlib.Core.List.{List, [], _∷_, _++_, map, map-append}
 use native.Mathlib.Nat.{mul-le-mul-left, mul-suc}
 use native.Mathlib.Numerals.{add-one}
 use native.Mathlib.Omega.{arith}
 use lib.IntN.{ℤ, pos}
-use lib.ListN.{length, take, drop, getD, set, length-drop}
+use lib.ListN.{length, take, getD, set}
 use lib.Seq.{take-suc, take-suc-set}
 use Rattle.readings.specs.Ranges.{Readings}
 

@@ -1,15 +1,12 @@
 -- What follows of every call of the writer. It refuses nothing but what is not a proper job.
-use Prim.Native.Nat.{ℕ}
-use mathlib.Core.Path.{_≡_, sym, ap, _∙_}
-use mathlib.Core.List.{List}
+use mathlib.Core.Path.{_≡_, sym, _∙_}
 use native.Mathlib.Nat.{mul-comm}
 use lib.ListN.{length}
 use lib.Seq.{take-at}
-use Rattle.integer.specs.Within.{within}
 use Rattle.job.specs.Job.{Job}
 use Rattle.job.specs.Values.{Proper, inRange}
 use Rattle.readings.specs.Refusal.{jobRefusal}
-use Rattle.readings.specs.laws.Refusal.{Taken, job-not-refused, job-taken}
+use Rattle.readings.specs.laws.Refusal.{job-not-refused, job-taken}
 use Rattle.text.specs.laws.Written.{length-tells, room-tells}
 use Rattle.job_text.specs.JobText.{jobTextOf, jobWith}
 use Rattle.job_text.specs.Writer.{ReadIsWritten, WrittenIsRead, WrittenIsShort}

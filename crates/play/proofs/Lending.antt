@@ -16,16 +16,16 @@ use contract.Lifetimes.{Lfts, Shares, toks}
 use contract.Monad.{fact}
 use types.Run.{Opds}
 use sound.WpLaws.{FmC}
-use types.Kit.{Step, step, Given, Item, Goal, Post, lands, runs, settles, Soaks, Seq, Go, ‵, raw, _⊛_, some, given, later, mean, _$_, _∵_, !, qed, by}
+use types.Kit.{Step, step, Given, Item, Goal, Post, lands, runs, settles, Soaks, Seq, Go, ‵, raw, _⊛_, some, given, later, mean, _$_, _∵_, !, qed}
 use types.Kit.{move, drop, use1, use2, use3, split, join, pick, learn}
 use types.Kit.{fsplit, fjoin, fpick, fpack, check, frame, show, await, updating, now as at-once, done}
 use types.SemTy.{Body as Body₀}
 use types.Tokens.{lft-new, lft-end}
 use denote.RattleType.{RattleType, Denots, Valss, owns}
 use denote.Laws.{Is, shows}
-use denote.Lend.{LentAgain, LentRef, lends-again, comes-back, lends-ref, ref-back}
+use denote.Lend.{LentAgain, lends-again, comes-back, lends-ref, ref-back}
 use denote.Memory.{mem, cellAt, partOf}
-use denote.Ref.{RefT, MutRef, name, now, ptr-vals}
+use denote.Ref.{RefT, MutRef, name, now}
 use denote.Builtin.{RefMutOf}
 use denote.Signature.{Slot, plain, typesAt}
 use denote.Steps.{owned, heard, peeks}

@@ -18,11 +18,11 @@ use Rattle.record.specs.Solver.{rowOf}
 use Rattle.play.specs.Steps.{afterCall}
 use Rattle.play.specs.inner.Calls.{Answers, answerFor, plainOf}
 
-pub answers-plain : (r : Record) (call : NamedCall) (y : Answer) (next : Record) (z : AxisAnswer) → rowOf (r .solver) (call .call) ≡ replicate 8 (pos 0) →
-    Done r call y next →
-    z ≡ plainOf y → Answers r (some call) z next
+pub answers-plain : (r : Record) (call : NamedCall) (y : Answer) (next : Record) (z : AxisAnswer) →
+    rowOf (r .solver) (call .call) ≡ replicate 8 (pos 0) → Done r call y next → z ≡ plainOf y → Answers r (some call) z next
 unfolding answerFor afterCall plainOf rowTo
-answers-plain r call y next z w d q = record { is = q ∙ rw (w, cond-same (isBench (call .bench)) (replicate 8 (pos 0)), d .answers); leaves = d .leaves; keeps = d .keeps }
+answers-plain r call y next z w d q =
+    record { is = q ∙ rw (w, cond-same (isBench (call .bench)) (replicate 8 (pos 0)), d .answers); leaves = d .leaves; keeps = d .keeps }
 
 pub answers-axis : (r : Record) (bench i : ℕ) (z : AxisAnswer) (next : Record) → AxisDone r bench i z next →
     Answers r (some (by bench (axis i))) z next

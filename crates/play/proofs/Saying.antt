@@ -1,6 +1,6 @@
 -- What a line says, by whether there is one and whether it is a call.
 use Prim.Native.Nat.{ℕ}
-use mathlib.Core.Path.{_≡_, refl, sym, _∙_}
+use mathlib.Core.Path.{_≡_}
 use mathlib.Core.Bool.{Bool, true, false, not}
 use mathlib.Core.List.{[]}
 use borrow.Author.Tests.{not-false, not-true}

@@ -40,8 +40,8 @@ unfolding isCall askedFor
 no-call = refl
 
 -- a line with the call o
-said-line : (r : Record) (here : Cursor) (size : ℕ) (y : AxisAnswer) (next : Record) (o : Option NamedCall) → y ≡ answerFor r o → next ≡ afterCall r o →
-    saidBy (lineAt here size (askedFor o)) y next ≡ steppedBy r here size o
+said-line : (r : Record) (here : Cursor) (size : ℕ) (y : AxisAnswer) (next : Record) (o : Option NamedCall) → y ≡ answerFor r o →
+    next ≡ afterCall r o → saidBy (lineAt here size (askedFor o)) y next ≡ steppedBy r here size o
 unfolding saidBy lineAt steppedBy toldWith toldOf answerFor afterCall answerLine askedFor
 said-line r here size y next none a l = rw no-call
 said-line r here size y next (some call) a l = rw (is-call (call .bench) (call .call), a, l)

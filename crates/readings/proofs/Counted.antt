@@ -1,11 +1,11 @@
 -- Whether a number is n times another, by quotient and remainder.
 use Prim.Native.Nat.{ℕ, _*_, _/_, _%_, _<_}
 use mathlib.Core.Path.{_≡_, sym, _∙_}
-use mathlib.Core.Bool.{Bool, true, false}
+use mathlib.Core.Bool.{false}
 use native.Mathlib.Decide.{ℕ-discrete}
 use native.Mathlib.Nat.{add-zero, div-add-mod, mul-div-right, mul-mod-right, zero-mul}
 use lib.Dec.{eqb}
-use borrow.Author.Tests.{eq-eqb, ne-eqb, eqb-true, eqb-false}
+use borrow.Author.Tests.{eq-eqb, ne-eqb}
 
 pub none-counted : (c n k : ℕ) → n ≡ 0 → eqb c 0 ≡ eqb c (n * k)
 none-counted c n k e = rw (e, zero-mul)

@@ -1,7 +1,6 @@
 // Samples handed over: n, a dilution each and n counts each, sample after sample. Whether their values are in range, and the number that they are
 // refused with.
 ghost use mathlib.Core.Path.{_≡_};
-ghost use mathlib.Core.Bool.{Bool};
 ghost use Rattle.limits.specs.Limits.{leastChannels, mostChannels};
 ghost use Rattle.limits.specs.Unless.{unless};
 ghost use Rattle.integer.specs.Within.{allWithin, within};

@@ -1,6 +1,6 @@
--- 9,999,999,999 is beyond every range: it is no bench, a load with it as n is refused 5, an entry of it, of either sign, is not within the limit (refusal 8), a
--- tolerance of it is refused 2, and a channel or an axis of it 9; samples with it as n are refused 2. So are samples that have 4,294,967,295 for a
--- dilution or a count, and a reading that is in a range is the number itself.
+-- 9,999,999,999 is beyond every range: it is no bench, a load with it as n is refused 5, an entry of it, of either sign, is not within the limit
+-- (refusal 8), a tolerance of it is refused 2, and a channel or an axis of it 9; samples with it as n are refused 2. So are samples that have
+-- 4,294,967,295 for a dilution or a count, and a reading that is in a range is the number itself.
 use Prim.Native.Nat.{ℕ, _≤_, _<_}
 use mathlib.Core.Path.{_≡_, refl}
 use mathlib.Core.Bool.{Bool, true, false, cond, _&&_}

@@ -17,7 +17,7 @@ use base.Logic.{SProp, ent, sep, emp, ex, guard, id⊢, exE, fst∗, snd∗, via
 use base.Fml.{Fml, Lft, Share, flft, ftrue}
 use prog.Memory.{Memory}
 use prog.Routine.{Routine}
-use prog.Wp.{Heap, Env, Calls, Loops, Wp, WpFn, Tables, afterBlock, afterSeq, afterTurn}
+use prog.Wp.{Heap, Env, Calls, Loops, Wp, WpFn, Tables, afterSeq, afterTurn}
 use ghost.Atoms.{Atoms, sem}
 use contract.Monad.{Fun, fact}
 use contract.Running.{givenOf, tables, tablesOf}

@@ -3,10 +3,7 @@ use mathlib.Core.Path.{_≡_, refl, sym, _∙_, ap, ap₂}
 use Prim.Native.Nat.{ℕ, _<_}
 use lib.IntN.{ℤ, pos, negℤ, _+ℤ_, _-ℤ_, _*ℤ_, *ℤ-comm}
 use Rattle.integer.specs.laws.Laws.{+ℤ-*ℤ, *ℤ-assoc, negℤ-*ℤ}
-use Rattle.integer.specs.Square.{sq}
-use Rattle.integer.specs.laws.Square.{pos-sq}
-use Rattle.integer.specs.Sum.{sumℕ}
-use Rattle.integer.specs.laws.Sum.{pos-sumℕ, sum-cong, sum-+, sum-*}
+use Rattle.integer.specs.laws.Sum.{sum-cong, sum-+, sum-*}
 use Rattle.integer.specs.laws.Pair.{Rotated}
 use Rattle.integer.specs.Dot.{dot}
 

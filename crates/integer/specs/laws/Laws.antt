@@ -1,13 +1,14 @@
--- Laws of the ring ℤ and of natAbs that lib.IntN does not have.
+-- Laws of the ring ℤ, of natAbs and of order that lib.IntN and lib.Signed do not have.
 use mathlib.Core.Path.{_≡_, refl, sym, _∙_, ap, ap₂}
 use mathlib.Core.Bool.{Bool, true, false, cond}
-use Prim.Native.Nat.{ℕ, zero, suc, _+_, _*_, _-_, _≤_, _<_}
-use native.Mathlib.Nat.{suc-ne-zero, eq-of-mul-eq-mul-left, mul-zero}
+use Prim.Native.Nat.{ℕ, zero, suc, _+_, _*_, _-_, _≤_}
+use native.Mathlib.Nat.{suc-ne-zero}
 use native.Mathlib.Omega.{arith}
 use borrow.Author.Tests.{ltb-true, ltb-false}
-use lib.Dec.{ltb}
-use lib.IntN.{ℤ, pos, negsuc, sucℤ, predℤ, negℤ, natAbs, one, subℕ, _+ℤ_, _-ℤ_, _*ℤ_, +ℤ-assoc, +ℤ-comm, +ℤ-idl, +ℤ-invr, negℤ-negℤ, negℤ-+ℤ, zero-*ℤ}
+use lib.Dec.{T, le→leb, ltb, ltb→lt}
+use lib.IntN.{ℤ, pos, negsuc, sucℤ, predℤ, negℤ, natAbs, one, subℕ, _+ℤ_, _-ℤ_, _*ℤ_, +ℤ-assoc, +ℤ-comm, +ℤ-idl, negℤ-negℤ, negℤ-+ℤ, zero-*ℤ}
 use lib.IntN.{sucℤ-+ℤ, predℤ-+ℤ, sucℤ-*ℤ, predℤ-*ℤ, *ℤ-one, *ℤ-comm, -ℤ-+ℤ-cancel}
+use lib.Signed.{_<ℤ_, _≤ℤ_, leZ, ltZ}
 
 -- sums
 pub +ℤ-left-comm : (a b c : ℤ) → a +ℤ (b +ℤ c) ≡ b +ℤ (a +ℤ c)
@@ -104,3 +105,13 @@ natAbs--ℤ a (suc b) = by-order (ltb a (suc b)) refl
 
 pub natAbs-opposite : (a b : ℕ) → natAbs (negℤ (pos a) -ℤ pos b) ≡ a + b
 natAbs-opposite a b = rw (← negℤ-+ℤ) (natAbs-negℤ (pos a +ℤ pos b))
+
+-- order
+pub weaker : {a b : ℤ} → a <ℤ b → a ≤ℤ b
+weaker {a} {b} h = record { le = by a b (h .lt) }
+  where
+    by : (a b : ℤ) → T (ltZ a b) → T (leZ a b)
+    by (pos a) (pos b) h = le→leb a b (omega (arith, ltb→lt a b h))
+    by (pos a) (negsuc b) h = absurd h
+    by (negsuc a) (pos b) h = tt
+    by (negsuc a) (negsuc b) h = le→leb b a (omega (arith, ltb→lt b a h))

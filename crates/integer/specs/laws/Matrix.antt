@@ -3,16 +3,15 @@ use mathlib.Core.Path.{_≡_, refl, sym, _∙_, ap, ap₂}
 use mathlib.Core.Bool.{Bool, true, false, cond}
 use mathlib.Core.Logic.{_≢_}
 use Prim.Native.Nat.{ℕ, _+_, _*_, _≤_, _<_}
-use native.Mathlib.Nat.{le-trans}
 use native.Mathlib.Decide.{ℕ-discrete}
 use native.Mathlib.Omega.{arith}
 use lib.Dec.{eqb}
 use lib.IntN.{ℤ, pos, negℤ, natAbs, _+ℤ_, _-ℤ_, _*ℤ_, *ℤ-comm, *ℤ-zero, zero-*ℤ, +ℤ-idl, +ℤ-idr}
 use Rattle.integer.specs.laws.Laws.{*ℤ-assoc, negℤ-*ℤ}
 use Rattle.integer.specs.Square.{sq}
-use Rattle.integer.specs.laws.Square.{sq-pos, sq-*ℤ, sq-≤, natAbs-≤}
+use Rattle.integer.specs.laws.Square.{sq-pos, sq-*ℤ, sq-≤}
 use Rattle.integer.specs.Sum.{sum, sumℕ}
-use Rattle.integer.specs.laws.Sum.{sum-cong, sum-*, sum-zero, sum-exchange, sum-delta, sum-but-two, sumℕ-cong, sumℕ-*, sumℕ-exchange}
+use Rattle.integer.specs.laws.Sum.{sum-cong, sum-*, sum-zero, sum-exchange, sum-delta, sum-but-two, sumℕ-cong, sumℕ-*}
 use Rattle.integer.specs.laws.Sum.{sumℕ-but-one, sumℕ-const, sumℕ-≤, term-≤-sumℕ, update-same, update-other}
 use Rattle.integer.specs.Dot.{dot}
 use Rattle.integer.specs.laws.Dot.{dot-cong, dot-comm, dot-+-left, dot-*-left, dot-+-right, dot-*-right}

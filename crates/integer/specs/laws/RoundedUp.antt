@@ -1,6 +1,6 @@
 -- What rounding up means: the least whole number that is not below the quotient, and the only one.
 use mathlib.Core.Path.{_≡_}
-use Prim.Native.Nat.{ℕ, suc, _+_, _-_, _*_, _/_, _<_, _≤_}
+use Prim.Native.Nat.{ℕ, suc, _+_, _-_, _*_, _<_, _≤_}
 use native.Mathlib.Nat.{lt-div-mul-add, div-lt-iff-lt-mul}
 use native.Mathlib.Omega.{arith}
 use Rattle.integer.specs.RoundedUp.{roundedUp}

@@ -10,7 +10,6 @@ use lib.IntN.{ℤ, pos}
 use lib.ListN.{length, getD, List·getD-eq-default}
 use lib.Seq.{ext-getD}
 use Rattle.integer.specs.Matrix.{Matrix, Same, matrixOf, rowMajor}
-use Rattle.integer.specs.Tabulate.{tabulate}
 use Rattle.integer.specs.laws.Tabulate.{length-tabulate, getD-tabulate, tabulate-ext}
 
 -- the row and the column of a place

@@ -1,12 +1,11 @@
 -- Laws of this subject: The square of an integer, as a natural number.
 use mathlib.Core.Path.{_≡_, refl, sym, _∙_}
 use mathlib.Core.List.{List, [], _∷_}
-use Prim.Native.Nat.{ℕ, zero, suc, _+_, _*_, _≤_}
+use Prim.Native.Nat.{ℕ, suc, _+_, _*_, _≤_}
 use native.Mathlib.Nat.{mul-le-mul}
 use native.Mathlib.Decide.{decLe}
 use native.Mathlib.Omega.{arith}
 use lib.IntN.{ℤ, pos, negsuc, negℤ, natAbs, _+ℤ_, _-ℤ_, _*ℤ_}
-use Rattle.integer.specs.laws.Laws.{natAbs-zero}
 use Rattle.integer.specs.laws.Ring.{Poly, Reading, value, mul, product-value, reading, ringℕ}
 use Rattle.integer.specs.Square.{sq}
 

@@ -6,7 +6,6 @@ use native.Mathlib.Numerals.{add-one}
 use lib.IntN.{ℤ, pos}
 use lib.ListN.{length-append}
 use Rattle.integer.specs.Matrix.{matrixOf}
-use Rattle.integer.specs.Tabulate.{tabulate}
 use Rattle.integer.specs.laws.Tabulate.{getD-tabulate, length-tabulate, take-tabulate}
 use Rattle.text.specs.Rows.{Wide, rowLine}
 use Rattle.job_table.specs.Table.{lineS}

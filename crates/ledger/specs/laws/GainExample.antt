@@ -19,7 +19,8 @@ abbrev numbers : List ℤ
 numbers = pos 50 ∷ pos 25 ∷ pos 25 ∷ pos 50 ∷ []
 
 after-load : ledger (by 1 (load 2 numbers) ∷ []) ≡ loaded (plainState 2 numbers)
-unfolding ledger ledgerFromUnder namedStepUnder isBench within ledgerStepUnder acceptedUnder sizeOf turnsOf refusalUnder entriesWithin symmetric equal matrixOf
+unfolding ledger ledgerFromUnder namedStepUnder isBench within ledgerStepUnder acceptedUnder sizeOf turnsOf refusalUnder entriesWithin symmetric
+    equal matrixOf
 after-load = refl
 
 pub gains-after-load : StateGains (plainState 2 numbers)

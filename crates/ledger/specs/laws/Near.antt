@@ -4,7 +4,7 @@ use mathlib.Core.List.{[], _∷_}
 use Prim.Native.Nat.{ℕ, suc, _+_, _*_, _<_, _≤_}
 use native.Mathlib.Nat.{mul-le-mul-left}
 use native.Mathlib.Omega.{arith}
-use lib.IntN.{pos, _+ℤ_, _-ℤ_, _*ℤ_}
+use lib.IntN.{pos, _+ℤ_, _*ℤ_}
 use Rattle.integer.specs.laws.Laws.{*ℤ-+ℤ}
 use Rattle.integer.specs.laws.Ring.{ring, reading}
 use Rattle.integer.specs.laws.Square.{sq-pos}

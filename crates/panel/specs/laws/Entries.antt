@@ -5,10 +5,10 @@ use Prim.Native.Nat.{ℕ, zero, suc, _+_, _-_, _*_, _<_, _≤_}
 use native.Mathlib.Decide.{decLt}
 use native.Mathlib.Omega.{arith}
 use borrow.Author.Tests.{le-ltb, ltb-true, ltb-false}
-use lib.Dec.{T, ltb, lt→ltb, ltb→lt, le→leb}
+use lib.Dec.{T, ltb, lt→ltb}
 use lib.IntN.{ℤ, pos, negsuc, natAbs, subℕ, _+ℤ_, _-ℤ_, -ℤ-+ℤ-cancel, +ℤ-negℤ-cancel}
-use lib.Signed.{_<ℤ_, _≤ℤ_, ltZ, leZ, clashℤ, ≤ℤ-refl}
-use Rattle.integer.specs.laws.Laws.{natAbs--ℤ}
+use lib.Signed.{_<ℤ_, _≤ℤ_, ltZ, clashℤ, ≤ℤ-refl}
+use Rattle.integer.specs.laws.Laws.{natAbs--ℤ, weaker}
 use Rattle.panel.specs.Panels.{entryAt, width}
 use Rattle.panel.specs.Position.{entryPlace}
 
@@ -42,12 +42,6 @@ pub entry-before : (b i j : ℕ) → i < j → entryAt b i <ℤ entryAt b j
 entry-before zero i j h = record { lt = lt→ltb (i + 0) (j + 0) (omega arith) }
 entry-before (suc b) i j h = record { lt = less (suc b) i j h (ltb i (suc b)) (ltb j (suc b)) refl refl }
 
-weaker : (a b : ℤ) → T (ltZ a b) → T (leZ a b)
-weaker (pos a) (pos b) h = le→leb a b (let l = ltb→lt a b h in omega arith)
-weaker (pos a) (negsuc b) h = absurd h
-weaker (negsuc a) (pos b) h = tt
-weaker (negsuc a) (negsuc b) h = le→leb b a (let l = ltb→lt b a h in omega arith)
-
 -- the lesser of two numbers stands earlier
 pub place-before : (b : ℕ) (x y : ℤ) → natAbs x ≤ b → natAbs y ≤ b → x <ℤ y → entryPlace b x < entryPlace b y
 place-before b x y h k l = by (decLt (entryPlace b x) (entryPlace b y))
@@ -59,7 +53,7 @@ place-before b x y h k l = by (decLt (entryPlace b x) (entryPlace b y))
         not-less : Dec (entryPlace b y < entryPlace b x) → y ≤ℤ x
         not-less (yes f) =
             let m = entry-before b (entryPlace b y) (entryPlace b x) f in
-            record { le = weaker y x (rw (entry-place b y k, entry-place b x h) at (m .lt)) }
+            weaker (rw (entry-place b y k, entry-place b x h) at m)
         not-less (no f) =
             let same : entryPlace b y ≡ entryPlace b x = omega arith in
             let e : y ≡ x = sym (entry-place b y k) ∙ ap (entryAt b) same ∙ entry-place b x h in

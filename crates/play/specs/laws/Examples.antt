@@ -50,9 +50,9 @@ examples :
     × (played false (ascii "L\t1\t2\t1\t0\t0\t1\nQ\t1\t-1\nQ\t1\t10000000000\n") ≡ ascii "L\nX\t2\t1\t0\t0\t0\nX\t2\t2\t0\t0\t0\n")
     × (played false (ascii "L\t1\t2\t1\t0\t0\t1\nA\t1\t-1\nA\t1\t18446744073709551617\n") ≡ ascii "L\nX\t9\t1\t0\t0\t0\nX\t9\t2\t0\t0\t0\n")
 unfolding ascii played playedFrom lineThen unknownLine split onto callOf callWithin numberLimit callOfFields withNumbers namedBy named callBy loadBy
-    turnBy sweepBy oneBy argument eachNumber before signedOf withMinus withoutMinus unsignedOf standsFor numeral leadingZero valueFrom allWithin within
-    answerLine toldOf shown shownAs rowTo rowOf isBench answerTo recordAfterUnder calledUnder raised counted fresh unloaded afterOfUnder answerOf
-    acceptedOfUnder loadedSolver valueOf refusalUnder entriesWithin symmetric equal matrixOf line further digits digitsBy
+    turnBy sweepBy oneBy argument eachNumber before signedOf withMinus withoutMinus unsignedOf standsFor numeral leadingZero valueFrom allWithin
+    within answerLine toldOf shown shownAs rowTo rowOf isBench answerTo recordAfterUnder calledUnder raised counted fresh unloaded afterOfUnder
+    answerOf acceptedOfUnder loadedSolver valueOf refusalUnder entriesWithin symmetric equal matrixOf line further digits digitsBy
 examples = (refl, refl, refl, refl, refl, refl, refl, refl, refl, refl, refl, refl, refl, refl, refl, refl, refl, refl, refl, refl, refl, refl)
 
 -- Benches
@@ -68,9 +68,9 @@ benches :
     × (played false (ascii "L\t1\t2\t1\t0\t0\t1\nT\t0\t2\t1\nO\t5\nM\t6\t9\t0\n") ≡
     ascii "L\nX\t15\t0\t0\t0\t0\nX\t15\t0\t0\t0\t0\nX\t15\t0\t0\t0\t0\n")
 unfolding ascii played playedFrom lineThen unknownLine split onto callOf callWithin numberLimit callOfFields withNumbers namedBy named callBy loadBy
-    turnBy sweepBy oneBy argument eachNumber before signedOf withMinus withoutMinus unsignedOf standsFor numeral leadingZero valueFrom allWithin within
-    answerLine toldOf shown shownAs rowTo rowOf isBench answerTo recordAfterUnder calledUnder raised counted fresh unloaded afterOfUnder answerOf
-    acceptedOfUnder loadedSolver valueOf samplesBy reading refusalUnder entriesWithin symmetric equal matrixOf line further digits digitsBy
+    turnBy sweepBy oneBy argument eachNumber before signedOf withMinus withoutMinus unsignedOf standsFor numeral leadingZero valueFrom allWithin
+    within answerLine toldOf shown shownAs rowTo rowOf isBench answerTo recordAfterUnder calledUnder raised counted fresh unloaded afterOfUnder
+    answerOf acceptedOfUnder loadedSolver valueOf samplesBy reading refusalUnder entriesWithin symmetric equal matrixOf line further digits digitsBy
 benches = (refl, refl, refl, refl)
 
 -- Loads of samples

@@ -1,5 +1,5 @@
 -- `record::answered` meets its contract.
-use mathlib.Core.Path.{_≡_, refl}
+use mathlib.Core.Path.{refl}
 use borrow.Author.Needs.{needs}
 use Rattle.record.proofs.answered.Statement.{statement}
 use Rattle.record.proofs.answered.Tie as tie

@@ -31,7 +31,8 @@ use Rattle.record.specs.Solver.{answerOf, unloaded, valueOf}
 use Rattle.record.specs.declared.Record.{Record}
 
 module _ (r : Record) (s : State) (a : Agree (r .solver) s) (h : Sound s) where
-  error-agrees : (i : ℕ) → i < s .n → errorOf (r .solver .n) (r .solver .e) (keptEntry (r .solver .a)) (r .solver .m) i ≡ errorOf (s .n) (s .e) (s .B) (s .m) i
+  error-agrees : (i : ℕ) → i < s .n →
+      errorOf (r .solver .n) (r .solver .e) (keptEntry (r .solver .a)) (r .solver .m) i ≡ errorOf (s .n) (s .e) (s .B) (s .m) i
   error-agrees i l = rw (a .size, a .turns, a .shift) (same-error (s .n) (s .e) (keptEntry (r .solver .a)) (s .B) (s .m) i (λ j k. a .matrix i j l k))
 
   accepted : (i : ℕ) → 1 ≤ i → i ≤ s .n → refusalOf (r .solver .n) (r .solver .m) (axis i) ≡ 0

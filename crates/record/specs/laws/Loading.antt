@@ -1,13 +1,12 @@
 -- A load that is not refused: what holds of its numbers, and what it leaves is kept.
 use mathlib.Core.Path.{_≡_, refl, sym, ap, _∙_}
 use mathlib.Core.Bool.{true}
-use mathlib.Core.List.{List, [], _∷_}
-use Prim.Native.Nat.{ℕ, suc, _*_, _<_, _≤_}
+use mathlib.Core.List.{List}
+use Prim.Native.Nat.{ℕ, _*_, _<_, _≤_}
 use native.Mathlib.Decide.{decLt}
 use native.Mathlib.Omega.{arith}
-use lib.IntN.{ℤ, pos, natAbs, _*ℤ_}
-use lib.ListN.{getD}
-use borrow.Author.Tests.{le-leb, lt-ltb, le-ltb}
+use lib.IntN.{ℤ, pos, _*ℤ_}
+use borrow.Author.Tests.{lt-ltb, le-ltb}
 use Rattle.integer.specs.Square.{sq}
 use Rattle.integer.specs.laws.Square.{sq-pos}
 use Rattle.integer.specs.Sum.{sumℕ}

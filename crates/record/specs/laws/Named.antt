@@ -26,8 +26,8 @@ use Rattle.record.specs.Benches.{Benches-alike, Counts, answersFrom, ref
 use Rattle.record.specs.Flat.{keptEntry}
 use Rattle.record.specs.Kept.{Kept}
 use Rattle.record.specs.Loose.{looseOf}
-use Rattle.record.specs.Record.{after, afterFrom, afterFromUnder, answerTo, calledUnder, refusedBy, counted, fresh, isRefused, raised, recordAfter}
-use Rattle.record.specs.Record.{recordAfterUnder, rowTo}
+use Rattle.record.specs.Record.{after, afterFrom, afterFromUnder, answerTo, calledUnder, counted, fresh, isRefused}
+use Rattle.record.specs.Record.{raised, recordAfter, recordAfterUnder, refusedBy, rowTo}
 use Rattle.record.specs.Run.{own}
 use Rattle.record.specs.Solver.{acceptedOf, afterOf, afterOfUnder, answerOf, axisOf, rowOf, valueOf}
 use Rattle.record.specs.declared.AxisAnswer.{AxisAnswer}
@@ -171,7 +171,8 @@ module _ (r : Record) (c : NamedCall) (bench : ℕ) (k : Kept r) (b : isBench be
 
       by-bench : (t : Bool) → isBench (c .bench) ≡ t → Dec (c .bench ≡ bench) →
           refusedBy (cond t (calledUnder entryLimit r c) r) bench ≡
-          cond (eqb (c .bench) bench && isRefused (cond t (answerOf (r .solver) (c .call)) (Refused 15))) (counted (refusedBy r bench)) (refusedBy r bench)
+          cond (eqb (c .bench) bench && isRefused (cond t (answerOf (r .solver) (c .call)) (Refused 15))) (counted (refusedBy r bench))
+          (refusedBy r bench)
       by-bench true f d = rw (refused-answer (r .solver) (c .call)) (by-refusal f (eqb (refusalOf (r .solver .n) (r .solver .m) (c .call)) 0) d)
       by-bench false f (yes e) = absurd (true≢false (sym b ∙ ap isBench (sym e) ∙ f))
       by-bench false f (no d) = rw (ne-eqb (c .bench) bench d)
@@ -234,7 +235,8 @@ module _ (other : ℕ → ℕ) (same : (bench : ℕ) → isBench (other bench) �
   alike-answer r r′ c e = rw (same (c .bench), e)
 
   alike : (r r′ : Record) (calls : List NamedCall) → r .solver ≡ r′ .solver →
-      (answersFrom r (map (renamed other) calls) ≡ answersFrom r′ calls) × (afterFrom r (map (renamed other) calls) .solver ≡ afterFrom r′ calls .solver)
+      (answersFrom r (map (renamed other) calls) ≡ answersFrom r′ calls) ×
+      (afterFrom r (map (renamed other) calls) .solver ≡ afterFrom r′ calls .solver)
   unfolding answersFrom afterFromUnder
   alike r r′ [] e = (refl, e)
   alike r r′ (c ∷ calls) e =

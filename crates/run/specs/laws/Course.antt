@@ -41,7 +41,8 @@ tried-course t left sweeps idle r later c = by-pair (noPair (answerTo r (own (lo
 pub course : (t left sweeps : ℕ) (idle : Bool) (r : Record) → Course t left sweeps idle r (runFrom left sweeps idle t r)
 unfolding runFrom
 course t zero sweeps idle r = tried-course t zero sweeps idle r _ (λ e. is-spent e)
-course t (suc left) sweeps idle r = tried-course t (suc left) sweeps idle r _ (λ e. sweeps-on e (course t left (suc sweeps) _ (recordAfter r (own sweep))))
+course t (suc left) sweeps idle r =
+    tried-course t (suc left) sweeps idle r _ (λ e. sweeps-on e (course t left (suc sweeps) _ (recordAfter r (own sweep))))
 
 -- r is what a sweep that made no turn has left
 pub record AfterIdle (r : Record) : Type 0 where

@@ -5,7 +5,7 @@ use Prim.Native.Nat.{ℕ, _+_, _≤_}
 use native.Mathlib.Nat.{add-comm}
 use native.Mathlib.Omega.{arith}
 use lib.Dec.{eqb, lit≤}
-use lib.IntN.{ℤ, pos}
+use lib.IntN.{pos}
 use Rattle.integer.specs.Dot.{dot}
 use Rattle.integer.specs.Matrix.{Matrix, conjugate, diagonal, product}
 use Rattle.integer.specs.RoundedUp.{roundedUp}

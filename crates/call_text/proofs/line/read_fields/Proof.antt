@@ -6,7 +6,6 @@ use mir.Syntax.{w64}
 use mir.Val.{SFits}
 use mir.Facts.{toZ-ofZ}
 use borrow.Author.Needs.{needs}
-use native.Mathlib.Omega.{arith}
 use Rattle.call_text.proofs.Lines.{Reading, line-bad, line-end, line-full, line-more, no-tag, start}
 use Rattle.call_text.proofs.line.read_fields.Statement.{statement}
 use Rattle.call_text.proofs.line.read_fields.Tie as tie

@@ -1,8 +1,5 @@
 -- `request::argument` meets its contract.
-use mir.Syntax.{w64}
-use mir.Val.{SFits}
 use mir.Facts.{toZ-ofZ}
-use borrow.Author.Needs.{needs}
 use Rattle.integer.specs.laws.Word.{unsigned}
 use Rattle.call_text.proofs.Asking.{argument-is, argument-low}
 use Rattle.call_text.proofs.request.argument.Statement.{statement}

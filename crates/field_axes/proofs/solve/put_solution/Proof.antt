@@ -1,5 +1,5 @@
 -- `solution::put_solution` meets its contract: the first three numbers, and the axes after them.
-use mathlib.Core.Path.{_≡_, ap, _∙_}
+use mathlib.Core.Path.{_≡_}
 use Prim.Native.Nat.{ℕ, _<_, _^_}
 use native.Mathlib.Omega.{arith}
 use lib.IntN.{pos}
@@ -10,7 +10,7 @@ use borrow.Author.Needs.{needs}
 use Rattle.integer.specs.laws.Word.{held}
 use Rattle.report.specs.laws.AxisNumbers.{length-axes-row}
 use Rattle.run.specs.laws.Calls.{matrix-begins, run-calls}
-use Rattle.run.specs.laws.Course.{run-ends, run-kept}
+use Rattle.run.specs.laws.Course.{run-ends}
 use Rattle.text.specs.laws.Put.{put-then, same-size}
 use Rattle.ledger.specs.Call.{load}
 use Rattle.run.specs.Run.{runOf}

@@ -421,8 +421,8 @@ module _ {M : Type 1} (𝓤 : URA M) (H : Heap 𝓤) (A : Atoms 𝓤) (W : Given
           (fills ! _ 20 refl (tt, record { fits = fs })) $
           assigns ! (addr ! (from ! (hop ! (here ! _ 1 refl) (stop !)))) (from ! (stop !)) (fills ! _ 34 refl (tt, tt)) $
           use0 W (raw (emp 𝓤)) (id⊢ 𝓤 (emp 𝓤)) $ move ! (1 ∷ 2 ∷ 3 ∷ 0 ∷ []) $
-          lent-call Answer.the-row sweep-slots (yes, tt) (keeping sweep-slots) sweep-done 𝓤 H A W tt tt b o h (λ α. (s, tt)) (λ α. (vint w64 s ∷ [], tt))
-          (λ α. kept) (emp 𝓤) (λ α. brings-one s fs) fm known κ q γ
+          lent-call Answer.the-row sweep-slots (yes, tt) (keeping sweep-slots) sweep-done 𝓤 H A W tt tt b o h (λ α. (s, tt))
+          (λ α. (vint w64 s ∷ [], tt)) (λ α. kept) (emp 𝓤) (λ α. brings-one s fs) fm known κ q γ
           (λ α δ. and-then ! (load ! (from ! (stop !)) (next ! _ 34 refl)) (and-then ! (load ! (from ! (stop !)) (next ! _ 20 refl)) (no-more !)))
           (λ α v y g so. move ! (1 ∷ []) $ peeks ! Answer.the-row (Is Answer.the-row) (shows 𝓤 H A Answer.the-row) y (v ∷ []) (λ is.
           keep ! (1 ∷ 2 ∷ 3 ∷ 5 ∷ 6 ∷ 0 ∷ []) $ land ! (from ! (stop !)) (fills ! _ 33 refl (answer-typed y v is)) $
@@ -441,14 +441,15 @@ module _ {M : Type 1} (𝓤 : URA M) (H : Heap 𝓤) (A : Atoms 𝓤) (W : Given
           (fills ! _ 25 refl (tt, record { fits = fs })) $
           assigns ! (addr ! (from ! (hop ! (here ! _ 1 refl) (stop !)))) (from ! (stop !)) (fills ! _ 40 refl (tt, tt)) $
           use0 W (raw (emp 𝓤)) (id⊢ 𝓤 (emp 𝓤)) $ move ! (1 ∷ 2 ∷ 3 ∷ 0 ∷ []) $
-          lent-call Answer.the-row sweep-slots (yes, tt) (keeping sweep-slots) tournament-done 𝓤 H A W tt tt b o h (λ α. (s, tt)) (λ α. (vint w64 s ∷ [], tt))
-          (λ α. kept) (emp 𝓤) (λ α. brings-one s fs) fm known κ q γ
+          lent-call Answer.the-row sweep-slots (yes, tt) (keeping sweep-slots) tournament-done 𝓤 H A W tt tt b o h (λ α. (s, tt))
+          (λ α. (vint w64 s ∷ [], tt)) (λ α. kept) (emp 𝓤) (λ α. brings-one s fs) fm known κ q γ
           (λ α δ. and-then ! (load ! (from ! (stop !)) (next ! _ 40 refl)) (and-then ! (load ! (from ! (stop !)) (next ! _ 25 refl)) (no-more !)))
           (λ α v y g so. move ! (1 ∷ []) $ peeks ! Answer.the-row (Is Answer.the-row) (shows 𝓤 H A Answer.the-row) y (v ∷ []) (λ is.
           keep ! (1 ∷ 2 ∷ 3 ∷ 5 ∷ 6 ∷ 0 ∷ []) $ land ! (from ! (stop !)) (fills ! _ 39 refl (answer-typed y v is)) $
           clears _ 25 _ _ _ refl $ clears _ 40 _ _ _ refl $
-          plainly (TournamentSweep s) 39 v (λ j Γ. and-then ! (load ! (from ! (stop !)) (next ! _ 39 refl)) (no-more !)) (λ w Γ wt. fills ! _ 26 refl wt)
-          (λ w Γ G. clears _ 39 _ _ _ refl) y g (λ z e. answers-plain h (bench-call s tournamentSweep) y g z refl so e)))
+          plainly (TournamentSweep s) 39 v (λ j Γ. and-then ! (load ! (from ! (stop !)) (next ! _ 39 refl)) (no-more !))
+          (λ w Γ wt. fills ! _ 26 refl wt) (λ w Γ G. clears _ 39 _ _ _ refl) y g
+          (λ z e. answers-plain h (bench-call s tournamentSweep) y g z refl so e)))
 
       -- `Q` bench t
       pair-matched : Triple 𝓤 (C #record·lent·loose-pair) (PairCall 𝓤 H A) → (s t : ℕ) → s < 2 ^ 64 → t < 2 ^ 64 →

@@ -1,6 +1,6 @@
 -- `passes::fits` meets its contract. The invariant: what the text prints is within the limit if what the lines from here on print is within
 -- what is left of it.
-use Prim.Native.Nat.{_+_, _-_, _≤_, _<_}
+use Prim.Native.Nat.{_-_}
 use mathlib.Core.Path.{_≡_}
 use mathlib.Core.Bool.{false}
 use lib.Dec.{leb}

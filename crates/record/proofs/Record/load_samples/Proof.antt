@@ -11,8 +11,8 @@ returns : tie.Need-returns
 returns c =
     let s = c .before .before .before .before .before in
     let told = c .before .before .is-bench .ensures in
-    (no-bench (s .args .self) (s .args .bench) (loadSamples (s .args .n) (s .args .dilutions .now) (s .args .counts .now)) (s .pre) (sym told ∙ not-true _ (c .before .if1 .taken)) _ _ (c .no-bench .ensures .0)
-    (c .no-bench .ensures .1))
+    (no-bench (s .args .self) (s .args .bench) (loadSamples (s .args .n) (s .args .dilutions .now) (s .args .counts .now)) (s .pre)
+    (sym told ∙ not-true _ (c .before .if1 .taken)) _ _ (c .no-bench .ensures .0) (c .no-bench .ensures .1))
 
 returns-2 : tie.Need-returns-2
 returns-2 c =
@@ -20,8 +20,9 @@ returns-2 c =
     let checked = called .before .before .before in
     let s = checked .before .before .before .before in
     let told = checked .before .is-bench .ensures in
-    (of-bench (s .args .self) (s .args .bench) (loadSamples (s .args .n) (s .args .dilutions .now) (s .args .counts .now)) (s .pre) (sym told ∙ not-false _ (checked .if1 .left)) _ _ _ _
-    (called .load-samples .ensures .answers) (called .load-samples .ensures .leaves) (c .answered .ensures .0) (c .answered .ensures .1))
+    (of-bench (s .args .self) (s .args .bench) (loadSamples (s .args .n) (s .args .dilutions .now) (s .args .counts .now)) (s .pre)
+    (sym told ∙ not-false _ (checked .if1 .left)) _ _ _ _ (called .load-samples .ensures .answers) (called .load-samples .ensures .leaves)
+    (c .answered .ensures .0) (c .answered .ensures .1))
 
 pub load-samples-spec : {M : Type 1} → statement M
 load-samples-spec =

@@ -11,8 +11,8 @@ returns : tie.Need-returns
 returns c =
     let s = c .before .before .before in
     let told = c .before .before .is-bench .ensures in
-    (no-bench (s .args .self) (s .args .bench) (turn (s .args .p) (s .args .q)) (s .pre) (sym told ∙ not-true _ (c .before .if1 .taken)) _ _ (c .no-bench .ensures .0)
-    (c .no-bench .ensures .1))
+    (no-bench (s .args .self) (s .args .bench) (turn (s .args .p) (s .args .q)) (s .pre)
+    (sym told ∙ not-true _ (c .before .if1 .taken)) _ _ (c .no-bench .ensures .0) (c .no-bench .ensures .1))
 
 returns-2 : tie.Need-returns-2
 returns-2 c =

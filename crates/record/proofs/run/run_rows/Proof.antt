@@ -3,7 +3,6 @@ use Prim.Native.Nat.{ℕ, _-_}
 use mathlib.Core.Bool.{false}
 use mathlib.Core.List.{List, []}
 use native.Mathlib.Omega.{arith}
-use borrow.Author.Needs.{needs}
 use Rattle.record.specs.inner.Running.{heldOf}
 use Rattle.record.specs.Run.{runFrom}
 use Rattle.record.proofs.Going.{Going, begun, held-ready, is-spent, is-still, remains, settles, sweeps-on}
