@@ -13,8 +13,8 @@
 #include <stdint.h>
 
 /* A run on a symmetric matrix of n*n numbers, row after row, with at most `limit` sweeps, and a tolerance in units. Into out: the
-   outcome (0 settled, 1 still, 2 spent), the sweeps run, the turns made, then for each axis its entry, its error and the n numbers of
-   its row: 3 + n * (n + 2) numbers, at most FIELD_AXES_MOST_NUMBERS. Numbers past them stay.
+   outcome (0 settled, 1 still, 2 spent), the sweeps run, the turns made, then for each axis, in channel order, its entry, its error and
+   the n numbers of its row: 3 + n * (n + 2) numbers, at most FIELD_AXES_MOST_NUMBERS. Numbers past them stay.
    The answer is how many they are, or a refusal's number negated: 5, 6, 8 or 7 for the matrix, then 2 for a limit outside 1 to 16 or
    a tolerance above 1,048,576, then 12 for a short buffer. At a refusal the buffer stays. */
 int64_t field_axes_solve(size_t n, const int64_t *numbers, size_t numbers_length, uint64_t limit, uint64_t tolerance,
@@ -42,7 +42,8 @@ int64_t field_axes_job(size_t n, uint64_t limit, uint64_t tolerance, const uint3
 
 #define FIELD_AXES_MOST_JOB_BYTES 13845
 
-/* A job text to its report. Into out: the report, at most FIELD_AXES_MOST_REPORT_BYTES bytes, with no 0 after it. Bytes past it stay.
+/* A job text to its report, whose axes come by their diagonal entry, largest first, equal entries in channel order. Into out: the report, at
+   most FIELD_AXES_MOST_REPORT_BYTES bytes, with no 0 after it. Bytes past it stay.
    The answer is its length, or a refusal's number negated: 1 to 4 for the text, with the line, from 1, in *line; then 12 for a short
    buffer. *line is 0 for 12 and where there is no refusal. At a refusal the buffer stays. */
 int64_t field_axes_report(const uint8_t *text, size_t text_length, uint8_t *out, size_t out_length, size_t *line);

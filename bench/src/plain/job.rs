@@ -124,7 +124,10 @@ fn write(job: &Job, e: i64, solution: &[i64]) -> std::io::Result<Vec<u8>> {
         "R\t{n}\t{k}\t{e}\t{}\t{}\t{outcome}",
         solution[1], solution[2]
     )?;
-    for (i, axis) in (1..).zip(solution[3..].chunks(n + 2)) {
+    let mut axes: Vec<_> = (1..).zip(solution[3..].chunks(n + 2)).collect();
+    // stable, so equal entries stay in channel order
+    axes.sort_by_key(|(_, axis)| std::cmp::Reverse(axis[0]));
+    for (i, axis) in axes {
         write!(text, "A\t{i}")?;
         for number in axis {
             write!(text, "\t{number}")?;

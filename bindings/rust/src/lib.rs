@@ -81,7 +81,7 @@ pub struct Axis {
     pub row: Vec<i64>,
 }
 
-/// What a run ends with.
+/// What a run ends with; its axes are in channel order.
 #[derive(Clone, Debug, PartialEq, Eq)]
 pub struct Solution {
     pub outcome: Outcome,
@@ -115,7 +115,7 @@ pub fn solve(n: usize, numbers: &[i64], limit: u64, tolerance: u64) -> Result<So
 }
 
 /// The same as numbers, at the front of `out`: the outcome (0 settled, 1 still, 2 spent), the sweeps run, the turns made, then for
-/// each axis its entry, its error and its row. The answer is how many they are. Refused 12, last, where `out` is too short; at a
+/// each axis, in channel order, its entry, its error and its row. The answer is how many they are. Refused 12, last, where `out` is too short; at a
 /// refusal it stays as it was.
 pub fn solve_into(
     n: usize,
@@ -239,7 +239,7 @@ pub struct JobRefused {
 /// The most bytes that a report has.
 pub const MOST_REPORT_BYTES: usize = 2048;
 
-/// The report of a job text. Refused 1 to 4, with the line.
+/// The report of a job text: its axes by their diagonal entry, largest first, equal entries in channel order. Refused 1 to 4, with the line.
 pub fn report(text: &[u8]) -> Result<String, JobRefused> {
     let mut out = [0; MOST_REPORT_BYTES];
     let length = report_into(text, &mut out)?;

@@ -43,13 +43,13 @@ threeSamples = sample 1 (0 ∷ 0 ∷ []) ∷ sample 5 (1 ∷ 0 ∷ []) ∷ sampl
 abbrev pub twoSamples : List Sample
 twoSamples = sample 100 (65_535 ∷ 65_535 ∷ []) ∷ sample 100 (0 ∷ 0 ∷ []) ∷ []
 
--- 'Given `P 2 1 0`, `S 1 0 0`, `S 5 1 0`, `S 1 5 5`, `E 3` (tabs for blanks) it prints ..'
+-- 'Given `P 2 1 0`, `S 1 0 0`, `S 5 1 0`, `S 1 5 5`, `E 3` (tabs for blanks) it prints ..'; document 02, W3: 'axis 2 now comes before axis 1'
 abbrev pub jobText : List ℕ
 jobText = ascii "P\t2\t1\t0\n" ++ ascii "S\t1\t0\t0\n" ++ ascii "S\t5\t1\t0\n" ++ ascii "S\t1\t5\t5\n" ++ ascii "E\t3\n"
 
 abbrev pub reportText : List ℕ
-reportText = ascii "R\t2\t3\t0\t1\t1\tspent\n" ++ ascii "A\t1\t26624\t7172\t644245094\t-858993459\n"
-    ++ ascii "A\t2\t75776\t7172\t858993459\t644245094\n"
+reportText = ascii "R\t2\t3\t0\t1\t1\tspent\n" ++ ascii "A\t2\t75776\t7172\t858993459\t644245094\n"
+    ++ ascii "A\t1\t26624\t7172\t644245094\t-858993459\n"
 
 -- e = 0, and nothing but zeros
 abbrev pub zeroTable : Table

@@ -52,10 +52,12 @@ use Rattle.text.specs.Lines.{lines}
 use Rattle.text.specs.laws.Lines.{lines-same}
 use Rattle.turn.specs.Turn.{eight}
 use Rattle.report.specs.AxisNumbers.{axisValues}
+use Rattle.report.specs.AxisOrder.{ListsAxes, axisAt}
 use Rattle.report.specs.Certificate.{Certificate, JobCertificate}
-use Rattle.report.specs.Report.{headOf, lineA, lineR, loadFor, reportOf, runReport, runFor}
+use Rattle.report.specs.Report.{diagonalOf, headOf, lineA, lineR, loadFor, reportOf, runReport, runFor}
 use Rattle.run.specs.Word.{outcomeWord}
 use Rattle.report.specs.laws.AxisNumbers.{axis-answer}
+use Rattle.report.specs.laws.AxisOrder.{the-order}
 use Rattle.report.proofs.Bounds.{as-calls, run-channels}
 
 -- a ledger whose state has these n, A, S and e
@@ -183,7 +185,8 @@ module _ (j : Job) (p : Proper j) where
   head-is = rw (three-holds .turns, three-holds .shift, run-channels j p)
 
   -- demand 3's row bound, with the error that the line prints
-  row-near : (i : ℕ) → i < j .n → RowNear (j .n) (state .D) (state .P) (S (samplesOf j)) (state .e) i (keptEntry (last .solver .a) i i) (errorAt last i)
+  row-near : (i : ℕ) → i < j .n →
+      RowNear (j .n) (state .D) (state .P) (S (samplesOf j)) (state .e) i (keptEntry (last .solver .a) i i) (errorAt last i)
   unfolding isBench range.within
   row-near i l =
       let near = three-holds .rows-near (suc i) (omega arith) (rw size-is (omega arith)) in
@@ -199,6 +202,9 @@ module _ (j : Job) (p : Proper j) where
       let row = row-≤-squares (state .n) (axesDifference (state .D) (state .P) (keptEntry (last .solver .v))) i (rw size-is l) in
       rw size-is at (le-trans row (three-holds .axes-near))
 
+  listing : ListsAxes (j .n) (diagonalOf last) (axisAt (j .n) (diagonalOf last))
+  listing = the-order (j .n) (diagonalOf last) .0
+
   job-certificate : (text : List ℕ) → jobOf text ≡ accepted j → JobCertificate text j
   unfolding printedOf printedBy reportOf runReport
   job-certificate text e =
@@ -206,15 +212,18 @@ module _ (j : Job) (p : Proper j) where
         e = state .e;
         sweeps = runFor j .sweeps;
         outcome = runFor j .outcome;
-        entry = λ i. keptEntry (last .solver .a) i i;
+        entry = diagonalOf last;
         error = errorAt last;
         direction = keptEntry (last .solver .v);
+        axisOn = axisAt (j .n) (diagonalOf last);
         state = state;
         printed =
             ap (printedBy reportOf) e
             ∙ ap₂ _++_ head-is
-            (ap (lines (λ i. lineA last (suc i))) (run-channels j p)
-            ∙ lines-same (j .n) _ _ (λ i l. line-is (j .n) last i (run-channels j p) (channels j p .1) (within i l)));
+            (ap (λ n. lines (λ q. lineA last (suc (axisAt n (diagonalOf last) q))) n) (run-channels j p)
+            ∙ lines-same (j .n) _ _ (λ q l. line-is (j .n) last (axisAt (j .n) (diagonalOf last) q) (run-channels j p) (channels j p .1)
+            (within (axisAt (j .n) (diagonalOf last) q) (listing .within q l))));
+        listed = listing;
         fed = has .is;
         size = size-is;
         table = table-is;

@@ -2,3 +2,4 @@ mod Bounds
 mod Same
 pub mod Certificate
 mod Written
+mod Ordering

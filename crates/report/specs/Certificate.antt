@@ -14,6 +14,7 @@ use Rattle.job_table.specs.Held.{samplesOf}
 use Rattle.ledger.specs.Ledger.{State, loaded, ledger}
 use Rattle.ledger.specs.Near.{DirectionNear, RowNear}
 use Rattle.record.specs.declared.run.Outcome.{Outcome}
+use Rattle.report.specs.AxisOrder.{ListsAxes}
 use Rattle.report.specs.Report.{loadFor, reportOf}
 use Rattle.run.specs.Word.{outcomeWord}
 use Rattle.rounding.specs.Rounding.{rnd}
@@ -23,18 +24,22 @@ use Rattle.text.specs.Line.{numberLine, wordLine}
 use Rattle.text.specs.Lines.{lines}
 
 pub record JobCertificate (text : List ℕ) (j : Job) : Type 0 where
-  -- There are numbers e, sweeps and an outcome; for axis i a_ii, r_i and a direction; and a ledger's state
+  -- There are numbers e, sweeps and an outcome; for axis i a_ii, r_i and a direction; for each of n lines its axis; and a ledger's state
   pub e : ℕ
   pub sweeps : ℕ
   pub outcome : Outcome
   pub entry : ℕ → ℤ
   pub error : ℕ → ℕ
   pub direction : Matrix
+  pub axisOn : ℕ → ℕ
   pub state : State
-  -- such that these bytes are printed: `R` n k e sweeps m outcome, then for i = 1 to n `A` i a_ii r_i and the n numbers of the direction
+  -- such that these bytes are printed: `R` n k e sweeps m outcome, then n lines, for the axis i of each `A` i a_ii r_i and the n numbers of the
+  -- direction
   pub printed : printedOf reportOf text ≡
       wordLine 82 (map pos (j .n ∷ length (j .dilutions) ∷ e ∷ sweeps ∷ state .m ∷ [])) (outcomeWord outcome) ++
-      lines (λ i. numberLine 65 (pos (suc i) ∷ entry i ∷ pos (error i) ∷ tabulate (j .n) (direction i))) (j .n)
+      lines (λ p. numberLine 65 (pos (suc (axisOn p)) ∷ entry (axisOn p) ∷ pos (error (axisOn p)) ∷ tabulate (j .n) (direction (axisOn p)))) (j .n)
+  -- Each axis has one line, and the lines stand by a_ii, largest first, equal ones in channel order (document 02, W3)
+  pub listed : ListsAxes (j .n) entry axisOn
   -- The state is the ledger's after the run's calls, with that many sweeps
   pub fed : ledger (callsOf (loadFor j) (j .tolerance) sweeps) ≡ loaded state
   -- It has the table of the job's samples: n by n entries rnd(S_ij / 2^e), S and e

@@ -1,3 +1,4 @@
+pub mod AxisOrder
 pub mod AxisNumbers
 pub mod Report
 pub mod Done

@@ -7,8 +7,10 @@ use lib.ListN.{length, take}
 use Rattle.job.specs.Job.{Job}
 use Rattle.ledger.specs.Call.{Call, axis, loadSamples}
 use Rattle.report.specs.AxisNumbers.{axisValues}
+use Rattle.report.specs.AxisOrder.{axisAt}
 use Rattle.record.specs.Record.{answerTo, rowTo}
 use Rattle.record.specs.Run.{own}
+use Rattle.record.specs.Flat.{keptEntry}
 use Rattle.record.specs.declared.Record.{Record}
 use Rattle.run.specs.Word.{outcomeWord}
 use Rattle.record.specs.declared.run.Run.{Run}
@@ -27,9 +29,16 @@ lineR k z = wordLine 82 (headOf k z) (outcomeWord (z .outcome))
 unfoldable pub lineA : Record → ℕ → List ℕ
 lineA r i = numberLine 65 (pos i ∷ (axisValues (answerTo r (own (axis i))) ++ take (r .solver .n) (rowTo r (own (axis i)))))
 
--- 'then for i = 1 to n'
+-- the diagonal entries, counted from 0
+abbrev pub diagonalOf : Record → ℕ → ℤ
+diagonalOf r i = keptEntry (r .solver .a) i i
+
+-- document 02, W3: 'lists axes by their diagonal entry, largest first, equal entries in channel order'
 unfoldable pub runReport : ℕ → Run → List ℕ
-runReport k z = lineR k z ++ lines (λ i. lineA (z .last) (suc i)) (z .last .solver .n)
+runReport k z =
+    let r = z .last in
+    let n = r .solver .n in
+    lineR k z ++ lines (λ p. lineA r (suc (axisAt n (diagonalOf r) p))) n
 
 -- A job's run starts from the record that the load of its samples leaves (document 02, W5)
 abbrev pub loadFor : Job → Call

@@ -1,2 +1,3 @@
 pub mod AxisNumbers
+pub mod AxisOrder
 pub mod Text

@@ -1,1 +1,2 @@
+pub mod AxisOrder
 pub mod AxisNumbers

@@ -1,6 +1,7 @@
 // Job text in, report or refusal out: document 01, 'Job text and report'.
 pub mod axes;
 mod lines;
+mod order;
 
 use job::Job;
 use job::reply::Reply;
@@ -24,6 +25,7 @@ pub fn report_run(run: Run, k: usize, buf: &mut [u8]) -> Written
     let last = run.last;
     let n = last.channels();
     let axes = axes::axes_numbers(last);
+    let listed = order::ordered(&axes, n);
     let head = [
         n as i64,
         k as i64,
@@ -31,11 +33,11 @@ pub fn report_run(run: Run, k: usize, buf: &mut [u8]) -> Written
         run.sweeps as i64,
         last.turns() as i64,
     ];
-    let length = lines::text_length(&head, outcome, &axes, n);
+    let length = lines::text_length(&head, outcome, &listed, n);
     if buf.len() < length {
         return Written::Refused(12);
     }
-    Written::Length(lines::put_text(buf, &head, outcome, &axes, n))
+    Written::Length(lines::put_text(buf, &head, outcome, &listed, n))
 }
 
 // The report of a table of k samples of n channels, by the run on its entries.

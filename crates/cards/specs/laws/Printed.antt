@@ -45,7 +45,8 @@ read = refl
 -- the samples' table, e = 0, is what is loaded
 loaded : recordAfter fresh (own (loadFor job)) ≡ recordAfter fresh (own (load 2 (twoByTwo (pos 50) (pos 25) (pos 50))))
 unfolding isBench within recordAfterUnder calledUnder afterOfUnder acceptedOfUnder samplesSolver fresh unloaded refusalUnder samplesRefusal
-    numberRefusal allWithin entriesWithin symmetric equal matrixOf tabulate rowMajor samples sampleAt total z S scatter largest smallestShift shiftUnder entriesUnder rnd
+    numberRefusal allWithin entriesWithin symmetric equal matrixOf tabulate rowMajor samples sampleAt total z S scatter largest smallestShift
+    shiftUnder entriesUnder rnd
 loaded = refl
 
 ran : runFor job ≡ threeRun
@@ -66,7 +67,7 @@ axis-2 = rw (spends .channels, spends .axis-2, spends .row-2)
 
 report : reportOf job ≡ reportText
 unfolding ascii reportOf runReport lines
-report = rw (ran, first, spends .channels, axis-1, axis-2)
+report = rw (ran, first, spends .channels, spends .first-line, spends .second-line, axis-2, axis-1)
 
 pub prints-the-report : printedOf reportOf jobText ≡ reportText
 unfolding printedOf printedBy

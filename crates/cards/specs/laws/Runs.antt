@@ -24,6 +24,8 @@ use Rattle.record.specs.Solver.{acceptedOfUnder, afterOfUnder, answerOf, axisOf
 use Rattle.record.specs.Work.{chosen, workBy, workPair, workPairs}
 use Rattle.record.specs.declared.Record.{Record}
 use Rattle.record.specs.declared.query.Answer.the-variants.{Axis}
+use Rattle.report.specs.AxisOrder.{axisAmong, axisAt, placeOf, standsBefore}
+use Rattle.report.specs.Report.{diagonalOf}
 use Rattle.rounding.specs.Rounding.{rnd}
 use Rattle.record.specs.Run.{noPair, noTurn, own, runFrom, tried}
 use Rattle.record.specs.declared.run.Outcome.the-variants.{Spent, Still}
@@ -60,7 +62,7 @@ still limit h =
 abbrev pub threeRun : Run
 threeRun = runOf 2 (twoByTwo (pos 50) (pos 25) (pos 50)) 1 0
 
--- `spent`, 1 sweep, m = 1, and the two axes
+-- `spent`, 1 sweep, m = 1, the two axes and their order
 pub record Spends : Type 0 where
   pub outcome : threeRun .outcome ≡ Spent
   pub sweeps : threeRun .sweeps ≡ 1
@@ -71,10 +73,12 @@ pub record Spends : Type 0 where
   pub row-1 : rowTo (threeRun .last) (own (axis 1)) ≡ pos 644245094 ∷ neg 858993459 ∷ pos 0 ∷ pos 0 ∷ pos 0 ∷ pos 0 ∷ pos 0 ∷ pos 0 ∷ []
   pub axis-2 : answerTo (threeRun .last) (own (axis 2)) ≡ Axis (pos 75776) 7172
   pub row-2 : rowTo (threeRun .last) (own (axis 2)) ≡ pos 858993459 ∷ pos 644245094 ∷ pos 0 ∷ pos 0 ∷ pos 0 ∷ pos 0 ∷ pos 0 ∷ pos 0 ∷ []
+  pub first-line : axisAt 2 (diagonalOf (threeRun .last)) 0 ≡ 1
+  pub second-line : axisAt 2 (diagonalOf (threeRun .last)) 1 ≡ 0
 
 pub spends : Spends
-unfolding runAfter runFrom tried isBench within answerTo recordAfterUnder calledUnder rowTo noPair noTurn answerOf valueOf afterOfUnder
-    acceptedOfUnder axisOf rowOf fresh unloaded loadedSolver inUse sweptOf workOf workedOf
+unfolding axisAt axisAmong placeOf standsBefore runAfter runFrom tried isBench within answerTo recordAfterUnder calledUnder rowTo noPair noTurn
+    answerOf valueOf afterOfUnder acceptedOfUnder axisOf rowOf fresh unloaded loadedSolver inUse sweptOf workOf workedOf
     looseOf tabulate keptEntry entriesOf rowsOf flatOf chosen workBy workPair workPairs errorOf tableError cyclic rowsFrom row matrixOf equal
     symmetric entriesWithin refusalUnder diagonal sumℕ choose smallestFit fits threshold roundedUp u w minusSign negative rotationOf signed first
     second turnMatrix turnAxes turnedAxes array eight at turned newp newq newpp newpq newqq hpp hpq hqp hqq atPair rnd
@@ -89,4 +93,6 @@ spends =
       row-1 = refl;
       axis-2 = refl;
       row-2 = refl;
+      first-line = refl;
+      second-line = refl;
     }

@@ -11,12 +11,13 @@ use mir.Facts.{toZ-ofZ}
 use borrow.Author.Needs.{needs}
 use Rattle.record.specs.declared.run.Run.{Run}
 use Rattle.report.specs.inner.AxisNumbers.{axesNumbers}
+use Rattle.report.specs.inner.AxisOrder.{orderedRows}
 use Rattle.text.specs.Put.{Sized}
 use Rattle.text.specs.laws.Written.{short, written}
 use Rattle.text.specs.Rows.{Wide}
 use Rattle.report.specs.inner.Text.{textOf}
 use Rattle.report.specs.Report.{headOf, runReport}
-use Rattle.report.proofs.Same.{axes-wide, text-same}
+use Rattle.report.proofs.Same.{axes-wide, ordered-wide, text-same}
 use Rattle.report.proofs.report_run.Statement.{statement}
 use Rattle.report.proofs.report_run.Tie as tie
 
@@ -42,11 +43,14 @@ module _ (c : tie.After-turns) where
   abbrev shifted : tie.After-shift
   shifted = c .before .before
 
-  abbrev listed : tie.After-axes-numbers
+  abbrev listed : tie.After-ordered
   listed = shifted .before
 
+  abbrev numbered : tie.After-axes-numbers
+  numbered = listed .before .before
+
   abbrev begun : tie.After-channels
-  begun = listed .before
+  begun = numbered .before
 
   abbrev z : Run
   z = start begun .args .run
@@ -75,13 +79,22 @@ module _ (c : tie.After-turns) where
       ∷ (toZ-ofZ turns-fit ∙ ap pos (c .turns .ensures)) i
       ∷ []
 
-  report-text : textOf head (z .outcome) (listed .axes-numbers .result) (begun .channels .result) ≡ runReport (start begun .args .k) z
+  -- the axes in their order
+  listed-is : listed .ordered .result ≡ orderedRows (z .last .solver .n) (axesNumbers (z .last))
+  listed-is = listed .ordered .ensures ∙ (λ i. orderedRows (begun .channels .ensures i) (numbered .axes-numbers .ensures i))
+
+  report-text : textOf head (z .outcome) (listed .ordered .result) (begun .channels .result) ≡ runReport (start begun .args .k) z
   report-text =
-      (λ i. textOf (head-same i) (z .outcome) (listed .axes-numbers .ensures i) (begun .channels .ensures i))
+      (λ i. textOf (head-same i) (z .outcome) (listed-is i) (begun .channels .ensures i))
       ∙ text-same (start begun .args .k) z (start begun .pre .keeps .solver .size)
 
-  wide : Wide (listed .axes-numbers .result)
-  wide = rw (listed .axes-numbers .ensures) (axes-wide (z .last))
+  wide : Wide (listed .ordered .result)
+  wide = rw listed-is (ordered-wide (z .last) (start begun .pre .keeps .solver .size))
+
+ordered-requires : tie.Need-ordered-requires
+ordered-requires c κs =
+    let a = c .before in
+    (high (a .before), rw (a .axes-numbers .ensures) (axes-wide (start (a .before) .args .run .last)))
 
 text-length-requires : tie.Need-text-length-requires
 text-length-requires c κs = let t = c .before .before in (refl, high (begun t), wide t)
@@ -129,11 +142,12 @@ report-run-spec =
     (tie.spec
     (λ c κs. search needs)
     (λ c κs. start c .pre .keeps)
-    (λ c. n-fits (c .before))
-    (λ c. k-fits (c .before))
+    ordered-requires
+    (λ c. n-fits (c .before .before .before))
+    (λ c. k-fits (c .before .before .before))
     (λ c κs. search needs)
     (λ c. search needs)
-    (λ c. sweeps-fit (c .before .before .before))
+    (λ c. sweeps-fit (c .before .before .before .before .before))
     (λ c κs. search needs)
     (λ c. turns-fit c)
     (λ c. search needs)

@@ -1,6 +1,6 @@
 -- `report::report_table` meets its contract.
 use Prim.Native.Nat.{_*_, _≤_}
-use mathlib.Core.Path.{_≡_, sym, ap, _∙_}
+use mathlib.Core.Path.{sym}
 use native.Mathlib.Omega.{arith}
 use native.Mathlib.Nat.{le-trans}
 use lib.ListN.{length}
@@ -8,7 +8,6 @@ use lib.Seq.{length-take-le}
 use borrow.Author.Needs.{needs}
 use Rattle.ledger.specs.laws.Accepted.{load-accepted}
 use Rattle.limits.specs.laws.Channels.{places}
-use Rattle.run.specs.Run.{tableRun}
 use Rattle.run.specs.laws.Course.{table-ends}
 use Rattle.report.specs.Done.{runOfTable}
 use Rattle.report.proofs.report_table.Statement.{statement}

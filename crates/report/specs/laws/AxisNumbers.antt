@@ -64,7 +64,8 @@ length-row r i = rw (own-row r i) (by-test (eqb (refusalOf (r .solver .n) (r .so
 pub length-numbers : (r : Record) (i : ℕ) → length (axisNumbers r i) ≡ 11
 unfolding axisNumbers
 length-numbers r i =
-    omega (arith, length-append (axisValues (answerTo r (own (axis i)))) (rowTo r (own (axis i))), length-values (answerTo r (own (axis i))), length-row r i)
+    let answer = answerTo r (own (axis i)) in
+    omega (arith, length-append (axisValues answer) (rowTo r (own (axis i))), length-values answer, length-row r i)
 
 pub length-axes-row : (r : Record) (i : ℕ) → i < 8 → length (getD (axesNumbers r) i []) ≡ 11
 unfolding axesNumbers

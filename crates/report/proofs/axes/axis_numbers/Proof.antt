@@ -1,6 +1,5 @@
 -- `report::axes::axis_numbers` meets its contract: the axis call is not refused, and what it answers stands in the line.
-use mathlib.Core.Path.{_≡_, sym, ap, _∙_}
-use mathlib.Core.List.{_∷_}
+use mathlib.Core.Path.{_≡_, sym, _∙_}
 use Prim.Native.Nat.{ℕ, _-_, _<_, _^_}
 use native.Mathlib.Omega.{arith}
 use lib.IntN.{ℤ, pos}
@@ -12,8 +11,6 @@ use Rattle.ledger.specs.Axis.{errorOf}
 use Rattle.record.specs.Flat.{keptEntry}
 use Rattle.record.specs.declared.query.Answer.the-variants.{Axis}
 use Rattle.record.proofs.Told.{not-axis}
-use Rattle.report.specs.AxisNumbers.{axisValues}
-use Rattle.report.specs.inner.AxisNumbers.{axisNumbers}
 use Rattle.report.specs.laws.AxisNumbers.{axis-answer, error-small, numbers-by}
 use Rattle.report.proofs.axes.axis_numbers.Statement.{statement}
 use Rattle.report.proofs.axes.axis_numbers.Tie as tie
@@ -23,14 +20,19 @@ module _ (c : tie.After-axis) where
   abbrev start : tie.Start
   start = c .before
 
+  abbrev errorHere : ℕ
+  errorHere =
+      let s = start .args .r .solver in
+      errorOf (s .n) (s .e) (keptEntry (s .a)) (s .m) (start .args .i - 1)
+
   answer-is : c .axis .result .answer .value ≡
       Axis (keptEntry (start .args .r .solver .a) (start .args .i - 1) (start .args .i - 1))
-      (errorOf (start .args .r .solver .n) (start .args .r .solver .e) (keptEntry (start .args .r .solver .a)) (start .args .r .solver .m) (start .args .i - 1))
+      errorHere
   answer-is = c .axis .ensures .answers ∙ axis-answer (start .args .r) (start .args .i) (start .pre .1) (start .pre .2)
 
   -- the entry and the error that stand in the answer
   module _ (entry : ℤ) (error : ℕ) (e : c .axis .result .answer .value ≡ Axis entry error) where
-    error-is : error ≡ errorOf (start .args .r .solver .n) (start .args .r .solver .e) (keptEntry (start .args .r .solver .a)) (start .args .r .solver .m) (start .args .i - 1)
+    error-is : error ≡ errorHere
     error-is = let same = sym e ∙ answer-is in cc
 
     small : error < 2 ^ 63
