@@ -1,5 +1,5 @@
-//! Document 01's bench cards 1 to 12 and its printed example, the orders of its refusals, and document 02's loose pair, tournament
-//! sweep, load of samples and benches.
+//! Document 01's bench cards 1 to 12 and its printed example, the latter in document 02's order of axes; the orders of its refusals; and document
+//! 02's loose pair, tournament sweep, load of samples and benches.
 
 use crate::calls::play;
 use crate::choice::{choose, Choice};
@@ -13,7 +13,7 @@ use crate::rounding::rnd;
 use crate::scatter::{shift, table, Sample};
 use crate::thresholds::threshold;
 use crate::turn::{rotation, turn};
-use crate::{generate_calls, generate_job, solve};
+use crate::{generate_calls, generate_job, solve, Axis};
 
 /// A text written with blanks for tabs.
 fn tabs(text: &str) -> String {
@@ -38,7 +38,7 @@ fn sample(dilution: i128, counts: &[i128]) -> Sample {
 }
 
 const EXAMPLE_REPORT: &str =
-    "R 2 3 0 1 1 spent\nA 1 26624 7172 644245094 -858993459\nA 2 75776 7172 858993459 644245094\n";
+    "R 2 3 0 1 1 spent\nA 2 75776 7172 858993459 644245094\nA 1 26624 7172 644245094 -858993459\n";
 
 #[test]
 fn card_1() {
@@ -143,9 +143,18 @@ fn card_11() {
     );
 }
 
+/// Document 02, W3: "In the printed example axis 2 now comes before axis 1 .. The axis call is untouched." So is a run on numbers.
 #[test]
 fn card_12_and_the_printed_example() {
     assert_eq!(axes(PRINTED), tabs(EXAMPLE_REPORT));
+    let run = solve(2, &[50, 25, 25, 50], 1, 0).unwrap();
+    let entries = |axes: &[Axis]| axes.iter().map(|axis| axis.a_ii).collect::<Vec<_>>();
+    assert_eq!(entries(&run.axes), [26_624, 75_776]);
+    let mut record = Record::fresh();
+    record.load(1, 2, &[50, 25, 25, 50]).unwrap();
+    record.sweep(1).unwrap();
+    let called = [1, 2].map(|i| record.axis(1, i).unwrap());
+    assert_eq!(called, run.axes[..]);
 }
 
 #[test]

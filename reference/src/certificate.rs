@@ -6,7 +6,7 @@ use crate::examples::{tabs, STRONG};
 use crate::job::Job;
 use crate::matrix::Matrix;
 use crate::record::{Record, BENCHES, UNITS};
-use crate::report::job_run;
+use crate::report::{job_run, report};
 use crate::scatter::table;
 use crate::turn::rotation;
 use crate::whole::Whole;
@@ -79,7 +79,8 @@ impl Exact {
     }
 }
 
-/// For each axis of a job's report: whether the error that is printed bounds the row, and whether the error without 512 × n does.
+/// For each `A` line of a job's report, in the report's order: whether the error that is printed bounds the row, and whether the error without
+/// 512 × n does.
 fn bounded(job: &Job) -> Vec<(bool, bool)> {
     let table = table(job.n, &job.samples);
     let (e, run) = job_run(job);
@@ -90,13 +91,17 @@ fn bounded(job: &Job) -> Vec<(bool, bool)> {
     let exact = Exact::of_sweeps(&mut record, run.sweeps);
     let kept = record.kept().unwrap();
     assert_eq!((kept.m, kept.e), (run.m, e));
-    (1..)
-        .zip(&run.axes)
-        .map(|(i, axis)| {
-            assert_eq!(axis.a_ii, kept.a.at(i, i));
+    report(job)
+        .lines()
+        .skip(1)
+        .map(|line| {
+            let fields = line.split('\t').skip(1);
+            let numbers: Vec<i128> = fields.map(|number| number.parse().unwrap()).collect();
+            let (i, a_ii, r_i) = (numbers[0] as usize, numbers[1], numbers[2]);
+            assert_eq!((a_ii, &numbers[3..]), (kept.a.at(i, i), kept.v.row(i)));
             let gained = if e > 0 { 512 * job.n as i128 } else { 0 };
-            let within = |error| exact.within(i, &table.sums, e, axis.a_ii, error);
-            (within(axis.r_i), within(axis.r_i - gained))
+            let within = |error| exact.within(i, &table.sums, e, a_ii, error);
+            (within(r_i), within(r_i - gained))
         })
         .collect()
 }

@@ -26,6 +26,10 @@ pub const JOBS: &[Example] = &[
     }),
     example("still", || tabs("P 2 16 0\nS 64 1 16384\nS 1 63 0\nE 2\n")),
     example("strong", || tabs(STRONG)),
+    example("tied", || tabs(TIED)),
+    example("all_tied", || tabs(ALL_TIED)),
+    example("zeros", || tabs(ZEROS)),
+    example("negative_axis", || tabs(NEGATIVE_AXIS)),
     example("empty", Vec::new),
     example("malformed", || tabs("P 2 1 0\nS 1 0 0\nS 5 1 00\n")),
     example("no_line_feed", || tabs("P 2 1 0\nS 1 0 0\nS 5 1 0\nE 2")),
@@ -116,6 +120,18 @@ pub const PRINTED: &str = "P 2 1 0\nS 1 0 0\nS 5 1 0\nS 1 5 5\nE 3\n";
 
 /// A job with e = 1, of which the error without 512 units a channel is exceeded, blanks for tabs.
 pub const STRONG: &str = "P 2 1 0\nS 1 1449 0\nS 1 0 0\nE 2\n";
+
+/// Jobs for the order of a report's axes, blanks for tabs. Axes 1 and 3 have equal entries and unequal errors, and axis 2 a larger entry.
+pub const TIED: &str = "P 3 2 0\nS 1 1 0 0\nS 1 1 1 1\nS 1 0 1 0\nS 1 0 0 1\nS 1 0 2 0\nE 5\n";
+
+/// All entries are equal and not 0; axis 2 has the least error. No pair is loose, so nothing is turned.
+pub const ALL_TIED: &str = "P 3 1 4096\nS 1 0 0 0\nS 1 0 1 0\nS 1 1 0 1\nS 1 1 1 1\nE 4\n";
+
+/// Equal values on 8 channels, by other dilutions: all entries are 0.
+pub const ZEROS: &str = "P 8 16 0\nS 1 2 4 6 8 10 12 14 16\nS 2 1 2 3 4 5 6 7 8\nE 2\n";
+
+/// Two entries are below 0, one of them larger in size than one above 0. Without rounding no entry of readings is.
+pub const NEGATIVE_AXIS: &str = "P 4 9 0\nS 1 461 0 303 2827\nS 1 0 66 3 0\nE 2\n";
 
 /// Calls at their refusals and beside them, blanks for tabs: 10 first, then 5, 6, 8 and 7, alone and in their order, then 2 and 9.
 const REFUSED: &str = "W 2\nT 3 1 2\nT 1 2 1\nQ 4 0\nQ 3 1048577\nA 1 1\nA 2 0\nL 4 1 5\nL 4 9\nL 2 0\nL 3 2 1 2 3\nL 1 2 1 2 3 4 5\nL 2 2\n\
@@ -529,6 +545,29 @@ mod tests {
             .collect();
         let expected = ["1", "2", "3", "4", "settled", "spent", "still"];
         assert!(firsts.iter().eq(expected), "{firsts:?}");
+    }
+
+    /// The axes of these examples as they are listed: their numbers and diagonal entries.
+    #[test]
+    fn example_axes_are_listed_as_named() {
+        let listed = |name: &str| -> Vec<(i128, i128)> {
+            let example = JOBS.iter().find(|example| example.name == name).unwrap();
+            let report = String::from_utf8(report_of(&(example.text)())).unwrap();
+            let numbers = |line: &str| {
+                let fields: Vec<&str> = line.split('\t').collect();
+                (fields[1].parse().unwrap(), fields[2].parse().unwrap())
+            };
+            report.lines().skip(1).map(numbers).collect()
+        };
+        assert_eq!(listed("tied"), [(2, 16_383), (1, 5_121), (3, 5_121)]);
+        assert!(listed("all_tied")
+            .into_iter()
+            .eq((1..=3).map(|i| (i, 4_096))));
+        assert!(listed("zeros").into_iter().eq((1..=8).map(|i| (i, 0))));
+        assert_eq!(
+            listed("negative_axis"),
+            [(4, 2_124_494_179), (2, 279), (1, -8), (3, -625)]
+        );
     }
 
     /// The kinds of answers: the refusals' numbers, and the tags with what tells two answers of one tag apart.

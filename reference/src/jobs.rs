@@ -220,6 +220,30 @@ mod tests {
         assert_eq!(seen, 4 + 3 + 64);
     }
 
+    /// Names that begin with an order of axes: that one is printed.
+    #[test]
+    fn axes_are_in_the_order_that_is_named() {
+        let mut seen = 0;
+        for stored in jobs() {
+            let Some((order, _)) = stored
+                .name
+                .strip_prefix("order ")
+                .and_then(|name| name.split_once(": "))
+            else {
+                continue;
+            };
+            let report = String::from_utf8(stored.report().unwrap()).unwrap();
+            let printed: Vec<&str> = report
+                .lines()
+                .skip(1)
+                .map(|line| line.split('\t').nth(1).unwrap())
+                .collect();
+            assert_eq!(printed.join(", "), order, "{}", stored.name);
+            seen += 1;
+        }
+        assert_eq!(seen, 11);
+    }
+
     #[test]
     fn every_turn_is_chosen() {
         let mut chosen = BTreeSet::new();

@@ -72,7 +72,7 @@ pub fn generate_calls(seed: u64) -> Vec<u8> {
     generate::calls_text(seed)
 }
 
-/// The run on a matrix of n×n numbers, row after row: outcome, sweeps run, m, and for each axis a_ii, r_i and the row of
+/// The run on a matrix of n×n numbers, row after row: outcome, sweeps run, m, and for each axis, in channel order, a_ii, r_i and the row of
 /// v. Where one of the run's calls is refused, the number of that refusal; the limit itself is not judged.
 pub fn solve(n: i128, numbers: &[i128], limit: i128, tolerance: i128) -> Result<Run, Number> {
     report::run(n, numbers, limit, tolerance)

@@ -1,4 +1,4 @@
-//! Stored jobs that are accepted: the bench cards, every outcome, small shifts, 2 to 8 channels.
+//! Stored jobs that are accepted: the bench cards, every outcome, small shifts, 2 to 8 channels, orders of axes.
 
 use super::{greatest_root, raw, written, Stored, GREATEST_VALUE};
 use crate::examples;
@@ -7,7 +7,7 @@ use crate::random::Random;
 use crate::scatter::Sample;
 
 pub fn jobs() -> Vec<Stored> {
-    [cards(), outcomes(), small_shifts(), channels()]
+    [cards(), outcomes(), small_shifts(), channels(), orders()]
         .into_iter()
         .flatten()
         .collect()
@@ -177,4 +177,61 @@ fn channels() -> Vec<Stored> {
             )
         })
         .collect()
+}
+
+/// Reports whose order of axes tells of ties, signs and places: document 02, W3.
+fn orders() -> Vec<Stored> {
+    vec![
+        written("order 2, 1, 3: axes 1 and 3 tied", examples::TIED),
+        written(
+            "order 2, 1, 3: axes 1 and 3 tied, the first with the larger error",
+            "P 3 1 0\nS 1 0 1 4\nS 1 2 4 2\nS 1 0 1 4\nE 3\n",
+        ),
+        written(
+            "order 3, 2, 4, 1: axes 2 and 4 tied",
+            "P 4 10 0\nS 1 2 1 2 2\nS 1 0 1 0 0\nS 1 1 2 2 0\nS 1 1 0 2 0\nE 4\n",
+        ),
+        written(
+            "order 3, 2, 4, 1: axes 2 and 4 tied at 1, and axis 1 at -1",
+            "P 4 9 0\nS 1 1 5 0 0\nS 1 1 5 0 0\nS 1 0 1 7 2\nE 3\n",
+        ),
+        written(
+            "order 4, 2, 1, 3: two entries below 0",
+            examples::NEGATIVE_AXIS,
+        ),
+        written("order 1, 2, 3: all tied", examples::ALL_TIED),
+        written("order 1, 2, 3, 4, 5, 6, 7, 8: all 0", examples::ZEROS),
+        one_each("order 1, 2, 3, 4, 5, 6, 7, 8: all tied", [1; 8]),
+        one_each(
+            "order 1, 2, 3, 4, 5, 6, 7, 8: falling",
+            [8, 7, 6, 5, 4, 3, 2, 1],
+        ),
+        one_each(
+            "order 8, 7, 6, 5, 4, 3, 2, 1: rising",
+            [1, 2, 3, 4, 5, 6, 7, 8],
+        ),
+        one_each(
+            "order 1, 3, 7, 5, 6, 2, 4, 8: tied by threes and twos",
+            [3, 1, 3, 1, 2, 2, 3, 1],
+        ),
+    ]
+}
+
+/// On each channel one sample with a count, the others 0: S_ii is 7 times its square, and no pair is loose.
+fn one_each(name: &str, counts: [i128; 8]) -> Stored {
+    let samples = (0..8)
+        .map(|place| Sample {
+            dilution: 1,
+            counts: (0..8)
+                .map(|i| if i == place { counts[i] } else { 0 })
+                .collect(),
+        })
+        .collect();
+    let job = Job {
+        n: 8,
+        sweep_limit: 1,
+        tolerance: 1_048_576,
+        samples,
+    };
+    raw(name, job.text().as_bytes())
 }
