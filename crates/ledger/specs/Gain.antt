@@ -9,17 +9,17 @@ use Rattle.turn.specs.Gain.{Gains}
 use Rattle.turn.specs.Rotation.{rotationOf}
 use Rattle.ledger.specs.Bench.{NamedCall}
 use Rattle.ledger.specs.Call.{Call, turn, sweepIn}
-use Rattle.ledger.specs.Ledger.{State, loaded, turnPairs, ledgerStep, ledger}
+use Rattle.ledger.specs.Ledger.{State, loaded, take, turnPair, turnPairs, ledgerStep, ledger}
 use Rattle.ledger.specs.Pairs.{Ordered, Pair}
 use Rattle.ledger.specs.Order.{pairsIn}
 use Rattle.ledger.specs.Refusal.{refusalOf}
 use Rattle.ledger.specs.declared.Order.{Order}
 
--- the turn that the choice rule picks for a pair of the ledger's matrix B, if it picks one, gains
+-- the turn that the choice rule picks for a pair of the ledger's matrix B, if it picks one, is the one that the ledger makes, and it gains
 abbrev pub PairGains : State → Pair → Type 0
 PairGains s pair =
     (l : ℕ) (minus : Bool) → choose (s .B (pair .p) (pair .p)) (s .B (pair .q) (pair .q)) (s .B (pair .p) (pair .q)) ≡ Turn l minus →
-    Gains (s .n) (rotationOf l minus) (pair .p) (pair .q) (s .B)
+    (turnPair s pair ≡ take s pair (Turn l minus)) × Gains (s .n) (rotationOf l minus) (pair .p) (pair .q) (s .B)
 
 -- the calls that turn, and their pairs in order, on n channels
 pub data Turning (n : ℕ) : Call → List Pair → Type 0 where

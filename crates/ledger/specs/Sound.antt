@@ -1,4 +1,4 @@
--- What holds of the ledger's state after every list of calls.
+-- The bounds of the kept numbers after m turns.
 use Prim.Native.Nat.{ℕ, _+_, _*_}
 use Rattle.limits.specs.Limits.{entryLimit, units, whole}
 

@@ -13,3 +13,4 @@ pub mod Invariant
 pub mod Gain
 pub mod GainExample
 pub mod NearExample
+pub mod Refusals

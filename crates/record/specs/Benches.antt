@@ -1,19 +1,25 @@
--- Document 02, W8, of every list of calls: the four benches differ in their counts alone, and a bench's count is of its own refused calls.
+-- Document 02, W8: a bench outside the four is refused. Of every list of calls: the four differ in their counts alone, and a bench's count is of its
+-- own refused calls.
 use mathlib.Core.Path.{_≡_}
 use mathlib.Core.Bool.{true, cond, _&&_}
 use mathlib.Core.List.{List, [], _∷_, map}
-use Prim.Native.Nat.{ℕ, _+_, min}
+use Prim.Native.Nat.{ℕ, _+_, _≤_, min}
 use lib.Dec.{eqb}
 use Rattle.ledger.specs.Bench.{NamedCall, by, isBench}
-use Rattle.limits.specs.Limits.{refusedLimit}
+use Rattle.limits.specs.Limits.{benches, refusedLimit}
 use Rattle.record.specs.Record.{after, answerTo, fresh, isRefused, recordAfter, refusedBy, rowTo}
 use Rattle.record.specs.declared.Record.{Record}
 use Rattle.record.specs.declared.AxisAnswer.{AxisAnswer}
+use Rattle.record.specs.declared.query.Answer.the-variants.{Refused}
 
 -- the answers of a list of calls, each with its row, on the record that those before it leave
 unfoldable pub answersFrom : Record → List NamedCall → List AxisAnswer
 answersFrom r [] = []
 answersFrom r (c ∷ calls) = record { value = answerTo r c; row = rowTo r c } ∷ answersFrom (recordAfter r c) calls
+
+-- 'A bench outside 1 to 4 gives 15, tried before everything else, and raises no count': nor does it change anything else
+abbrev pub Outside-benches : Type 0
+Outside-benches = (r : Record) (c : NamedCall) → ((1 ≤ c .bench) × (c .bench ≤ benches) → ⊥) → (answerTo r c ≡ Refused 15) × (recordAfter r c ≡ r)
 
 -- how many calls of a bench are refused
 unfoldable pub refusals : ℕ → Record → List NamedCall → ℕ

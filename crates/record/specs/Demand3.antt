@@ -11,17 +11,18 @@ use Rattle.ledger.specs.Call.{axis}
 use Rattle.ledger.specs.Ledger.{Ledger, State, empty, loaded, ledger, ledgerFrom, ledgerFromUnder}
 use Rattle.ledger.specs.Near.{MatrixNear, AxesNear, RowNear}
 use Rattle.record.specs.declared.query.Answer.the-variants.{Axis}
-use Rattle.record.specs.Flat.{keptEntry}
+use Rattle.record.specs.Flat.{entriesOf, keptEntry}
 use Rattle.record.specs.Kept.{Kept}
-use Rattle.record.specs.Record.{after, afterFrom, afterFromUnder, answerTo, fresh}
+use Rattle.record.specs.Record.{after, afterFrom, afterFromUnder, answerTo, fresh, rowTo}
 use Rattle.record.specs.declared.Record.{Record}
 
--- axis i, from 1: the axis call of every bench answers the kept diagonal entry i and one error, within which row i of Q is an axis of S / 2^e with
--- that entry
--- (document 02, W5: 'the exact row of Q times S/2^e, against that row times the kept diagonal entry')
+-- axis i, from 1
 pub record AxisNear (r : Record) (s : State) (i : ℕ) : Type 0 where
   pub error : ℕ
+  -- 'a_ii, its error r_i, and row i of v': the axis call of every bench answers the kept entry, one error and the kept row
   pub answers : (bench : ℕ) → isBench bench ≡ true → answerTo r (by bench (axis i)) ≡ Axis (keptEntry (r .solver .a) (i - 1) (i - 1)) error
+  pub row : (bench : ℕ) → isBench bench ≡ true → rowTo r (by bench (axis i)) ≡ entriesOf (r .solver .v) (i - 1)
+  -- document 02, W5: 'the exact row of Q times S/2^e, against that row times the kept diagonal entry'
   pub near : RowNear (s .n) (s .D) (s .P) (s .S) (s .e) (i - 1) (keptEntry (r .solver .a) (i - 1) (i - 1)) error
 
 pub record Certified (r : Record) (s : State) : Type 0 where

@@ -25,7 +25,8 @@ abbrev Mirrored : State → Type 0
 Mirrored s = Symmetric (s .n) (s .B)
 
 pair-gains : (s : State) → Mirrored s → (pair : Pair) → Ordered (s .n) pair → PairGains s pair
-pair-gains s h pair o = gains (s .n) (pair .p) (pair .q) (o .ordered) (o .within) (s .B) h
+unfolding turnPair
+pair-gains s h pair o l minus e = (rw e, gains (s .n) (pair .p) (pair .q) (o .ordered) (o .within) (s .B) h l minus e)
 
 pair-mirrored : (s : State) → Mirrored s → (pair : Pair) → Ordered (s .n) pair → Mirrored (turnPair s pair)
 unfolding turnPair take

@@ -61,10 +61,10 @@ turn-counts r p q e b a =
     rw (after-accepted r (turn p q) e) (by-choice (r .n) (workOf r) (record { p = p - 1; q = q - 1 }) _ b told)
 
 -- a load of samples that is not refused answers the e that the record then has
-pub samples-counts : (r : Solver) (n : ℕ) (dilutions counts : List ℕ) → refusalOf (r .n) (r .m) (loadSamples n dilutions counts) ≡ 0 → (e : ℕ) →
+pub samples-shift : (r : Solver) (n : ℕ) (dilutions counts : List ℕ) → refusalOf (r .n) (r .m) (loadSamples n dilutions counts) ≡ 0 → (e : ℕ) →
     answerOf r (loadSamples n dilutions counts) ≡ SamplesLoaded e → afterOf r (loadSamples n dilutions counts) .e ≡ e
 unfolding answerOf valueOf acceptedOfUnder samplesSolver loadedSolver
-samples-counts r n dilutions counts taken e a =
+samples-shift r n dilutions counts taken e a =
     let told = rw (eq-eqb (refusalOf (r .n) (r .m) (loadSamples n dilutions counts)) 0 taken) at a in
     let same : shift (scatter n (samples n dilutions counts)) ≡ e = cc in
     rw (after-accepted r (loadSamples n dilutions counts) taken) same

@@ -26,8 +26,8 @@ use Rattle.record.specs.laws.Agree.{Agree, Agrees, agree-step}
 use Rattle.record.specs.Demand3.{AxisNear, Certified, Certifies, Demand-3, Goes-on}
 use Rattle.record.specs.Flat.{keptEntry}
 use Rattle.record.specs.Kept.{Kept}
-use Rattle.record.specs.Record.{after, afterFromUnder, answerTo, calledUnder, fresh, recordAfterUnder}
-use Rattle.record.specs.Solver.{answerOf, unloaded, valueOf}
+use Rattle.record.specs.Record.{after, afterFromUnder, answerTo, calledUnder, fresh, recordAfterUnder, rowTo}
+use Rattle.record.specs.Solver.{answerOf, axisOf, rowOf, unloaded, valueOf}
 use Rattle.record.specs.declared.Record.{Record}
 
 module _ (r : Record) (s : State) (a : Agree (r .solver) s) (h : Sound s) where
@@ -40,11 +40,12 @@ module _ (r : Record) (s : State) (a : Agree (r .solver) s) (h : Sound s) where
   accepted i f l = rw (a .size, lt-ltb 0 (s .n) (omega (arith, h .low)), le-leb 1 i f, le-leb i (s .n) l)
 
   axis-near : (i : ℕ) → 1 ≤ i → i ≤ s .n → AxisNear r s i
-  unfolding answerTo answerOf valueOf
+  unfolding answerTo answerOf valueOf rowTo rowOf axisOf
   axis-near i f l =
       record {
         error = errorOf (r .solver .n) (r .solver .e) (keptEntry (r .solver .a)) (r .solver .m) (i - 1);
         answers = λ bench b. rw (b, accepted i f l);
+        row = λ bench b. rw (b, accepted i f l);
         near = rw (error-agrees (i - 1) (omega arith), a .matrix (i - 1) (i - 1) (omega arith) (omega arith)) (row-near s h (i - 1) (omega arith));
       }
 

@@ -22,7 +22,7 @@ use Rattle.ledger.specs.Refusal.{refusalOf, refusalUnder}
 use Rattle.ledger.specs.declared.Order.the-variants.{Cyclic, Tournament}
 use Rattle.limits.specs.Limits.{benches, entryLimit, refusedLimit}
 use Rattle.limits.specs.laws.Values.{some-entry}
-use Rattle.record.specs.Benches.{Benches-alike, Counts, answersFrom, refusals, renamed}
+use Rattle.record.specs.Benches.{Benches-alike, Counts, Outside-benches, answersFrom, refusals, renamed}
 use Rattle.record.specs.Flat.{keptEntry}
 use Rattle.record.specs.Kept.{Kept}
 use Rattle.record.specs.Loose.{looseOf}
@@ -75,6 +75,14 @@ module _ (r : Record) (c : NamedCall) where
   unfolding recordAfterUnder
   no-bench-leaves e = rw e
 
+  outside : ((1 ≤ c .bench) × (c .bench ≤ benches) → ⊥) → isBench (c .bench) ≡ false
+  unfolding isBench
+  outside h = by (within 1 benches (c .bench)) refl
+    where
+      by : (t : Bool) → within 1 benches (c .bench) ≡ t → within 1 benches (c .bench) ≡ false
+      by true e = absurd (h (is-within 1 benches (c .bench) e))
+      by false e = e
+
   pub bench-answers : isBench (c .bench) ≡ true → answerTo r c ≡ answerOf (r .solver) (c .call)
   unfolding answerTo
   bench-answers e = rw e
@@ -86,6 +94,9 @@ module _ (r : Record) (c : NamedCall) where
   pub bench-leaves : isBench (c .bench) ≡ true → recordAfter r c ≡ calledUnder entryLimit r c
   unfolding recordAfterUnder
   bench-leaves e = rw e
+
+pub outside-benches : Outside-benches
+outside-benches r c h = (no-bench-answers r c (outside r c h), no-bench-leaves r c (outside r c h))
 
 -- the calls of a run's own record
 pub own-answers : (r : Record) (call : Call) → answerTo r (own call) ≡ answerOf (r .solver) call
