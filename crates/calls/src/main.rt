@@ -1,4 +1,6 @@
 // Plays the calls of standard input, of which it reads at most 65,536 bytes, on one record.
+#![tactic(auto)]
+
 ghost use Rattle.std.specs.Prelude.{◌≤◌, ◌≡◌};
 ghost use Rattle.play.specs.Steps.{Ends};
 

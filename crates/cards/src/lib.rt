@@ -1,1 +1,2 @@
 // Theory only: everything is in specs/.
+#![tactic(auto)]

@@ -1,4 +1,6 @@
 // The thresholds and the choice of a turn.
+#![tactic(auto)]
+
 ghost use Rattle.std.specs.Prelude.{◌≡◌, ◌*◌, ◌≤◌, nat_abs};
 ghost use Rattle.choice.specs.Threshold.{threshold};
 ghost use Rattle.choice.specs.Choice.{choose, smallest_fit};

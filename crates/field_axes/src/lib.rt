@@ -1,4 +1,6 @@
 // The functions of the static library, for Rust and C. bindings/ declares them; tests/ compares those declarations with these.
+#![tactic(auto)]
+
 mod solve;
 mod table;
 

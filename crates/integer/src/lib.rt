@@ -1,4 +1,6 @@
 // The size of a signed number, and a size with a sign. The theory of whole numbers is in specs/.
+#![tactic(auto)]
+
 ghost use Rattle.std.specs.Prelude.{◌≡◌, ◌<◌, ◌^◌, nat_abs};
 ghost use Rattle.integer.specs.Signed.{signed};
 

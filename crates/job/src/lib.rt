@@ -1,4 +1,6 @@
 // The reader of job text: document 01, "Job text and report", and its refusals 1 to 4.
+#![tactic(auto)]
+
 pub mod field;
 pub mod first;
 pub mod last;

@@ -1,4 +1,6 @@
 // The table of a job: S, e and the entries of its samples.
+#![tactic(auto)]
+
 pub mod lines;
 mod rows;
 

@@ -1,4 +1,6 @@
 // The writer of job text: document 02, W1.
+#![tactic(auto)]
+
 mod samples;
 
 ghost use Rattle.std.specs.Prelude.{◌≤◌, length};

@@ -1,4 +1,5 @@
 // The order of a sweep's pairs. Everything else of this crate is theory, in specs/.
+#![tactic(auto)]
 
 #[derive(Drop)]
 pub enum Order {

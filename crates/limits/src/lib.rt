@@ -1,4 +1,5 @@
 // The limits of documents 01 and 02, each named once; specs/Limits.antt has them for the definitions.
+#![tactic(auto)]
 
 // Channels of a job or of a loaded matrix.
 pub const LEAST_CHANNELS: usize = 2;

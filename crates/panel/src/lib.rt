@@ -1,4 +1,6 @@
 // Panels: symmetric matrices of two channels with small entries, document 02, W13.
+#![tactic(auto)]
+
 mod line;
 pub mod lines;
 pub mod position;

@@ -1,4 +1,6 @@
 // Prints all panels of the size that is its one argument, a line each; the line of a refusal; or `?` where there is no such argument.
+#![tactic(auto)]
+
 ghost use Rattle.io.specs.Counts.{IsPrefixLen};
 
 use libc::STDOUT_FILENO;

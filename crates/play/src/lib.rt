@@ -1,4 +1,6 @@
 // Calls read from text, played on a record, and answered by text.
+#![tactic(auto)]
+
 mod call;
 pub mod cursor;
 mod passes;

@@ -1,5 +1,7 @@
 // Samples handed over: n, a dilution each and n counts each, sample after sample. Whether their values are in range, and the number that they are
 // refused with.
+#![tactic(auto)]
+
 ghost use Rattle.std.specs.Prelude.{◌≡◌};
 ghost use Rattle.limits.specs.Limits.{least_channels, most_channels};
 ghost use Rattle.limits.specs.Unless.{unless};

@@ -1,4 +1,6 @@
 // The record and its calls: the state that holds one matrix with its axes and the turns made of it, and a count of refused calls for each bench.
+#![tactic(auto)]
+
 ghost use Rattle.ledger.specs.Bench.{by, is_bench};
 ghost use Rattle.ledger.specs.Call.{load, load_samples, sweep, sweep_in, tournament_sweep, turn};
 ghost use Rattle.ledger.specs.Refusal.{refusal_of};

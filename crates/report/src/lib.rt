@@ -1,4 +1,6 @@
 // Job text in, report or refusal out: document 01, 'Job text and report'.
+#![tactic(auto)]
+
 pub mod axes;
 mod lines;
 mod order;

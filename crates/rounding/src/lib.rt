@@ -1,4 +1,6 @@
 // Rounding to nearest, halves away from zero: the whole number nearest to u/w.
+#![tactic(auto)]
+
 ghost use Rattle.std.specs.Prelude.{◌≡◌, ◌+◌, ◌/◌, ◌<◌, ◌^◌, nat_abs};
 ghost use Rattle.rounding.specs.Rounding.{rnd};
 ghost use Rattle.rounding.specs.inner.Rounding.{sign};

@@ -1,4 +1,6 @@
 // A run of document 01: a fresh record of its own, a load, and the sweeps; of a matrix, or of a table made from readings. Its bench is 1.
+#![tactic(auto)]
+
 pub mod word;
 
 ghost use Rattle.run.specs.Run.{Allowed, Runs, RunsTable};

@@ -1,4 +1,6 @@
 // The sums of samples: their number, channel sums and cross sums, in one pass over the samples.
+#![tactic(auto)]
+
 ghost use Rattle.std.specs.Prelude.{◌≡◌, ◌*◌};
 ghost use Rattle.readings.specs.Samples.{sample, samples, z};
 ghost use Rattle.sums.specs.Sums.{products, sums_of};

@@ -1,4 +1,6 @@
 // Reads at most 16,384 bytes of job text from standard input and prints the exact sums of its table, or the refusal's line.
+#![tactic(auto)]
+
 use libc::{STDIN_FILENO, STDOUT_FILENO};
 
 fn main() {

@@ -1,6 +1,8 @@
 // Stored jobs through the library: the report of each, or the line of its refusal, one after another. The file `jobs` has for each job its
 // length, a blank, the size of the buffer that is lent for its report, a line feed, and its bytes. What must be written comes from an
 // independent implementation.
+#![tactic(auto)]
+
 ghost use Rattle.std.specs.Prelude.{◌≤◌, ◌<◌, length};
 
 use job::reply::Reply;

@@ -13,6 +13,8 @@
 //     5      1 if draw(a) is even, else 100   draw(a)
 //
 // draw(a) = ((a × 69069 + 1) mod 2^31 × 1103515245 + 12345) mod 2^31 div 2^15.
+#![tactic(auto)]
+
 ghost use Rattle.std.specs.Prelude.{◌^◌, ◌<◌, ◌≤◌};
 ghost use Rattle.sums.specs.inner.Ranges.{Room};
 ghost use Rattle.test_tables.specs.Limit.{limit_of};

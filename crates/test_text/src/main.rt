@@ -1,4 +1,6 @@
 // Test program: lines of numbers, the least and the greatest among them, and of a word, each written where the last one ended.
+#![tactic(auto)]
+
 ghost use Rattle.std.specs.Prelude.{◌≤◌, ◌++◌, length, take};
 ghost use Rattle.text.specs.Put.{Put};
 ghost use Rattle.text.specs.Line.{number_line, word_line};

@@ -4,6 +4,8 @@
 // With w = 2^31 × draw(3k) + draw(3k + 1) and d = draw(3k + 2), its size is, by d mod 4: 0, w mod 4; 1, most − w mod 4; 2,
 // w mod (most + 1); 3, the whole part of w / 2^s, mod (most + 1), where s is the whole part of d / 4, mod 62. It is negative
 // where the whole part of d / 256 is odd.
+#![tactic(auto)]
+
 mod generator;
 mod lines;
 mod text;

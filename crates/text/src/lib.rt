@@ -1,4 +1,6 @@
 // Writers of text into a lent buffer: bytes and decimal numbers, and the answer of a writer.
+#![tactic(auto)]
+
 pub mod line;
 pub mod numbers;
 pub mod rows;

@@ -1,4 +1,6 @@
 // The turn of the whole matrix and of the axes. Rows and columns count from 0; the first n are in use.
+#![tactic(auto)]
+
 pub mod pair;
 
 ghost use Rattle.std.specs.Prelude.{◌≡◌, ◌<◌, ◌≤◌};

@@ -20,7 +20,7 @@ returns : tie.Need-returns
 unfolding tabulate threshold rounded_up u w
 returns c = entry c.args.l c.requires.0 c.requires.1
 
-pub threshold-of-spec : {M : Type 1} → statement M
-threshold-of-spec =
+pub threshold_of_spec : {M : Type 1} → statement M
+threshold_of_spec =
     tie.close
     (tie.spec (λ c. search rules) (λ c. search rules) (λ c. search rules) (λ c. search rules) returns)

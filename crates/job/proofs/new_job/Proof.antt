@@ -8,5 +8,5 @@ returns : tie.Need-returns
 unfolding new_job
 returns c = refl
 
-pub new-job-spec : {M : Type 1} → statement M
-new-job-spec = tie.close (tie.spec returns)
+pub new_job_spec : {M : Type 1} → statement M
+new_job_spec = tie.close (tie.spec returns)

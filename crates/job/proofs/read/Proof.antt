@@ -12,20 +12,20 @@ samples-requires : tie.Need-samples-requires
 unfolding new_job
 samples-requires c κs =
     let f = c.before.before in
-    rw c.new-job.ensures (lit≤ tt, parameters-few _ _ _ _ _ (sym f.before.before.first-line.ensures ∙ f.found2.given.1))
+    rw c.new_job.ensures (lit≤ tt, parameters-few _ _ _ _ _ (sym f.before.before.first_line-found.ensures ∙ f.found-in-Read-1.given.1))
 
-returns : tie.Need-returns
+returns : tie.Need-returns-in-Refused
 unfolding reading_at reading_by
 returns c =
     let f = c.before.before in
-    rw (← (read_same _), ← f.before.before.first-line.ensures, f.found.given.1) c.refused.ensures
+    rw (← (read_same _), ← f.before.before.first_line-found.ensures, f.found-1.given.1) c.refused.ensures
 
-returns-2 : tie.Need-returns-2
+returns-2 : tie.Need-returns-in-Read
 unfolding reading_at reading_by new_job
 returns-2 c =
     let f = c.before.before.before in
-    rw (← (read_same _), ← f.before.before.first-line.ensures, f.found2.given.1)
-    (rw c.before.new-job.ensures at c.samples.ensures)
+    rw (← (read_same _), ← f.before.before.first_line-found.ensures, f.found-in-Read-1.given.1)
+    (rw c.before.new_job.ensures at c.samples.ensures)
 
 pub read_spec : {M : Type 1} → statement M
 read_spec =

@@ -6,7 +6,7 @@ use Rattle.job.proofs.refused.Tie as tie
 
 returns : tie.Need-returns
 unfolding refused_reading
-returns c = rw c.new-job.ensures
+returns c = rw c.new_job-job.ensures
 
-pub refused-spec : {M : Type 1} → statement M
-refused-spec = tie.close (tie.spec (λ c κs. search rules) returns)
+pub refused_spec : {M : Type 1} → statement M
+refused_spec = tie.close (tie.spec (λ c κs. search rules) returns)

@@ -9,33 +9,33 @@ use Rattle.readings.proofs.Within.{in-range, too-high, too-low}
 use Rattle.readings.proofs.all_within.Statement.{statement}
 use Rattle.readings.proofs.all_within.Tie as tie
 
-abbrev invariant-loop : tie.invariant-loop
+abbrev invariant-loop : tie.invariant-loop-i
 invariant-loop low high values i₀ i = (i ≤ length values) × (all_within low high values ≡ all_within low high (drop i values))
 
-abbrev decreases-loop : tie.decreases-loop
+abbrev decreases-loop : tie.decreases-loop-i
 decreases-loop low high values i₀ i = length values - i
 
-returns : tie.Need-returns invariant-loop decreases-loop
-returns c = sym (c.before.before.before.loop.invariant.1 ∙ too-low _ _ _ _ c.before.before.loop-test.true c.if1.true)
+returns : tie.Need-returns-then-values-i invariant-loop decreases-loop
+returns c = sym (c.before.before.before.loop-i.invariant.1 ∙ too-low _ _ _ _ c.before.before.loop-i-test.true c.if-values-i.true)
 
-returns-2 : tie.Need-returns-2 invariant-loop decreases-loop
+returns-2 : tie.Need-returns-then-high-values invariant-loop decreases-loop
 returns-2 c =
-    let l = c.before.before.before.before.before.loop in
-    sym (l.invariant.1 ∙ too-high _ _ _ _ c.before.before.before.before.loop-test.true c.before.before.if1.false c.if2.true)
+    let l = c.before.before.before.before.before.loop-i in
+    sym (l.invariant.1 ∙ too-high _ _ _ _ c.before.before.before.before.loop-i-test.true c.before.before.if-values-i.false c.if-high-values.true)
 
-loop-again : tie.Need-loop-preserved invariant-loop decreases-loop
+loop-again : tie.Need-loop-i-preserved invariant-loop decreases-loop
 loop-again c =
-    let l = c.before.before.before.before.before.loop in
-    (omega arith, l.invariant.1 ∙ in-range _ _ _ _ c.before.before.before.before.loop-test.true c.before.before.if1.false c.if2.false)
+    let l = c.before.before.before.before.before.loop-i in
+    (omega arith, l.invariant.1 ∙ in-range _ _ _ _ c.before.before.before.before.loop-i-test.true c.before.before.if-values-i.false c.if-high-values.false)
 
-returns-3 : tie.Need-returns-3 invariant-loop decreases-loop
+returns-3 : tie.Need-returns invariant-loop decreases-loop
 unfolding all_within
 returns-3 c =
     let l = c.before in
-    sym (l.loop.invariant.1 ∙ rw (drop_of_length-le l.before.args.values.now {i = l.loop.i} (omega arith)))
+    sym (l.loop-i.invariant.1 ∙ rw (drop_of_length-le l.before.args.values.now {i = l.loop-i.i} (omega arith)))
 
-pub all-within-spec : {M : Type 1} → statement M
-all-within-spec =
+pub all_within_spec : {M : Type 1} → statement M
+all_within_spec =
     tie.close
     (tie.spec
     invariant-loop

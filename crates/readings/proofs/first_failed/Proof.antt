@@ -8,8 +8,8 @@ use Rattle.readings.proofs.first_failed.Tie as tie
 returns : tie.Need-returns
 returns c =
     let a = c.before.before.before.args in
-    c.refused-unless3.ensures
-    ∙ ap (unless a.within 2) (c.before.refused-unless2.ensures ∙ ap (unless a.counted 6) c.before.before.refused-unless.ensures)
+    c.refused_unless.ensures
+    ∙ ap (unless a.within 2) (c.before.refused_unless-later.ensures ∙ ap (unless a.counted 6) c.before.before.refused_unless-last.ensures)
 
-pub first-failed-spec : {M : Type 1} → statement M
-first-failed-spec = tie.close (tie.spec (λ c κs. search rules) (λ c κs. search rules) (λ c κs. search rules) returns)
+pub first_failed_spec : {M : Type 1} → statement M
+first_failed_spec = tie.close (tie.spec (λ c κs. search rules) (λ c κs. search rules) (λ c κs. search rules) returns)

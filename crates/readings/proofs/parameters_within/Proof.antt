@@ -8,7 +8,7 @@ use Rattle.readings.proofs.parameters_within.Tie as tie
 
 returns : tie.Need-returns
 unfolding parameters_in_range
-returns c = ap₂ ◌&&◌ (ap₂ ◌&&◌ c.before.before.channels-within.ensures c.before.is_within.ensures) c.is-within2.ensures
+returns c = ap₂ ◌&&◌ (ap₂ ◌&&◌ c.before.before.channels_within.ensures c.before.is_within.ensures) c.is_within-2.ensures
 
-pub parameters-within-spec : {M : Type 1} → statement M
-parameters-within-spec = tie.close (tie.spec (λ c κs. search rules) (λ c κs. search rules) (λ c κs. search rules) returns)
+pub parameters_within_spec : {M : Type 1} → statement M
+parameters_within_spec = tie.close (tie.spec (λ c κs. search rules) (λ c κs. search rules) (λ c κs. search rules) returns)

@@ -2,11 +2,11 @@
 use Rattle.readings.proofs.refused_unless.Statement.{statement}
 use Rattle.readings.proofs.refused_unless.Tie as tie
 
-returns : tie.Need-returns
-returns c = simp c.if1.true
+returns : tie.Need-returns-then-test
+returns c = simp c.if-test.true
 
-returns-2 : tie.Need-returns-2
-returns-2 c = simp c.if1.false
+returns-2 : tie.Need-returns-else-test
+returns-2 c = simp c.if-test.false
 
-pub refused-unless-spec : {M : Type 1} → statement M
-refused-unless-spec = tie.close (tie.spec returns returns-2)
+pub refused_unless_spec : {M : Type 1} → statement M
+refused_unless_spec = tie.close (tie.spec returns returns-2)

@@ -8,8 +8,8 @@ use Rattle.readings.proofs.samples_refusal.Tie as tie
 returns : tie.Need-returns
 unfolding samples_refusal number_refusal
 returns c =
-    c.first-failed.ensures
-    ∙ rw (c.before.are-so-many.ensures, c.before.before.are-counted.ensures, c.before.before.before.values-within.ensures)
+    c.first_failed.ensures
+    ∙ rw (c.before.are_so_many.ensures, c.before.before.are_counted-counted.ensures, c.before.before.before.values_within-within.ensures)
 
-pub samples-refusal-spec : {M : Type 1} → statement M
-samples-refusal-spec = tie.close (tie.spec (λ c κs. search rules) (λ c κs. search rules) (λ c κs. search rules) (λ c κs. search rules) returns)
+pub samples_refusal_spec : {M : Type 1} → statement M
+samples_refusal_spec = tie.close (tie.spec (λ c κs. search rules) (λ c κs. search rules) (λ c κs. search rules) (λ c κs. search rules) returns)

@@ -6,7 +6,7 @@ use Rattle.readings.proofs.samples_within.Statement.{statement}
 use Rattle.readings.proofs.samples_within.Tie as tie
 
 returns : tie.Need-returns
-returns c = ap₂ ◌&&◌ c.before.all-within.ensures c.all-within2.ensures
+returns c = ap₂ ◌&&◌ c.before.all_within.ensures c.all_within-2.ensures
 
-pub samples-within-spec : {M : Type 1} → statement M
-samples-within-spec = tie.close (tie.spec (λ c κs. search rules) (λ c κs. search rules) returns)
+pub samples_within_spec : {M : Type 1} → statement M
+samples_within_spec = tie.close (tie.spec (λ c κs. search rules) (λ c κs. search rules) returns)

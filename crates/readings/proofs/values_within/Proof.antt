@@ -6,7 +6,7 @@ use Rattle.readings.proofs.values_within.Statement.{statement}
 use Rattle.readings.proofs.values_within.Tie as tie
 
 returns : tie.Need-returns
-returns c = ap₂ ◌&&◌ c.before.channels-within.ensures c.samples-within.ensures
+returns c = ap₂ ◌&&◌ c.before.channels_within.ensures c.samples_within.ensures
 
-pub values-within-spec : {M : Type 1} → statement M
-values-within-spec = tie.close (tie.spec (λ c κs. search rules) (λ c κs. search rules) returns)
+pub values_within_spec : {M : Type 1} → statement M
+values_within_spec = tie.close (tie.spec (λ c κs. search rules) (λ c κs. search rules) returns)

@@ -23,44 +23,44 @@ module _ (t : ℕ) where
   abbrev below : In 1 put-natural-kinds.ps
   below = and 1 put-natural-kinds.ps (falls 1 put-natural-kinds.ps ◌<◌ μ t) put-natural.Pre
 
-  put-byte-requires : lts.Need-put-byte-requires (put-byte-reads.Asked, put-byte-reads.Learnt, below, put-natural.Post) given put-natural.Post
+  put-byte-requires : lts.Need-put_byte-requires (put-byte-reads.Asked, put-byte-reads.Learnt, below, put-natural.Post) given put-natural.Post
   put-byte-requires c κs =
       let start = c.before.before.before in
-      rw (one-digit start.args.x c.before.if1.true) at start.requires.1
+      rw (one-digit start.args.x c.before.if-x-lt10.true) at start.requires.1
 
-  put-natural-requires : lts.Need-put-natural-requires (put-byte-reads.Asked, put-byte-reads.Learnt, below, put-natural.Post) given put-natural.Post
+  put-natural-requires : lts.Need-put_natural-last-requires (put-byte-reads.Asked, put-byte-reads.Learnt, below, put-natural.Post) given put-natural.Post
   put-natural-requires c κs =
       let start = c.before.before.before in
-      let h = c.before.if1.false in
+      let h = c.before.if-x-lt10.false in
       (omega arith, omega (arith, more-length start.args.x h))
 
-  put-byte-requires-2 : lts.Need-put-byte-requires-2 (put-byte-reads.Asked, put-byte-reads.Learnt, below, put-natural.Post) given put-natural.Post
+  put-byte-requires-2 : lts.Need-put_byte-requires-else-x-lt10 (put-byte-reads.Asked, put-byte-reads.Learnt, below, put-natural.Post) given put-natural.Post
   put-byte-requires-2 c κs =
       let first = c.before.before.before in
       let start = first.before.before.before.before in
       omega (
         arith,
-        more-length start.args.x first.before.before.if1.false,
+        more-length start.args.x first.before.before.if-x-lt10.false,
         start.requires.1,
-        first.put-natural.ensures.answer,
-        first.put-natural.auto,
+        first.put_natural-last.ensures.answer,
+        first.put_natural-last.auto,
       )
 
-  returns : lts.Need-returns (put-byte-reads.Asked, put-byte-reads.Learnt, below, put-natural.Post) given put-natural.Post
+  returns : lts.Need-returns-then-x-lt10 (put-byte-reads.Asked, put-byte-reads.Learnt, below, put-natural.Post) given put-natural.Post
   returns c =
       let start = c.before.before.before.before.before.before in
-      rw (one-digit start.args.x c.before.before.before.before.if1.true) c.before.before.put_byte.ensures
+      rw (one-digit start.args.x c.before.before.before.before.if-x-lt10.true) c.before.before.put_byte.ensures
 
-  returns-2 : lts.Need-returns-2 (put-byte-reads.Asked, put-byte-reads.Learnt, below, put-natural.Post) given put-natural.Post
+  returns-2 : lts.Need-returns-else-x-lt10 (put-byte-reads.Asked, put-byte-reads.Learnt, below, put-natural.Post) given put-natural.Post
   returns-2 c =
       let last = c.before.before in
       let first = last.before.before.before.before in
       let start = first.before.before.before.before in
-      rw (more-digits start.args.x first.before.before.if1.false)
-      (put_then first.put-natural.ensures last.put-byte2.ensures)
+      rw (more-digits start.args.x first.before.before.if-x-lt10.false)
+      (put_then first.put_natural-last.ensures last.put_byte-else-x-lt10.ensures)
 
-pub +put-natural-spec : {M : Type 1} → statement M
-+put-natural-spec = close μ λ t.
+pub +put_natural_spec : {M : Type 1} → statement M
++put_natural_spec = close μ λ t.
     lts.spec (put-byte-reads.Asked, put-byte-reads.Learnt, below t, put-natural.Post) (given t) put-natural.Post
     (λ c. search rules)
     (λ c. search rules)

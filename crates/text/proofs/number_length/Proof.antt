@@ -10,32 +10,32 @@ use Rattle.text.proofs.Sign.{negative-text, natural-text}
 use Rattle.text.proofs.number_length.Statement.{statement}
 use Rattle.text.proofs.number_length.Tie as tie
 
-negative : (c : tie.Then1) → 1 + c.before.natural-length.result ≡ length (number c.before.before.before.args.z)
+negative : (c : tie.Then-z-lt0) → 1 + c.before.natural_length-n.result ≡ length (number c.before.before.before.args.z)
 negative c =
     let start = c.before.before.before in
     rw (
-      negative-text start.args.z start.ranges.z c.if1.true,
-      c.before.natural-length.ensures.exact,
+      negative-text start.args.z start.ranges.z c.if-z-lt0.true,
+      c.before.natural_length-n.ensures.exact,
       c.before.before.magnitude.ensures,
     )
     (omega arith)
 
-natural : (c : tie.Else1) → c.before.natural-length.result ≡ length (number c.before.before.before.args.z)
+natural : (c : tie.Else-z-lt0) → c.before.natural_length-n.result ≡ length (number c.before.before.before.args.z)
 natural c =
     let start = c.before.before.before in
     rw (
-      natural-text start.args.z start.ranges.z c.if1.false,
-      c.before.natural-length.ensures.exact,
+      natural-text start.args.z start.ranges.z c.if-z-lt0.false,
+      c.before.natural_length-n.ensures.exact,
       c.before.before.magnitude.ensures,
     )
 
-returns : tie.Need-returns
+returns : tie.Need-returns-then-z-lt0
 returns c =
     let start = c.before.before.before in
     record { exact = negative c; bounded = omega (arith, negative c, length-number start.args.z start.ranges.z.sfits) }
 
-pub number-length-spec : {M : Type 1} → statement M
-number-length-spec =
+pub number_length_spec : {M : Type 1} → statement M
+number_length_spec =
     tie.close
     (tie.spec
     (λ c κs. search rules)

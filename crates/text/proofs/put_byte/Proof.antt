@@ -7,5 +7,5 @@ use Rattle.text.proofs.put_byte.Tie as tie
 returns : tie.Need-returns
 returns c = byte_put _ _ _ c.requires
 
-pub put-byte-spec : {M : Type 1} → statement M
-put-byte-spec = tie.close (tie.spec (λ c. search rules) (λ c. search rules) (λ c. search rules) returns)
+pub put_byte_spec : {M : Type 1} → statement M
+put_byte_spec = tie.close (tie.spec (λ c. search rules) (λ c. search rules) (λ c. search rules) returns)

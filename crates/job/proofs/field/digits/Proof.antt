@@ -10,43 +10,43 @@ use Rattle.job.proofs.Flags.{denied, granted}
 use Rattle.job.proofs.field.digits.Statement.{statement}
 use Rattle.job.proofs.field.digits.Tie as tie
 
-abbrev invariant-loop : tie.invariant-loop
+abbrev invariant-loop : tie.invariant-loop-at
 invariant-loop text from start value₀ at₀ value at = digits_at text from start ≡ digits_at text at value
 
-abbrev decreases-loop : tie.decreases-loop
+abbrev decreases-loop : tie.decreases-loop-at
 decreases-loop text from start value₀ at₀ value at = length text - at
 
-returns : tie.Need-returns invariant-loop decreases-loop
+returns : tie.Need-returns-then-b-eq9 invariant-loop decreases-loop
 returns c = search (rules, digits-tab)
 
-returns-2 : tie.Need-returns-2 invariant-loop decreases-loop
+returns-2 : tie.Need-returns-then-b-eq10 invariant-loop decreases-loop
 returns-2 c = search (rules, digits-feed)
 
-returns-3 : tie.Need-returns-3 invariant-loop decreases-loop
+returns-3 : tie.Need-returns-then-not-may_follow invariant-loop decreases-loop
 returns-3 c = search (rules, digits-bad, denied)
 
-mul-value : tie.Need-overflow-mul-value invariant-loop decreases-loop
-mul-value c = omega (arith, may-follow _ _ (granted _ _ c.before.may-follow.ensures c.if3.false))
+mul-value : tie.Need-overflow_mul-value invariant-loop decreases-loop
+mul-value c = omega (arith, may-follow _ _ (granted _ _ c.before.may_follow.ensures c.if-not-may_follow.false))
 
-sub-value : tie.Need-overflow-sub-value invariant-loop decreases-loop
-sub-value c = omega (arith, may-follow _ _ (granted _ _ c.before.may-follow.ensures c.if3.false))
+sub-value : tie.Need-overflow_sub-value invariant-loop decreases-loop
+sub-value c = omega (arith, may-follow _ _ (granted _ _ c.before.may_follow.ensures c.if-not-may_follow.false))
 
-add-value : tie.Need-overflow-add-value invariant-loop decreases-loop
-add-value c = omega (arith, may-follow _ _ (granted _ _ c.before.may-follow.ensures c.if3.false))
+add-value : tie.Need-overflow_add-value invariant-loop decreases-loop
+add-value c = omega (arith, may-follow _ _ (granted _ _ c.before.may_follow.ensures c.if-not-may_follow.false))
 
-loop-again : tie.Need-loop-preserved invariant-loop decreases-loop
+loop-again : tie.Need-loop-at-preserved invariant-loop decreases-loop
 loop-again c =
     let f = c.before in
     let w = f.before.before.before in
     let t = w.before.before in
-    digits_more _ _ _ _ t.before.loop.invariant t.loop-test.true _ w.wide.ensures f.before.before.if1.false
-    f.before.if2.false (granted _ _ f.may-follow.ensures c.if3.false)
+    digits_more _ _ _ _ t.before.loop-at.invariant t.loop-at-test.true _ w.wide-b.ensures f.before.before.if-b-eq9.false
+    f.before.if-b-eq10.false (granted _ _ f.may_follow.ensures c.if-not-may_follow.false)
 
-returns-4 : tie.Need-returns-4 invariant-loop decreases-loop
+returns-4 : tie.Need-returns invariant-loop decreases-loop
 returns-4 c = search (rules, digits-end)
 
-pub digits-spec : {M : Type 1} → statement M
-digits-spec =
+pub digits_spec : {M : Type 1} → statement M
+digits_spec =
     tie.close
     (tie.spec
     invariant-loop

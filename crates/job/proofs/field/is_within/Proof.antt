@@ -4,13 +4,13 @@ use Rattle.integer.specs.Within.{within}
 use Rattle.job.proofs.field.is_within.Statement.{statement}
 use Rattle.job.proofs.field.is_within.Tie as tie
 
-returns : tie.Need-returns
+returns : tie.Need-returns-then-x-low
 unfolding within
-returns c = simp (lt-leb _ _ c.if1.true)
+returns c = simp (lt-leb _ _ c.if-x-low.true)
 
-returns-2 : tie.Need-returns-2
+returns-2 : tie.Need-returns-else-x-low
 unfolding within
-returns-2 c = simp (le-leb _ _ c.if1.false)
+returns-2 c = simp (le-leb _ _ c.if-x-low.false)
 
-pub is-within-spec : {M : Type 1} → statement M
-is-within-spec = tie.close (tie.spec returns returns-2)
+pub is_within_spec : {M : Type 1} → statement M
+is_within_spec = tie.close (tie.spec returns returns-2)

@@ -8,24 +8,24 @@ use Rattle.job.proofs.Flags.{denied, granted}
 use Rattle.job.proofs.field.number.Statement.{statement}
 use Rattle.job.proofs.field.number.Tie as tie
 
-returns : tie.Need-returns
+returns : tie.Need-returns-then-text-at
 returns c = search (rules, field_end)
 
-returns-2 : tie.Need-returns-2
+returns-2 : tie.Need-returns-then-not-is_within
 returns-2 c = search (rules, field-bad, denied)
 
-sub-digits : tie.Need-overflow-sub-digits
-sub-digits c = omega (arith, is_within 48 57 _ (granted _ _ c.before.is_within.ensures c.if2.false))
+sub-digits : tie.Need-overflow_sub-first
+sub-digits c = omega (arith, is_within 48 57 _ (granted _ _ c.before.is_within.ensures c.if-not-is_within.false))
 
-returns-3 : tie.Need-returns-3
+returns-3 : tie.Need-returns
 returns-3 c =
     let f = c.before.before in
     let w = f.before in
     c.digits.ensures
-    ∙ field-more _ _ w.before.before.if1.false _ w.wide.ensures (granted _ _ f.is_within.ensures c.before.if2.false)
+    ∙ field-more _ _ w.before.before.if-text-at.false _ w.wide-first.ensures (granted _ _ f.is_within.ensures c.before.if-not-is_within.false)
 
-pub number-spec : {M : Type 1} → statement M
-number-spec =
+pub number_spec : {M : Type 1} → statement M
+number_spec =
     tie.close
     (tie.spec
     returns

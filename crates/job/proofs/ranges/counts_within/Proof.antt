@@ -9,23 +9,23 @@ use Rattle.job.proofs.Lines.{all_end, all-over, all_more}
 use Rattle.job.proofs.ranges.counts_within.Statement.{statement}
 use Rattle.job.proofs.ranges.counts_within.Tie as tie
 
-abbrev invariant-loop : tie.invariant-loop
+abbrev invariant-loop : tie.invariant-loop-i
 invariant-loop n numbers i₀ i = (i ≤ n + 1) × (all_within 0 65535 (slice 1 (n + 1) numbers) ≡ all_within 0 65535 (slice i (n + 1) numbers))
 
-abbrev decreases-loop : tie.decreases-loop
+abbrev decreases-loop : tie.decreases-loop-i
 decreases-loop n numbers i₀ i = n + 1 - i
 
-returns : tie.Need-returns invariant-loop decreases-loop
+returns : tie.Need-returns-then-not-is_within invariant-loop decreases-loop
 returns c = search (rules, all-over, denied)
 
-loop-again : tie.Need-loop-preserved invariant-loop decreases-loop
+loop-again : tie.Need-loop-i-preserved invariant-loop decreases-loop
 loop-again c = (search rules, search (rules, all_more, granted))
 
-returns-2 : tie.Need-returns-2 invariant-loop decreases-loop
+returns-2 : tie.Need-returns invariant-loop decreases-loop
 returns-2 c = search (rules, all_end)
 
-pub counts-within-spec : {M : Type 1} → statement M
-counts-within-spec =
+pub counts_within_spec : {M : Type 1} → statement M
+counts_within_spec =
     tie.close
     (tie.spec
     invariant-loop

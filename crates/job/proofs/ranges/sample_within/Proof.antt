@@ -5,17 +5,17 @@ use Rattle.job.specs.inner.LineScan.{sample_within}
 use Rattle.job.proofs.ranges.sample_within.Statement.{statement}
 use Rattle.job.proofs.ranges.sample_within.Tie as tie
 
-returns : tie.Need-returns
+returns : tie.Need-returns-then-not-is_within
 unfolding sample_within
-returns c = simp (denied _ _ c.before.is_within.ensures c.if1.taken)
+returns c = simp (denied _ _ c.before.is_within.ensures c.if-not-is_within.taken)
 
-returns-2 : tie.Need-returns-2
+returns-2 : tie.Need-returns
 unfolding sample_within
 returns-2 c =
     let w = c.before.before in
-    simp (granted _ _ w.is_within.ensures c.before.if1.left) c.counts-within.ensures
+    simp (granted _ _ w.is_within.ensures c.before.if-not-is_within.left) c.counts_within.ensures
 
-pub sample-within-spec : {M : Type 1} → statement M
-sample-within-spec =
+pub sample_within_spec : {M : Type 1} → statement M
+sample_within_spec =
     tie.close
     (tie.spec (λ c. search rules) (λ c κs. search rules) returns (λ c κs. search rules) returns-2)

@@ -4,15 +4,15 @@ use Rattle.job.specs.inner.Scan.{finished_at, finished_by}
 use Rattle.job.proofs.samples.finish.Statement.{statement}
 use Rattle.job.proofs.samples.finish.Tie as tie
 
-returns : tie.Need-returns
+returns : tie.Need-returns-in-Refused
 unfolding finished_at finished_by
 returns c =
     let f = c.before.before in
-    rw (← f.before.before.last_Line.ensures, f.found.given.1) c.refused.ensures
+    rw (← f.before.before.last_Line.ensures, f.found-1.given.1) c.refused.ensures
 
-returns-2 : tie.Need-returns-2
+returns-2 : tie.Need-returns-in-Accepted
 unfolding finished_at finished_by
-returns-2 c = rw (← c.before.before.last_Line.ensures, c.enum_told.given.1)
+returns-2 c = rw (← c.before.before.last_Line.ensures, c.enum_told-1.given.1)
 
 pub finish_spec : {M : Type 1} → statement M
 finish_spec =

@@ -9,21 +9,21 @@ use Rattle.job.proofs.Keeping.{keep-end, keep-more}
 use Rattle.job.proofs.samples.keep.Statement.{statement}
 use Rattle.job.proofs.samples.keep.Tie as tie
 
-abbrev invariant-loop : tie.invariant-loop
+abbrev invariant-loop : tie.invariant-loop-i
 invariant-loop counts₀ from n numbers to₀ i₀ counts to i =
     (to + 1 ≡ from + i) × (i ≤ n + 1) × (length numbers ≡ 9)
     × (sets counts₀ from (slice 1 (n + 1) numbers) ≡ sets counts to (slice i (n + 1) numbers))
 
-abbrev decreases-loop : tie.decreases-loop
+abbrev decreases-loop : tie.decreases-loop-i
 decreases-loop counts₀ from n numbers to₀ i₀ counts to i = n + 1 - i
 
-loop-again : tie.Need-loop-preserved invariant-loop decreases-loop
+loop-again : tie.Need-loop-i-preserved invariant-loop decreases-loop
 loop-again c =
-    let v = c.before.loop.invariant in (
+    let v = c.before.loop-i.invariant in (
       omega arith,
       omega arith,
       v.2,
-      keep-more _ _ _ _ _ _ v.3 v.2 c.before.before.requires.0 c.loop-test.true,
+      keep-more _ _ _ _ _ _ v.3 v.2 c.before.before.requires.0 c.loop-i-test.true,
     )
 
 returns : tie.Need-returns invariant-loop decreases-loop

@@ -10,56 +10,56 @@ use Rattle.job.proofs.Keeping.{kept-within, samples-end, samples-beyond, samples
 use Rattle.job.proofs.samples.samples.Statement.{statement}
 use Rattle.job.proofs.samples.samples.Tie as tie
 
-abbrev invariant-loop : tie.invariant-loop
+abbrev invariant-loop : tie.invariant-loop-next
 invariant-loop text from job₀ at₀ job at =
     (job.k ≤ 256)
     × (job.n ≤ 8)
     × (length job.dilutions ≡ 256)
     × (samples_at (257 - job₀.k) text from job₀ ≡ samples_at (257 - job.k) text at job)
 
-abbrev decreases-loop : tie.decreases-loop
+abbrev decreases-loop : tie.decreases-loop-next
 decreases-loop text from job₀ at₀ job at = 257 - job.k
 
-returns : tie.Need-returns invariant-loop decreases-loop
+returns : tie.Need-returns-in_default invariant-loop decreases-loop
 returns c =
     let t = c.before in
     let l = t.before.before.before in
-    let v = l.before.loop.invariant in
-    c.finish.ensures ∙ samples-end _ _ _ _ v.3 v.0 _ l.sample-line.ensures t.enum_told.given.1
+    let v = l.before.loop-next.invariant in
+    c.finish.ensures ∙ samples-end _ _ _ _ v.3 v.0 _ l.sample_line-line.ensures t.enum_told-1.given.1
 
-returns-2 : tie.Need-returns-2 invariant-loop decreases-loop
+returns-2 : tie.Need-returns-then-not-sample_within invariant-loop decreases-loop
 returns-2 c =
     let i = c.before in
     let w = i.before in
     let e = w.before.before in
     let l = e.before.before.before in
-    let v = l.before.loop.invariant in
+    let v = l.before.loop-next.invariant in
     c.refused.ensures
-    ∙ samples-beyond _ _ _ _ v.3 v.0 _ l.sample-line.ensures _ e.extent.given.1
-    (denied _ _ w.sample-within.ensures i.if1.true)
+    ∙ samples-beyond _ _ _ _ v.3 v.0 _ l.sample_line-line.ensures _ e.extent-1.given.1
+    (denied _ _ w.sample_within.ensures i.if-not-sample_within.true)
 
-returns-3 : tie.Need-returns-3 invariant-loop decreases-loop
+returns-3 : tie.Need-returns-then-k-ge-MOST_SAMPLES invariant-loop decreases-loop
 returns-3 c =
     let i = c.before.before in
     let w = i.before in
     let e = w.before.before in
     let l = e.before.before.before in
-    let v = l.before.loop.invariant in
-    c.refused2.ensures
-    ∙ samples-full _ _ _ _ v.3 v.0 _ l.sample-line.ensures _ e.extent.given.1
-    (granted _ _ w.sample-within.ensures i.if1.false) c.before.if2.true
+    let v = l.before.loop-next.invariant in
+    c.refused-then-k-ge-MOST_SAMPLES.ensures
+    ∙ samples-full _ _ _ _ v.3 v.0 _ l.sample_line-line.ensures _ e.extent-1.given.1
+    (granted _ _ w.sample_within.ensures i.if-not-sample_within.false) c.before.if-k-ge-MOST_SAMPLES.true
 
 keep-requires : tie.Need-keep-requires invariant-loop decreases-loop
 keep-requires c κs =
-    let v = c.before.before.before.before.before.before.before.before.before.loop.invariant in
-    (v.1, kept-within _ _ c.before.if2.false v.1)
+    let v = c.before.before.before.before.before.before.before.before.before.loop-next.invariant in
+    (v.1, kept-within _ _ c.before.if-k-ge-MOST_SAMPLES.false v.1)
 
-mul-keep : tie.Need-overflow-mul-keep invariant-loop decreases-loop
+mul-keep : tie.Need-overflow_mul-k invariant-loop decreases-loop
 mul-keep c =
-    let v = c.before.before.before.before.before.before.before.before.before.loop.invariant in
-    omega (arith, kept-within _ _ c.before.if2.false v.1)
+    let v = c.before.before.before.before.before.before.before.before.before.loop-next.invariant in
+    omega (arith, kept-within _ _ c.before.if-k-ge-MOST_SAMPLES.false v.1)
 
-loop-again : tie.Need-loop-preserved invariant-loop decreases-loop
+loop-again : tie.Need-loop-next-preserved invariant-loop decreases-loop
 unfolding kept
 loop-again c =
     let j = c.before.before in
@@ -67,17 +67,17 @@ loop-again c =
     let w = i.before in
     let e = w.before.before in
     let l = e.before.before.before in
-    let v = l.before.loop.invariant in (
+    let v = l.before.loop-next.invariant in (
       omega arith,
       v.1,
       search rules,
-      samples-more _ _ _ _ v.3 v.0 _ l.sample-line.ensures _ e.extent.given.1
-          (granted _ _ w.sample-within.ensures i.if1.false) j.if2.false
+      samples-more _ _ _ _ v.3 v.0 _ l.sample_line-line.ensures _ e.extent-1.given.1
+          (granted _ _ w.sample_within.ensures i.if-not-sample_within.false) j.if-k-ge-MOST_SAMPLES.false
           ∙ rw c.keep.ensures refl,
     )
 
-pub samples-spec : {M : Type 1} → statement M
-samples-spec =
+pub samples_spec : {M : Type 1} → statement M
+samples_spec =
     tie.close
     (tie.spec
     invariant-loop

@@ -19,32 +19,32 @@ use Rattle.scatter.specs.laws.Shift.{largest-bounds, largest-is}
 use Rattle.scatter.proofs.table.largest_of.Statement.{statement}
 use Rattle.scatter.proofs.table.largest_of.Tie as tie
 
-abbrev invariant-loop : tie.invariant-loop
+abbrev invariant-loop : tie.invariant-loop-p
 invariant-loop s size m₀ p₀ m p = (p ≤ size) × (m ≤ largest s) × ((q : ℕ) → q < p → nat_abs (get_or s q (pos 0)) ≤ m)
 
-abbrev decreases-loop : tie.decreases-loop
+abbrev decreases-loop : tie.decreases-loop-p
 decreases-loop s size m₀ p₀ m p = size - p
 
-loop-holds : tie.Need-loop-init invariant-loop decreases-loop
+loop-holds : tie.Need-loop-p-init invariant-loop decreases-loop
 loop-holds c = (search rules, search rules, λ q h. absurd (omega arith))
 
 -- Where the arms meet: m is at least what it was and the size that was read, and at most the greatest.
-met : (c : tie.Joined1 invariant-loop decreases-loop) →
-    (c.before.before.before.before.loop.m ≤ c.if1.m) ×
-    (nat_abs (get_or c.before.before.before.before.before.args.s.now c.before.before.before.before.loop.p (pos 0)) ≤ c.if1.m) ×
-    (c.if1.m ≤ largest c.before.before.before.before.before.args.s.now)
+met : (c : tie.Joined-m-a invariant-loop decreases-loop) →
+    (c.before.before.before.before.loop-p.m ≤ c.if-m-a.m) ×
+    (nat_abs (get_or c.before.before.before.before.before.args.s.now c.before.before.before.before.loop-p.p (pos 0)) ≤ c.if-m-a.m) ×
+    (c.if-m-a.m ≤ largest c.before.before.before.before.before.args.s.now)
 met c =
     let s = c.before.before.before.before.before.args.s.now in
-    let p = c.before.before.before.before.loop.p in
+    let p = c.before.before.before.before.loop-p.p in
     let f : SFits w64 (get_or s p (pos 0)) = search rules in
-    let a : c.before.magnitude.result ≡ nat_abs (get_or s p (pos 0)) = c.before.magnitude.ensures ∙ ap nat_abs (to_z-of_z f) in
+    let a : c.before.magnitude-a.result ≡ nat_abs (get_or s p (pos 0)) = c.before.magnitude-a.ensures ∙ ap nat_abs (to_z-of_z f) in
     let b : nat_abs (get_or s p (pos 0)) ≤ largest s = largest-bounds s p in
     ⊎_elim (λ w. (omega (arith, w.0.taken, w.1), omega (arith, w.1), omega (arith, w.1)))
-    (λ w. (omega (arith, w.1), omega (arith, w.0.left, w.1), omega (arith, w.1))) c.if1.branch
+    (λ w. (omega (arith, w.1), omega (arith, w.0.left, w.1), omega (arith, w.1))) c.if-m-a.branch
 
-loop-again : tie.Need-loop-preserved invariant-loop decreases-loop
+loop-again : tie.Need-loop-p-preserved invariant-loop decreases-loop
 loop-again c =
-    (search rules, (met c).2, below_more _ _ (λ q h. le_trans (c.before.before.before.before.loop.invariant.2 q h) (met c).0) (met c).1)
+    (search rules, (met c).2, below_more _ _ (λ q h. le_trans (c.before.before.before.before.loop-p.invariant.2 q h) (met c).0) (met c).1)
 
 -- From `size` on there are zeros, and they are above nothing.
 all-sizes : (s : List ℤ) {size m : ℕ} → ZeroFrom size s → ((p : ℕ) → p < size → nat_abs (get_or s p (pos 0)) ≤ m) → (p : ℕ) → p < length s →
@@ -57,12 +57,12 @@ all-sizes s {size} {m} z f p h = by (dec_lt p size)
 
 returns : tie.Need-returns invariant-loop decreases-loop
 returns c =
-    let l = c.before.loop in
+    let l = c.before.loop-p in
     let a = c.before.before in
     largest-is _ _ l.invariant.1 (all-sizes a.args.s.now a.requires (λ p h. l.invariant.2 p (omega arith)))
 
-pub largest-of-spec : {M : Type 1} → statement M
-largest-of-spec =
+pub largest_of_spec : {M : Type 1} → statement M
+largest_of_spec =
     tie.close
     (tie.spec
     invariant-loop

@@ -5,29 +5,29 @@ use Rattle.scatter.proofs.Assembled.{all_small, zero-from, most-small, shift-bel
 use Rattle.scatter.proofs.table.table_of.Statement.{statement}
 use Rattle.scatter.proofs.table.table_of.Tie as tie
 
-mul-size : tie.Need-overflow-mul-size
+mul-size : tie.Need-overflow_mul-size
 mul-size c =
     let a = c.before in
-    record { fits = omega (arith, (zero-from a.args.n a.args.t a.requires.0 a.requires.1 c.scatter-of.ensures).most) }
+    record { fits = omega (arith, (zero-from a.args.n a.args.t a.requires.0 a.requires.1 c.scatter_of-scatter.ensures).most) }
 
-largest-of-requires : tie.Need-largest-of-requires
+largest-of-requires : tie.Need-largest_of-requires
 largest-of-requires c κs =
     let s = c.before in
     let a = s.before in
-    zero-from a.args.n a.args.t a.requires.0 a.requires.1 s.scatter-of.ensures
+    zero-from a.args.n a.args.t a.requires.0 a.requires.1 s.scatter_of-scatter.ensures
 
-shift-of-requires : tie.Need-shift-of-requires
+shift-of-requires : tie.Need-shift_of-e-requires
 shift-of-requires c κs =
     let a = c.before.before.before in
-    most-small a.args.n a.args.t a.requires.0 a.requires.1 c.before.before.scatter-of.ensures c.largest-of.ensures
+    most-small a.args.n a.args.t a.requires.0 a.requires.1 c.before.before.scatter_of-scatter.ensures c.largest_of.ensures
 
-entries-of-requires : tie.Need-entries-of-requires
+entries-of-requires : tie.Need-entries_of-entries-requires
 entries-of-requires c κs =
     let s = c.before.before.before.before in
     let a = s.before in (
-      all_small a.args.n a.args.t a.requires.0 a.requires.1 s.scatter-of.ensures,
-      zero-from a.args.n a.args.t a.requires.0 a.requires.1 s.scatter-of.ensures,
-      shift-below a.args.n a.args.t a.requires.0 a.requires.1 s.scatter-of.ensures c.before.before.largest-of.ensures
+      all_small a.args.n a.args.t a.requires.0 a.requires.1 s.scatter_of-scatter.ensures,
+      zero-from a.args.n a.args.t a.requires.0 a.requires.1 s.scatter_of-scatter.ensures,
+      shift-below a.args.n a.args.t a.requires.0 a.requires.1 s.scatter_of-scatter.ensures c.before.before.largest_of.ensures
           c.before.Shift-of.ensures,
     )
 
@@ -35,10 +35,10 @@ returns : tie.Need-returns
 returns c =
     let s = c.before.before.before.before.before in
     let a = s.before in
-    assembled a.args.n a.args.t a.requires.0 a.requires.1 s.scatter-of.ensures c.before.before.before.largest-of.ensures
+    assembled a.args.n a.args.t a.requires.0 a.requires.1 s.scatter_of-scatter.ensures c.before.before.before.largest_of.ensures
     c.before.before.Shift-of.ensures _
-    c.entries-of.ensures
+    c.entries_of-entries.ensures
 
-pub table-of-spec : {M : Type 1} → statement M
-table-of-spec =
+pub table_of_spec : {M : Type 1} → statement M
+table_of_spec =
     tie.close (tie.spec (λ c κs. search rules) mul-size largest-of-requires shift-of-requires entries-of-requires returns)

@@ -13,39 +13,39 @@ use Rattle.text.specs.laws.Numbers.{numbers_more}
 use Rattle.text.proofs.line.numbers_length.Statement.{statement}
 use Rattle.text.proofs.line.numbers_length.Tie as tie
 
-abbrev invariant-loop : tie.invariant-loop
+abbrev invariant-loop : tie.invariant-loop-i
 invariant-loop values n total₀ i₀ total i = (i ≤ n) × (total ≡ length (numbers (take i values))) × (total ≤ 21 * i)
 
-abbrev decreases-loop : tie.decreases-loop
+abbrev decreases-loop : tie.decreases-loop-i
 decreases-loop values n total₀ i₀ total i = n - i
 
-loop-holds : tie.Need-loop-init invariant-loop decreases-loop
+loop-holds : tie.Need-loop-i-init invariant-loop decreases-loop
 unfolding numbers further
 loop-holds c = (omega arith, refl, omega arith)
 
 -- The length of number i, which is passed by its bits.
-one : (c : tie.After-number-length invariant-loop decreases-loop)
-    → c.number-length.result ≡ length
-    (number (get_or c.before.before.before.before.args.values.now c.before.before.before.loop.i (pos 0)))
-one c = rw (to_z-of_z {w = w64} (record { sfits = c.before.number-length-arg.given })) at c.number-length.ensures.exact
+one : (c : tie.After-number_length invariant-loop decreases-loop)
+    → c.number_length.result ≡ length
+    (number (get_or c.before.before.before.before.args.values.now c.before.before.before.loop-i.i (pos 0)))
+one c = rw (to_z-of_z {w = w64} (record { sfits = c.before.number_length-arg-1.given })) at c.number_length.ensures.exact
 
-add-total-2 : tie.Need-overflow-add-total-2 invariant-loop decreases-loop
+add-total-2 : tie.Need-overflow_add-total-in-loop-i invariant-loop decreases-loop
 add-total-2 c = omega arith
 
-loop-again : tie.Need-loop-preserved invariant-loop decreases-loop
+loop-again : tie.Need-loop-i-preserved invariant-loop decreases-loop
 loop-again c =
     let a = c.before.before.before.before.args in
-    let e = simp length-append at (ap length (numbers_more a.values.now c.before.before.before.loop.i (omega arith))) in
+    let e = simp length-append at (ap length (numbers_more a.values.now c.before.before.before.loop-i.i (omega arith))) in
     (omega arith, omega (arith, one c), omega arith)
 
 returns : tie.Need-returns invariant-loop decreases-loop
 returns c =
-    let v = c.before.loop.invariant in
-    let e : c.before.loop.i ≡ c.before.before.args.n = omega arith in
+    let v = c.before.loop-i.invariant in
+    let e : c.before.loop-i.i ≡ c.before.before.args.n = omega arith in
     record { exact = rw (v.1, e); bounded = omega arith }
 
-pub numbers-length-spec : {M : Type 1} → statement M
-numbers-length-spec =
+pub numbers_length_spec : {M : Type 1} → statement M
+numbers_length_spec =
     tie.close
     (tie.spec
     invariant-loop

@@ -12,26 +12,26 @@ use Rattle.text.proofs.line.put_line.Tie as tie
 sized : (c : tie.Start) → length (numbers (take c.args.n c.args.values.now)) + 2 ≤ length c.args.buf.now
 sized c = rw length-number-line at c.requires.1
 
-put-byte-requires : tie.Need-put-byte-requires
+put-byte-requires : tie.Need-put_byte-at-requires
 put-byte-requires c κs = omega (arith, sized c.before.before)
 
-put-numbers-requires : tie.Need-put-numbers-requires
+put-numbers-requires : tie.Need-put_numbers-at-requires
 put-numbers-requires c κs =
     let tag = c.before.before.before in
     let start = tag.before.before.before in
-    (start.requires.0, omega (arith, sized start, tag.put_byte.ensures.answer, tag.put_byte.auto))
+    (start.requires.0, omega (arith, sized start, tag.put_byte-at.ensures.answer, tag.put_byte-at.auto))
 
-put-byte-requires-2 : tie.Need-put-byte-requires-2
+put-byte-requires-2 : tie.Need-put_byte-requires
 put-byte-requires-2 c κs =
     let values = c.before.before.before in
     let tag = values.before.before.before.before in
     omega (
       arith,
       sized tag.before.before.before,
-      tag.put_byte.ensures.answer,
-      tag.put_byte.auto,
-      values.put-numbers.ensures.answer,
-      values.put-numbers.auto,
+      tag.put_byte-at.ensures.answer,
+      tag.put_byte-at.auto,
+      values.put_numbers-at.ensures.answer,
+      values.put_numbers-at.auto,
     )
 
 returns : tie.Need-returns
@@ -39,9 +39,9 @@ returns c =
     let feed = c.before.before in
     let values = feed.before.before.before.before in
     let tag = values.before.before.before.before in
-    rw number-line (put_then (put_then tag.put_byte.ensures values.put-numbers.ensures) feed.put-byte2.ensures)
+    rw number-line (put_then (put_then tag.put_byte-at.ensures values.put_numbers-at.ensures) feed.put_byte.ensures)
 
-pub put-line-spec : {M : Type 1} → statement M
-put-line-spec =
+pub put_line_spec : {M : Type 1} → statement M
+put_line_spec =
     tie.close
     (tie.spec put-byte-requires put-numbers-requires put-byte-requires-2 (λ c. search rules) returns)

@@ -12,38 +12,38 @@ use Rattle.text.specs.Rows.{row_line}
 use Rattle.text.proofs.rows.rows_length.Statement.{statement}
 use Rattle.text.proofs.rows.rows_length.Tie as tie
 
-abbrev invariant-loop : tie.invariant-loop
+abbrev invariant-loop : tie.invariant-loop-i
 invariant-loop rows n width total₀ i₀ total i =
     (i ≤ n) × ((tag : ℕ) → total ≡ length (lines (row_line tag width rows) i)) × (total ≤ 233 * i)
 
-abbrev decreases-loop : tie.decreases-loop
+abbrev decreases-loop : tie.decreases-loop-i
 decreases-loop rows n width total₀ i₀ total i = n - i
 
-wide : (c : tie.After-row2 invariant-loop decreases-loop) →
-    length (get_or c.before.before.before.before.args.rows.now c.before.before.before.loop.i []) ≡ 11
+wide : (c : tie.After-row-in-loop-i-1 invariant-loop decreases-loop) →
+    length (get_or c.before.before.before.before.args.rows.now c.before.before.before.loop-i.i []) ≡ 11
 wide c =
     let start = c.before.before.before.before in
-    start.requires.2.wide c.before.before.before.loop.i (omega (arith, start.requires.0, c.before.before.loop-test.true))
+    start.requires.2.wide c.before.before.before.loop-i.i (omega (arith, start.requires.0, c.before.before.loop-i-test.true))
 
 -- The numbers of a line have at most 231 bytes.
-few : (c : tie.After-numbers-length invariant-loop decreases-loop) → c.numbers-length.result ≤ 231
-few c = omega (arith, c.numbers-length.ensures.bounded, c.before.before.before.before.before.requires.1)
+few : (c : tie.After-numbers_length invariant-loop decreases-loop) → c.numbers_length.result ≤ 231
+few c = omega (arith, c.numbers_length.ensures.bounded, c.before.before.before.before.before.requires.1)
 
-loop-again : tie.Need-loop-preserved invariant-loop decreases-loop
+loop-again : tie.Need-loop-i-preserved invariant-loop decreases-loop
 loop-again c =
-    let loop = c.before.before.before.before.loop in (
-      omega (arith, c.before.before.before.loop-test.true),
-      λ tag. rw (lines-length (row_line tag _ _) loop.i, length-number-line) (omega (arith, loop.invariant.1 tag, c.numbers-length.ensures.exact)),
+    let loop = c.before.before.before.before.loop-i in (
+      omega (arith, c.before.before.before.loop-i-test.true),
+      λ tag. rw (lines-length (row_line tag _ _) loop.i, length-number-line) (omega (arith, loop.invariant.1 tag, c.numbers_length.ensures.exact)),
       omega (arith, loop.invariant.2, few c),
     )
 
 returns : tie.Need-returns invariant-loop decreases-loop
 returns c =
-    let e : c.before.loop.i ≡ c.before.before.args.n = omega arith in
-    record { exact = λ tag. rw e at (c.before.loop.invariant.1 tag); bounded = omega (arith, c.before.loop.invariant.2) }
+    let e : c.before.loop-i.i ≡ c.before.before.args.n = omega arith in
+    record { exact = λ tag. rw e at (c.before.loop-i.invariant.1 tag); bounded = omega (arith, c.before.loop-i.invariant.2) }
 
-pub rows-length-spec : {M : Type 1} → statement M
-rows-length-spec =
+pub rows_length_spec : {M : Type 1} → statement M
+rows_length_spec =
     tie.close
     (tie.spec
     invariant-loop
@@ -53,8 +53,8 @@ rows-length-spec =
     (λ c. search rules)
     (λ c. sym (wide c))
     (λ c κs. let w = c.before.before.before.before.requires.1 in (omega (arith, w, wide c), omega (arith, w)))
-    (λ c. record { fits = omega (arith, c.before.before.before.before.loop.invariant.2, few c) })
-    (λ c. record { fits = omega (arith, c.before.before.before.before.loop.invariant.2, few c) })
+    (λ c. record { fits = omega (arith, c.before.before.before.before.loop-i.invariant.2, few c) })
+    (λ c. record { fits = omega (arith, c.before.before.before.before.loop-i.invariant.2, few c) })
     (λ c. search rules)
     (λ c. search rules)
     loop-again
