@@ -4,7 +4,7 @@ ghost use Rattle.turn.specs.Rotation.{first, rotation_of};
 ghost use Rattle.turn.specs.inner.Rotation.{inverse};
 
 // c, s and N of a turn.
-#[derive(Drop)]
+#[derive(Clone, Copy)]
 pub struct Rotation {
     pub c: i64,
     pub s: i64,

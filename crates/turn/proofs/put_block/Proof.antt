@@ -11,8 +11,8 @@ returns c =
     rw (to_z-of_z c.ranges.pp, to_z-of_z c.ranges.pq, to_z-of_z c.ranges.qq)
     (block a.p a.q a.a.now c.requires.0 c.requires.1 a.pp a.pq a.qq c.requires.2)
 
-pub put-block-spec : {M : Type 1} → statement M
-put-block-spec =
+pub put_block_spec : {M : Type 1} → statement M
+put_block_spec =
     tie.close
     (tie.spec
     (λ c. search rules)

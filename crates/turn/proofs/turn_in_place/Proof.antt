@@ -8,10 +8,10 @@ use Rattle.turn.proofs.Whole.{cross, matrix, pass}
 use Rattle.turn.proofs.turn_in_place.Statement.{statement}
 use Rattle.turn.proofs.turn_in_place.Tie as tie
 
-turn-block-requires : tie.Need-turn-block-requires
+turn-block-requires : tie.Need-turn_block-requires
 turn-block-requires c κs =
     let s = c.before.before.before in
-    let rows = c.before.turn-axes.ensures in (
+    let rows = c.before.turn_axes.ensures in (
       search rules,
       omega arith,
       search rules,
@@ -23,8 +23,8 @@ turn-block-requires c κs =
 mirror-requires : tie.Need-mirror-requires
 mirror-requires c κs =
     let s = c.before.before.before.before.before in
-    let rows = c.before.before.before.turn-axes.ensures in
-    let block = c.before.turn-block.ensures in (
+    let rows = c.before.before.before.turn_axes.ensures in
+    let block = c.before.turn_block.ensures in (
       search rules,
       search rules,
       search rules,
@@ -35,10 +35,10 @@ mirror-requires c κs =
 returns : tie.Need-returns
 returns c =
     let s = c.before.before.before.before.before.before in
-    let rows = c.before.before.before.before.turn-axes.ensures in
-    let block = c.before.before.turn-block.ensures in
+    let rows = c.before.before.before.before.turn_axes.ensures in
+    let block = c.before.before.turn_block.ensures in
     (rw (block, rows) at c.mirror.ensures) ∙
     matrix s.args.n s.args.r s.args.p s.args.q s.args.a.now s.requires.0 s.requires.1 s.requires.2 s.requires.5
 
-pub turn-in-place-spec : {M : Type 1} → statement M
-turn-in-place-spec = tie.close (tie.spec (λ c κs. search rules) turn-block-requires mirror-requires returns)
+pub turn_in_place_spec : {M : Type 1} → statement M
+turn_in_place_spec = tie.close (tie.spec (λ c κs. search rules) turn-block-requires mirror-requires returns)

@@ -2,7 +2,7 @@
 use Rattle.std.specs.Prelude.{ℕ, ◌+◌, ◌*◌, ◌<◌, ◌≤◌, ℤ, pos, nat_abs, ◌-ℤ◌, ◌*ℤ◌}
 use Rattle.std.proofs.Common.{mul-le-mul, arith}
 use Rattle.std.proofs.Math.Nat.{le_of_mul-le-mul_left}
-use Rattle.std.proofs.Math.IntN.{-ℤ-+ℤ_cancel}
+use Rattle.std.proofs.Math.IntN
 use Rattle.integer.specs.laws.Laws.{nat_abs-+ℤ, nat_abs-*ℤ}
 use Rattle.integer.specs.Matrix.{Matrix}
 use Rattle.integer.specs.Square.{sq}
@@ -29,7 +29,7 @@ within K x y z o error half = le_of_mul-le-mul_left {k = K} (omega (arith, trian
     error-size = le-of-squares (4 * E) (5 * K) (omega arith)
 
     triangle : K * nat_abs y ≤ E + nat_abs z
-    triangle = rw (-ℤ-+ℤ_cancel (pos K *ℤ y) z, nat_abs-*ℤ (pos K) y) at (nat_abs-+ℤ (pos K *ℤ y -ℤ z) z)
+    triangle = rw (IntN.-ℤ-+ℤ_cancel (pos K *ℤ y) z, nat_abs-*ℤ (pos K) y) at (nat_abs-+ℤ (pos K *ℤ y -ℤ z) z)
 
 pub gains : Turns-gain
 gains n p q o m a h l minus e = record {

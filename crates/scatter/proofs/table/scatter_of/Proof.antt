@@ -38,8 +38,8 @@ difference-requires c κs =
     let a = c.before.before.before.before.before.before.before.before in
     let i = c.before.before.before.before.before.before.before.loop-i.i in
     let j = c.before.before.before.before.before.loop-j.j in (
-      omega (arith, number-times-cross a.args.t2 a.requires.1 c.before.before.before.place_of-place.result),
-      omega (arith, channel-times-channel a.args.t2 a.requires.1 i j),
+      omega (arith, number-times-cross a.args.t a.requires.1 c.before.before.before.place_of-place.result),
+      omega (arith, channel-times-channel a.args.t a.requires.1 i j),
     )
 
 -- a place of the table
@@ -57,7 +57,7 @@ loop2-again c =
       search rules,
       omega arith,
       filled_more l.invariant.2 l.at (l.at + 1) _ refl (omega arith) (omega (arith, room t, l.invariant.2.size))
-          (S-stored a.args.n a.args.t2 a.requires.1 _ _ t.before.before.loop-i-test.true t.loop-j-test.true _ _ _
+          (S-stored a.args.n a.args.t a.requires.1 _ _ t.before.before.loop-i-test.true t.loop-j-test.true _ _ _
           c.difference.ensures c.before.before.before.before.place_of-place.ensures l.invariant.1),
     )
 
@@ -73,7 +73,7 @@ returns : tie.Need-returns invariant-loop2 decreases-loop2 invariant-loop decrea
 returns c =
     let a = c.before.before in
     let l = c.before.loop-i in
-    all-rows a.args.n a.args.t2 l.i l.at a.requires.0 l.invariant.2 l.invariant.1 (omega arith)
+    all-rows a.args.n a.args.t l.i l.at a.requires.0 l.invariant.2 l.invariant.1 (omega arith)
 
 pub scatter_of_spec : {M : Type 1} → statement M
 scatter_of_spec =

@@ -28,7 +28,7 @@ entries-of-requires c κs =
       all_small a.args.n a.args.t a.requires.0 a.requires.1 s.scatter_of-scatter.ensures,
       zero-from a.args.n a.args.t a.requires.0 a.requires.1 s.scatter_of-scatter.ensures,
       shift-below a.args.n a.args.t a.requires.0 a.requires.1 s.scatter_of-scatter.ensures c.before.before.largest_of.ensures
-          c.before.Shift-of.ensures,
+          c.before.shift_of-e.ensures,
     )
 
 returns : tie.Need-returns
@@ -36,7 +36,7 @@ returns c =
     let s = c.before.before.before.before.before in
     let a = s.before in
     assembled a.args.n a.args.t a.requires.0 a.requires.1 s.scatter_of-scatter.ensures c.before.before.before.largest_of.ensures
-    c.before.before.Shift-of.ensures _
+    c.before.before.shift_of-e.ensures _
     c.entries_of-entries.ensures
 
 pub table_of_spec : {M : Type 1} → statement M

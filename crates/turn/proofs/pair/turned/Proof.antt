@@ -9,7 +9,7 @@ use Rattle.turn.proofs.Combination.{Words, product, product-held, sum, sum-held,
 use Rattle.turn.proofs.pair.turned.Statement.{statement}
 use Rattle.turn.proofs.pair.turned.Tie as tie
 
-words : (c : tie.After-struct-told2) → (let a = c.before.before.before.before.args in Words a.r.c a.x a.r.s a.y)
+words : (c : tie.After-struct_told-2-1) → (let a = c.before.before.before.before.args in Words a.r.c a.x a.r.s a.y)
 words c =
     record {
       a-held = search rules;
@@ -19,17 +19,17 @@ words c =
       room = omega arith;
     }
 
-mul-nearest : tie.Need-overflow-mul-nearest
+mul-nearest : tie.Need-overflow_mul-r
 mul-nearest c =
     let a = c.before.before.args in
     rw (product a.r.c a.x (search rules) (search rules)) (product-held a.r.c a.x (omega arith))
 
-mul-nearest-2 : tie.Need-overflow-mul-nearest-2
+mul-nearest-2 : tie.Need-overflow_mul-r-2
 mul-nearest-2 c =
     let a = c.before.before.before.before.args in
     rw (product a.r.s a.y (words c).b-held (words c).y-held) (product-held a.r.s a.y (omega arith))
 
-add-nearest : tie.Need-overflow-add-nearest
+add-nearest : tie.Need-overflow_add-r
 add-nearest c = rw (sum _ _ _ _ (words c)) (sum-held _ _ _ _ (words c))
 
 nearest-requires : tie.Need-nearest-requires
@@ -52,5 +52,5 @@ returns c =
       to_z-of_z (sum-held _ _ _ _ (words c.before)),
     )
 
-pub turned-spec : {M : Type 1} → statement M
-turned-spec = tie.close (tie.spec mul-nearest mul-nearest-2 add-nearest nearest-requires returns)
+pub turned_spec : {M : Type 1} → statement M
+turned_spec = tie.close (tie.spec mul-nearest mul-nearest-2 add-nearest nearest-requires returns)

@@ -8,7 +8,7 @@ use Rattle.turn.specs.inner.Rotation.{inverse}
 use Rattle.turn.proofs.pair.Rotation.inverse.Statement.{statement}
 use Rattle.turn.proofs.pair.Rotation.inverse.Tie as tie
 
-sub-t2 : tie.Need-overflow-sub-t2
+sub-t2 : tie.Need-overflow_sub-result
 sub-t2 c =
     rw (to_z-of_z (held c.before.before.args.self.s c.before.before.requires))
     (negated-held c.before.before.args.self.s c.before.before.requires)
@@ -23,5 +23,5 @@ returns c =
       to_z-of_z f,
     )
 
-pub inverse-spec : {M : Type 1} → statement M
-inverse-spec = tie.close (tie.spec sub-t2 returns)
+pub inverse_spec : {M : Type 1} → statement M
+inverse_spec = tie.close (tie.spec sub-t2 returns)

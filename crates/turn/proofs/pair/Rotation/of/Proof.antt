@@ -15,19 +15,19 @@ use Rattle.turn.proofs.pair.Rotation.of.Tie as tie
 cosine-held : (l : ℕ) → l ≤ 14 → SFits w64 (pos (4 ^ l) -ℤ pos 1)
 cosine-held l h = difference-held (4 ^ l) 1 (omega (arith, power_small l h)) (omega arith)
 
-cast-t6 : tie.Need-overflow-cast-t6
+cast-t6 : tie.Need-overflow_cast-result
 cast-t6 c = rw (power c.args.l c.requires.1) (held (pos _) (omega (arith, power_small c.args.l c.requires.1)))
 
-sub-t7 : tie.Need-overflow-sub-t7
+sub-t7 : tie.Need-overflow_sub-result
 sub-t7 c =
     let p : 4 ^ c.args.l < 2 ^ 63 = omega (arith, power_small c.args.l c.requires.1) in
     rw (power c.args.l c.requires.1, to_z_pos w64 p) (cosine-held c.args.l c.requires.1)
 
-with-sign-requires : tie.Need-with-sign-requires
+with-sign-requires : tie.Need-with_sign-requires
 with-sign-requires c κs =
     rw (sine c.args.l c.requires.1) (omega (arith, sine-small c.args.l c.requires.1))
 
-add-t10 : tie.Need-overflow-add-t10
+add-t10 : tie.Need-overflow_add-result
 add-t10 c =
     rw (power c.before.args.l c.before.requires.1)
     (record { fits = omega (arith, power_small c.before.args.l c.before.requires.1) })
@@ -37,9 +37,9 @@ unfolding rotation_of
 returns c =
     let l = c.before.args.l in
     let h : l ≤ 14 = c.before.requires.1 in
-    let f : SFits w64 c.with-sign.result = search rules in
+    let f : SFits w64 c.with_sign.result = search rules in
     let p : 4 ^ l < 2 ^ 63 = omega (arith, power_small l h) in
-    rw (power l h, to_z_pos w64 p, to_z-of_z (cosine-held l h), to_z-of_z f, c.with-sign.ensures, sine l h)
+    rw (power l h, to_z_pos w64 p, to_z-of_z (cosine-held l h), to_z-of_z f, c.with_sign.ensures, sine l h)
 
 pub of_spec : {M : Type 1} → statement M
 of_spec =
