@@ -1,7 +1,7 @@
 // The order of a sweep's pairs. Everything else of this crate is theory, in specs/.
 #![tactic(auto)]
 
-#[derive(Drop)]
+#[derive(Clone, Copy)]
 pub enum Order {
     Cyclic,
     Tournament,

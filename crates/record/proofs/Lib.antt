@@ -4,14 +4,9 @@ mod Checks
 pub mod Filled
 pub mod Search
 pub mod FlatFilled
-mod Handed
-mod LentCall
-mod LentContract
-pub mod Outcome
+pub mod EndOfRun
 pub mod Orders
 mod Rounds
-mod Parameters
-mod Steps
 pub mod Sweeping
 mod Worked
 mod Going

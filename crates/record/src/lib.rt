@@ -27,27 +27,27 @@ pub use run::{Outcome, Run};
 use solver::{Solver, SolverStep};
 
 // The state that holds the matrix, and the refused calls of bench 1, 2, 3 and 4.
-#[derive(Drop)]
+#[derive(Clone, Copy)]
 pub struct Record {
     solver: Solver,
     refused: [u32; 4],
 }
 
 // A call's answer, and the record that it leaves.
-#[derive(Drop)]
+#[derive(Clone, Copy)]
 pub struct Step {
     pub answer: Answer,
     pub next: Record,
 }
 
 // The answer of an axis call, with row i of v; the row of a refused call is 0.
-#[derive(Drop)]
+#[derive(Clone, Copy)]
 pub struct AxisAnswer {
     pub value: Answer,
     pub row: [i64; 8],
 }
 
-#[derive(Drop)]
+#[derive(Clone, Copy)]
 pub struct AxisStep {
     pub answer: AxisAnswer,
     pub next: Record,

@@ -13,7 +13,7 @@ ghost use Rattle.record.specs.Record.{is_refused};
 use crate::Record;
 
 // What a call answers.
-#[derive(Drop)]
+#[derive(Clone, Copy)]
 pub enum Answer {
     Loaded,
     SamplesLoaded(u32),

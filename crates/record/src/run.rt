@@ -14,7 +14,7 @@ use ledger::Order;
 pub const OWN_BENCH: usize = 1;
 
 // How a run ends.
-#[derive(Drop)]
+#[derive(Clone, Copy)]
 pub enum Outcome {
     Settled,
     Still,
@@ -22,7 +22,7 @@ pub enum Outcome {
 }
 
 // A run: its outcome, how many sweeps were run, and the record as they leave it.
-#[derive(Drop)]
+#[derive(Clone, Copy)]
 pub struct Run {
     pub outcome: Outcome,
     pub sweeps: u64,
@@ -30,7 +30,7 @@ pub struct Run {
 }
 
 // The same of rows: m as the sweeps leave it, in place of the record.
-#[derive(Drop)]
+#[derive(Clone, Copy)]
 pub struct Ended {
     pub outcome: Outcome,
     pub sweeps: u64,

@@ -15,7 +15,7 @@ use ledger::Order;
 
 // Channels n, 0 where there is no matrix; turns made m; the shift e of a table made from readings, else 0; the kept matrix and axes, row after
 // row, 8 to a row.
-#[derive(Drop)]
+#[derive(Clone, Copy)]
 pub struct Solver {
     n: usize,
     m: u64,
@@ -25,14 +25,14 @@ pub struct Solver {
 }
 
 // A call's answer, and the state that it leaves.
-#[derive(Drop)]
+#[derive(Clone, Copy)]
 pub struct SolverStep {
     pub answer: Answer,
     pub next: Solver,
 }
 
 // The end of a run: its outcome, how many sweeps were run, and the state as they leave it.
-#[derive(Drop)]
+#[derive(Clone, Copy)]
 pub struct SolverRun {
     pub outcome: Outcome,
     pub sweeps: u64,

@@ -96,7 +96,7 @@ pub(crate) fn work_pair(
 }
 
 // A pair p < q, in rows and columns from 0.
-#[derive(Drop)]
+#[derive(Clone, Copy)]
 pub struct Place {
     pub p: usize,
     pub q: usize,

@@ -5,7 +5,7 @@ use Rattle.record.proofs.answered.Statement.{statement}
 use Rattle.record.proofs.answered.Tie as tie
 
 returns : tie.Need-returns
-returns c = (refl, rw c.counts-after.ensures)
+returns c = (refl, rw c.counts_after-refused.ensures)
 
-pub answered-spec : {M : Type 1} → statement M
-answered-spec = tie.close (tie.spec (λ c κs. search rules) returns)
+pub answered_spec : {M : Type 1} → statement M
+answered_spec = tie.close (tie.spec (λ c κs. search rules) returns)

@@ -5,13 +5,13 @@ use Rattle.record.specs.inner.Named.{counts_left}
 use Rattle.record.proofs.counts_after.Statement.{statement}
 use Rattle.record.proofs.counts_after.Tie as tie
 
-returns : tie.Need-returns
+returns : tie.Need-returns-then-is_refused
 unfolding counts_left
-returns c = c.raise.ensures ∙ rw (sym c.before.before.is-refused.ensures ∙ c.before.if1.true)
+returns c = c.raise.ensures ∙ rw (sym c.is_refused.ensures ∙ c.if-is_refused.true)
 
-returns-2 : tie.Need-returns-2
+returns-2 : tie.Need-returns
 unfolding counts_left
-returns-2 c = rw (sym c.before.is-refused.ensures ∙ c.if1.false)
+returns-2 c = rw (sym c.is_refused.ensures ∙ c.if-is_refused.false)
 
-pub counts-after-spec : {M : Type 1} → statement M
-counts-after-spec = tie.close (tie.spec (λ c κs. search rules) (λ c κs. c.before.before.requires) returns returns-2)
+pub counts_after_spec : {M : Type 1} → statement M
+counts_after_spec = tie.close (tie.spec (λ c κs. search rules) (λ c κs. c.requires) returns returns-2)

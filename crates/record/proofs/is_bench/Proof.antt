@@ -5,13 +5,13 @@ use Rattle.ledger.specs.Bench.{is_bench}
 use Rattle.record.proofs.is_bench.Statement.{statement}
 use Rattle.record.proofs.is_bench.Tie as tie
 
-returns : tie.Need-returns
+returns : tie.Need-returns-then-bench-lt1
 unfolding is_bench within
-returns c = rw (lt-leb 1 _ c.if1.true)
+returns c = rw (lt-leb 1 _ c.if-bench-lt1.true)
 
-returns-2 : tie.Need-returns-2
+returns-2 : tie.Need-returns
 unfolding is_bench within
-returns-2 c = rw (le-leb 1 _ c.if1.false)
+returns-2 c = rw (le-leb 1 _ c.if-bench-lt1.false)
 
-pub is-bench-spec : {M : Type 1} → statement M
-is-bench-spec = tie.close (tie.spec returns returns-2)
+pub is_bench_spec : {M : Type 1} → statement M
+is_bench_spec = tie.close (tie.spec returns returns-2)

@@ -5,13 +5,13 @@ use Rattle.record.specs.Record.{counted}
 use Rattle.record.proofs.one_more.Statement.{statement}
 use Rattle.record.proofs.one_more.Tie as tie
 
-returns : tie.Need-returns
+returns : tie.Need-returns-then-refused-lt-REFUSED_LIMIT
 unfolding counted
-returns c = rw (lt-ltb _ _ c.if1.true)
+returns c = rw (lt-ltb _ _ c.if-refused-lt-REFUSED_LIMIT.true)
 
-returns-2 : tie.Need-returns-2
+returns-2 : tie.Need-returns-else-refused-lt-REFUSED_LIMIT
 unfolding counted
-returns-2 c = rw (le-ltb _ _ c.if1.false)
+returns-2 c = rw (le-ltb _ _ c.if-refused-lt-REFUSED_LIMIT.false)
 
-pub one-more-spec : {M : Type 1} → statement M
-one-more-spec = tie.close (tie.spec (λ c. search rules) returns returns-2)
+pub one_more_spec : {M : Type 1} → statement M
+one_more_spec = tie.close (tie.spec (λ c. search rules) returns returns-2)

@@ -25,6 +25,7 @@ use Rattle.record.specs.declared.Record.{Record}
 -- every pair of a list is one of p < q < n
 each-among : (n : ℕ) (pairs : List Pair) (pair : Pair) → Each n pairs → Among pair pairs → Ordered n pair
 unfolding Each
+each-among n [] pair all m = elim m [ ]
 each-among n (x ∷ pairs) pair all here = all.0
 each-among n (x ∷ pairs) pair all (there m) = each-among n pairs pair all.1 m
 

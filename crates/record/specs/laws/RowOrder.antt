@@ -57,11 +57,13 @@ rising-++ (x ∷ xs) ys h g across = (
 -- the pairs of a row, and of the rows from p on
 in_row : (p q count : ℕ) (y : Pair) → Among y (row p q count) → (y.p ≡ p) × (q ≤ y.q)
 unfolding row
+in_row p q zero y m = elim m [ ]
 in_row p q (suc count) y here = (refl, omega arith)
 in_row p q (suc count) y (there m) = let later = in_row p (suc q) count y m in (later.0, omega (arith, later.1))
 
 in_rows : (p count : ℕ) (y : Pair) → Among y (rows_from p count) → p ≤ y.p
 unfolding rows_from
+in_rows p zero y m = elim m [ ]
 in_rows p (suc count) y m = by (in_either (row p (suc p) (suc count)) m) (in_rows (suc p) count y)
   where
     by : Among y (row p (suc p) (suc count)) ⊎ Among y (rows_from (suc p) count) → (Among y (rows_from (suc p) count) → suc p ≤ y.p) → p ≤ y.p

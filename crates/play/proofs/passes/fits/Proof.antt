@@ -29,7 +29,7 @@ own-step-requires : tie.Need-own-step-requires invariant-loop decreases-loop
 own-step-requires c κs = c.loop.invariant.0
 
 full : (c : tie.After-own-step invariant-loop decreases-loop) → length c.own-step.result.done.line.bytes ≡ 256
-full c = line-full c.own-step.result _ c.own-step.type-inv
+full c = line-full c.own-step.result _ c.own-step.type_inv
 
 returns : tie.Need-returns invariant-loop decreases-loop
 returns c =

@@ -25,7 +25,7 @@ own-step-requires : tie.Need-own-step-requires invariant-loop decreases-loop
 own-step-requires c κs = c.loop.invariant.reached
 
 full : (c : tie.After-own-step invariant-loop decreases-loop) → length c.own-step.result.done.line.bytes ≡ 256
-full c = line-full c.own-step.result _ c.own-step.type-inv
+full c = line-full c.own-step.result _ c.own-step.type_inv
 
 in-line : (c : tie.After-own-step invariant-loop decreases-loop) → c.own-step.result.done.line.len ≤ length c.own-step.result.done.line.bytes
 in-line c = omega (arith, full c, c.own-step.ensures.short)

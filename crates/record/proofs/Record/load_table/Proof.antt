@@ -7,11 +7,11 @@ use Rattle.record.proofs.Record.load_table.Tie as tie
 
 returns : tie.Need-returns
 returns c =
-    let s = c.before.before in
+    let s = c in
     record {
-      is = ap (λ (x : Solver). record { solver = x; refused = s.args.self.refused }) c.of-table.ensures.is;
-      keeps = record { solver = c.of-table.ensures.keeps; counts = s.requires.0.counts };
+      is = ap (λ (x : Solver). record { solver = x; refused = s.args.self.refused }) c.of_table.ensures.is;
+      keeps = record { solver = c.of_table.ensures.keeps; counts = s.requires.0.counts };
     }
 
-pub load-table-spec : {M : Type 1} → statement M
-load-table-spec = tie.close (tie.spec (λ c κs. search rules) returns)
+pub load_table_spec : {M : Type 1} → statement M
+load_table_spec = tie.close (tie.spec (λ c κs. search rules) returns)

@@ -8,5 +8,5 @@ returns : tie.Need-returns
 unfolding refused_by
 returns c = record { is = refl; each = λ bench. refl }
 
-pub refused-calls-spec : {M : Type 1} → statement M
-refused-calls-spec = tie.close (tie.spec returns)
+pub refused_calls_spec : {M : Type 1} → statement M
+refused_calls_spec = tie.close (tie.spec returns)

@@ -2,9 +2,9 @@
 use Rattle.record.proofs.Record.run.Statement.{statement}
 use Rattle.record.proofs.Record.run.Tie as tie
 
-run-requires : tie.Need-run-requires
+run-requires : tie.Need-run-ended-requires
 run-requires c κs =
-    let h = c.before.requires in
+    let h = c.requires in
     record {
       keeps = h.keeps.solver;
       loaded = h.loaded;
@@ -15,11 +15,11 @@ run-requires c κs =
 
 returns : tie.Need-returns
 returns c =
-    let ran = c.before.before in
-    let s = ran.before.before in
+    let ran = c in
+    let s = ran in
     record {
-      is = ran.run.ensures.is s.args.self.refused;
-      keeps = record { solver = ran.run.ensures.keeps; counts = s.requires.keeps.counts };
+      is = ran.run-ended.ensures.is s.args.self.refused;
+      keeps = record { solver = ran.run-ended.ensures.keeps; counts = s.requires.keeps.counts };
     }
 
 pub run_spec : {M : Type 1} → statement M

@@ -7,26 +7,26 @@ use Rattle.record.proofs.Benches.{no-bench, of-bench}
 use Rattle.record.proofs.Record.turn.Statement.{statement}
 use Rattle.record.proofs.Record.turn.Tie as tie
 
-returns : tie.Need-returns
+returns : tie.Need-returns-then-not-is_bench
 returns c =
-    let s = c.before.before.before in
-    let told = c.before.before.is-bench.ensures in
+    let s = c in
+    let told = c.is_bench.ensures in
     (no-bench s.args.self s.args.bench (turn s.args.p s.args.q) s.requires
-    (sym told ∙ not-true _ c.before.if1.true) _ _ c.no-bench.ensures.0 c.no-bench.ensures.1)
+    (sym told ∙ c.if-not-is_bench.true) _ _ c.no_bench.ensures.0 c.no_bench.ensures.1)
 
-returns-2 : tie.Need-returns-2
+returns-2 : tie.Need-returns
 returns-2 c =
-    let called = c.before in
-    let checked = called.before.before.before in
-    let s = checked.before.before in
-    let told = checked.before.is-bench.ensures in
-    (of-bench s.args.self s.args.bench (turn s.args.p s.args.q) s.requires (sym told ∙ not-false _ checked.if1.false) _ _ _ _
+    let called = c in
+    let checked = called in
+    let s = checked in
+    let told = checked.is_bench.ensures in
+    (of-bench s.args.self s.args.bench (turn s.args.p s.args.q) s.requires (sym told ∙ checked.if-not-is_bench.false) _ _ _ _
     called.turn.ensures.answers called.turn.ensures.leaves c.answered.ensures.0 c.answered.ensures.1)
 
 pub turn_spec : {M : Type 1} → statement M
 turn_spec =
     tie.close
     (tie.spec (λ c κs. search rules) (λ c κs. search rules) returns (λ c κs. search rules)
-    (λ c κs. let checked = c.before.before.before in
-    sym checked.before.is-bench.ensures ∙ not-false _ checked.if1.false)
+    (λ c κs. let checked = c in
+    sym checked.is_bench.ensures ∙ checked.if-not-is_bench.false)
     returns-2)

@@ -16,39 +16,39 @@ use Rattle.record.proofs.Checks.{within-fails, within_more}
 use Rattle.record.proofs.load.all_within.Statement.{statement}
 use Rattle.record.proofs.load.all_within.Tie as tie
 
-abbrev invariant-loop : tie.invariant-loop
+abbrev invariant-loop : tie.invariant-loop-k
 invariant-loop numbers k₀ k = (k ≤ length numbers) × (entries_within entry_limit numbers ≡ entries_within entry_limit (drop k numbers))
 
-abbrev decreases-loop : tie.decreases-loop
+abbrev decreases-loop : tie.decreases-loop-k
 decreases-loop numbers k₀ k = length numbers - k
 
 -- what the number at k is found to be
-module _ (c : tie.After-is-within invariant-loop decreases-loop) where
+module _ (c : tie.After-is_within invariant-loop decreases-loop) where
   tested : c.is_within.result ≡ leb
-      (nat_abs (get_or c.before.before.before.before.args.numbers.now c.before.before.before.loop.k (pos 0))) entry_limit
+      (nat_abs (get_or c.args.numbers.now c.loop-k.k (pos 0))) entry_limit
   tested = c.is_within.ensures ∙ rw (to_z-of_z fits)
     where
-      fits : SFits w64 (get_or c.before.before.before.before.args.numbers.now c.before.before.before.loop.k (pos 0))
+      fits : SFits w64 (get_or c.args.numbers.now c.loop-k.k (pos 0))
       fits = search rules
 
-returns : tie.Need-returns invariant-loop decreases-loop
+returns : tie.Need-returns-then-not-is_within invariant-loop decreases-loop
 returns c =
-    let i = c.before.before.before.before.loop.invariant in
-    within-fails _ _ (omega arith) i.1 (sym (tested c.before) ∙ not-true _ c.if1.true)
+    let i = c.loop-k.invariant in
+    within-fails _ _ (omega arith) i.1 (sym (tested c.before) ∙ c.if-not-is_within.true)
 
-loop-again : tie.Need-loop-preserved invariant-loop decreases-loop
+loop-again : tie.Need-loop-k-preserved invariant-loop decreases-loop
 loop-again c =
-    let i = c.before.before.before.before.loop.invariant in
-    (omega arith, within_more _ _ (omega arith) i.1 (sym (tested c.before) ∙ not-false _ c.if1.false))
+    let i = c.loop-k.invariant in
+    (omega arith, within_more _ _ (omega arith) i.1 (sym (tested c.before) ∙ c.if-not-is_within.false))
 
-returns-2 : tie.Need-returns-2 invariant-loop decreases-loop
+returns-2 : tie.Need-returns invariant-loop decreases-loop
 unfolding entries_within
 returns-2 c =
-    let i = c.before.loop.invariant in
-    sym (i.1 ∙ rw (drop_of_length-le c.before.before.args.numbers.now {i = c.before.loop.k} (omega arith)))
+    let i = c.loop-k.invariant in
+    sym (i.1 ∙ rw (drop_of_length-le c.args.numbers.now {i = c.loop-k.k} (omega arith)))
 
-pub all-within-spec : {M : Type 1} → statement M
-all-within-spec =
+pub all_within_spec : {M : Type 1} → statement M
+all_within_spec =
     tie.close
     (tie.spec
     invariant-loop

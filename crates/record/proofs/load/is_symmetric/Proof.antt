@@ -10,49 +10,49 @@ use Rattle.record.proofs.Checks.{all_more, all-fails, mirrored, symmetric-left}
 use Rattle.record.proofs.load.is_symmetric.Statement.{statement}
 use Rattle.record.proofs.load.is_symmetric.Tie as tie
 
-abbrev invariant-loop : tie.invariant-loop
+abbrev invariant-loop : tie.invariant-loop-i
 invariant-loop n numbers i₀ i =
     (i ≤ n) × (all (λ i. all (mirrored (matrix_of n numbers) i) i) i ≡ true)
 
-abbrev decreases-loop : tie.decreases-loop
+abbrev decreases-loop : tie.decreases-loop-i
 decreases-loop n numbers i₀ i = n - i
 
 -- whether a row is mirrored, and what the row at i is found to be
-module _ (c : tie.After-row-mirrored invariant-loop decreases-loop) where
+module _ (c : tie.After-row_mirrored invariant-loop decreases-loop) where
   row : ℕ → Bool
-  row i = let s = c.before.before.before.args in all (mirrored (matrix_of s.n s.numbers.now) i) i
+  row i = let s = c.args in all (mirrored (matrix_of s.n s.numbers.now) i) i
 
-  tested : c.row-mirrored.result ≡ row c.before.before.loop.i
+  tested : c.row_mirrored.result ≡ row c.loop-i.i
   unfolding row
-  tested = c.row-mirrored.ensures
+  tested = c.row_mirrored.ensures
 
-returns : tie.Need-returns invariant-loop decreases-loop
+returns : tie.Need-returns-then-not-row_mirrored invariant-loop decreases-loop
 unfolding row
 returns c =
     rw symmetric-left
-    (all-fails (row c.before) c.before.before.before.before.args.n c.before.before.before.loop.i (omega arith)
-    (sym (tested c.before) ∙ not-true _ c.if1.true))
+    (all-fails (row c.before) c.args.n c.loop-i.i (omega arith)
+    (sym (tested c.before) ∙ c.if-not-row_mirrored.true))
 
-loop-again : tie.Need-loop-preserved invariant-loop decreases-loop
+loop-again : tie.Need-loop-i-preserved invariant-loop decreases-loop
 unfolding row
 loop-again c =
-    let l = c.before.before.before.loop in
-    (omega arith, all_more (row c.before) l.i l.invariant.1 (sym (tested c.before) ∙ not-false _ c.if1.false))
+    let l = c.loop-i in
+    (omega arith, all_more (row c.before) l.i l.invariant.1 (sym (tested c.before) ∙ c.if-not-row_mirrored.false))
 
-returns-2 : tie.Need-returns-2 invariant-loop decreases-loop
+returns-2 : tie.Need-returns invariant-loop decreases-loop
 returns-2 c =
-    let i = c.before.loop.invariant in
-    let e : c.before.loop.i ≡ c.before.before.args.n = omega arith in
+    let i = c.loop-i.invariant in
+    let e : c.loop-i.i ≡ c.args.n = omega arith in
     rw symmetric-left (sym (rw e at i.1))
 
-pub is-symmetric-spec : {M : Type 1} → statement M
-is-symmetric-spec =
+pub is_symmetric_spec : {M : Type 1} → statement M
+is_symmetric_spec =
     tie.close
     (tie.spec
     invariant-loop
     decreases-loop
     (λ c. (omega arith, refl))
-    (λ c κs. (omega arith, c.before.before.requires.0, c.before.before.requires.1))
+    (λ c κs. (omega arith, c.requires.0, c.requires.1))
     returns
     (λ c. omega arith)
     (λ c. omega arith)

@@ -13,29 +13,29 @@ use Rattle.record.proofs.Axes.{diagonal-more}
 use Rattle.record.proofs.load.load_axes.Statement.{statement}
 use Rattle.record.proofs.load.load_axes.Tie as tie
 
-abbrev invariant-loop : tie.invariant-loop
+abbrev invariant-loop : tie.invariant-loop-i
 invariant-loop axes₀ n i₀ axes i = (i ≤ n) × (axes ≡ square (in_use i (diagonal (pos whole))))
 
-abbrev decreases-loop : tie.decreases-loop
+abbrev decreases-loop : tie.decreases-loop-i
 decreases-loop axes₀ n i₀ axes i = n - i
 
-loop-holds : tie.Need-loop-init invariant-loop decreases-loop
+loop-holds : tie.Need-loop-i-init invariant-loop decreases-loop
 unfolding blank eight in_use
 loop-holds c = (omega arith, c.requires.0)
 
-loop-again : tie.Need-loop-preserved invariant-loop decreases-loop
+loop-again : tie.Need-loop-i-preserved invariant-loop decreases-loop
 loop-again c =
-    let i = c.before.loop.invariant in
-    (omega arith, rw i.1 (diagonal-more (pos whole) c.before.loop.i (omega arith)))
+    let i = c.before.loop-i.invariant in
+    (omega arith, rw i.1 (diagonal-more (pos whole) c.before.loop-i.i (omega arith)))
 
 returns : tie.Need-returns invariant-loop decreases-loop
 returns c =
-    let i = c.before.loop.invariant in
-    let e : c.before.loop.i ≡ c.before.before.args.n = omega arith in
+    let i = c.before.loop-i.invariant in
+    let e : c.before.loop-i.i ≡ c.before.before.args.n = omega arith in
     rw e at i.1
 
-pub load-axes-spec : {M : Type 1} → statement M
-load-axes-spec =
+pub load_axes_spec : {M : Type 1} → statement M
+load_axes_spec =
     tie.close
     (tie.spec
     invariant-loop

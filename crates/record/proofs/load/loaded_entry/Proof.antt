@@ -24,25 +24,25 @@ module _ (s : tie.Start) where
   few = places _ s.requires.2
 
   below : s.args.i * s.args.n + s.args.j < s.args.n * s.args.n
-  below = digits_lt s.pre.0 s.pre.1
+  below = digits_lt s.requires.0 s.requires.1
 
 -- the number there, and it in units
-module _ (c : tie.After-result) where
+module _ (c : tie.After-result-1) where
   number : ℤ
-  number = get_or c.before.args.numbers.now (c.before.args.i * c.before.args.n + c.before.args.j) (pos 0)
+  number = get_or c.args.numbers.now (c.args.i * c.args.n + c.args.j) (pos 0)
 
   read : to_z w64 (of_z w64 number) ≡ number
   unfolding number
-  read = to_z-of_z (search rules)
+  read = to_z-of_z {w = w64} (search rules)
 
   in-units : SFits w64 (pos units *ℤ number)
   unfolding number
   in-units =
-      let s = c.before in
+      let s = c in
       let small = within-small entry_limit s.args.numbers.now (rw s.requires.4 tt) (s.args.i * s.args.n + s.args.j) in
       held _ (rw nat_abs-*ℤ (omega (arith, small)))
 
-mul-result-3 : tie.Need-overflow-mul-result-3
+mul-result-3 : tie.Need-overflow_mul-result-2
 unfolding number
 mul-result-3 c = rw (read c) (in-units c)
 
@@ -50,8 +50,8 @@ returns : tie.Need-returns
 unfolding number matrix_of
 returns c = rw (read c, to_z-of_z (in-units c))
 
-pub loaded-entry-spec : {M : Type 1} → statement M
-loaded-entry-spec =
+pub loaded_entry_spec : {M : Type 1} → statement M
+loaded_entry_spec =
     tie.close
     (tie.spec
     (λ c. omega (arith, few c, below c))

@@ -17,8 +17,8 @@ returns c =
     let f : SFits w64 (get_or (get_or a.a.now a.i []) a.j (pos 0)) = search rules in
     rw (to_z-of_z f) at c.magnitude.ensures
 
-pub entry-size-spec : {M : Type 1} → statement M
-entry-size-spec =
+pub entry_size_spec : {M : Type 1} → statement M
+entry_size_spec =
     tie.close
     (tie.spec
     (λ c. search rules)

@@ -18,40 +18,40 @@ use Rattle.record.proofs.rows.packed.Statement.{statement}
 use Rattle.record.proofs.rows.packed.Tie as tie
 
 -- The inner loop knows the matrix as it was where it began.
-abbrev invariant-loop2 : tie.invariant-loop2
+abbrev invariant-loop2 : tie.invariant-loop-j
 invariant-loop2 b a₀ i start j₀ a j = (j ≤ 8) × (a₀ ≡ flat_of (filled_to 8 (at b) i 0) → a ≡ flat_of (filled_to 8 (at b) i j))
 
-abbrev decreases-loop2 : tie.decreases-loop2
+abbrev decreases-loop2 : tie.decreases-loop-j
 decreases-loop2 b a₀ i start j₀ a j = 8 - j
 
-abbrev invariant-loop : tie.invariant-loop
+abbrev invariant-loop : tie.invariant-loop-i
 invariant-loop b a₀ i₀ a i = (i ≤ 8) × (a ≡ flat_of (filled_to 8 (at b) i 0))
 
-abbrev decreases-loop : tie.decreases-loop
+abbrev decreases-loop : tie.decreases-loop-i
 decreases-loop b a₀ i₀ a i = 8 - i
 
-loop2-again : tie.Need-loop2-preserved invariant-loop2 decreases-loop2 invariant-loop decreases-loop
+loop2-again : tie.Need-loop-j-preserved invariant-loop2 decreases-loop2 invariant-loop decreases-loop
 unfolding at
 loop2-again c =
-    let l = c.before.before.loop2 in
-    let b = c.before.before.before.before.before.args.t1 in
-    let i = c.before.before.before.before.loop.i in
+    let l = c.loop-j in
+    let b = c.args.b in
+    let i = c.loop-i.i in
     let f : SFits w64 (get_or (get_or b i []) l.j (pos 0)) = search rules in
     (omega arith, λ e. rw (l.invariant.1 e, to_z-of_z f) (flat-one 8 (at b) i l.j (omega arith) (omega arith)))
 
-loop-again : tie.Need-loop-preserved invariant-loop2 decreases-loop2 invariant-loop decreases-loop
+loop-again : tie.Need-loop-i-preserved invariant-loop2 decreases-loop2 invariant-loop decreases-loop
 loop-again c =
-    let l = c.before.before.before.loop in
-    let e : c.before.loop2.j ≡ 8 = omega arith in
-    (omega arith, (rw e at (c.before.loop2.invariant.1 l.invariant.1)) ∙ flat-row 8 _ l.i (omega arith))
+    let l = c.loop-i in
+    let e : c.loop-j.j ≡ 8 = omega arith in
+    (omega arith, (rw e at (c.loop-j.invariant.1 l.invariant.1)) ∙ flat-row 8 _ l.i (omega arith))
 
 returns : tie.Need-returns invariant-loop2 decreases-loop2 invariant-loop decreases-loop
 returns c =
-    let e : c.before.loop.i ≡ 8 = omega arith in
-    (rw e at c.before.loop.invariant.1) ∙ flat-all 8 _ ∙ flat-cong _ _ (λ i j h l. in_use-inside 8 _ i j h l)
+    let e : c.loop-i.i ≡ 8 = omega arith in
+    (rw e at c.loop-i.invariant.1) ∙ flat-all 8 _ ∙ flat-cong _ _ (λ i j h l. in_use-inside 8 _ i j h l)
 
-pub packed-spec : {M : Type 1} → statement M
-packed-spec =
+pub packed_spec : {M : Type 1} → statement M
+packed_spec =
     tie.close
     (tie.spec
     invariant-loop2

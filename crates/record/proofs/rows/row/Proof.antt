@@ -16,33 +16,33 @@ use Rattle.record.specs.Flat.{entries_of, kept_entry}
 use Rattle.record.proofs.rows.row.Statement.{statement}
 use Rattle.record.proofs.rows.row.Tie as tie
 
-abbrev invariant-loop : tie.invariant-loop
+abbrev invariant-loop : tie.invariant-loop-j
 invariant-loop a i start row₀ j₀ row j = (j ≤ 8) × (row ≡ front (kept_entry a i) (pos 0) j)
 
-abbrev decreases-loop : tie.decreases-loop
+abbrev decreases-loop : tie.decreases-loop-j
 decreases-loop a i start row₀ j₀ row j = 8 - j
 
-loop-holds : tie.Need-loop-init invariant-loop decreases-loop
+loop-holds : tie.Need-loop-j-init invariant-loop decreases-loop
 unfolding eight
 loop-holds c = (omega arith, refl)
 
-loop-again : tie.Need-loop-preserved invariant-loop decreases-loop
+loop-again : tie.Need-loop-j-preserved invariant-loop decreases-loop
 unfolding kept_entry
 loop-again c =
     let l = c.before.before in
     let a = l.before.args.a.now in
     let i = l.before.args.i in
-    let f : SFits w64 (get_or a (8 * i + l.loop.j) (pos 0)) = search rules in
-    (omega arith, rw l.loop.invariant.1 (front-more (kept_entry a i) (pos 0) l.loop.j _ (omega arith) (to_z-of_z f)))
+    let f : SFits w64 (get_or a (8 * i + l.loop-j.j) (pos 0)) = search rules in
+    (omega arith, rw l.loop-j.invariant.1 (front-more (kept_entry a i) (pos 0) l.loop-j.j _ (omega arith) (to_z-of_z f)))
 
 returns : tie.Need-returns invariant-loop decreases-loop
 unfolding entries_of
 returns c =
-    let e : c.before.loop.j ≡ 8 = omega arith in
-    (rw e at c.before.loop.invariant.1) ∙ eight-cong (λ k l. rw (lt-ltb k 8 l))
+    let e : c.before.loop-j.j ≡ 8 = omega arith in
+    (rw e at c.before.loop-j.invariant.1) ∙ eight-cong (λ k l. rw (lt-ltb k 8 l))
 
-pub row-spec : {M : Type 1} → statement M
-row-spec =
+pub row_spec : {M : Type 1} → statement M
+row_spec =
     tie.close
     (tie.spec
     invariant-loop

@@ -10,17 +10,17 @@ returns : tie.Need-returns
 unfolding rows_of eight
 returns c i =
     c.before.before.before.before.before.before.before.row.ensures i ∷
-    c.before.before.before.before.before.before.row2.ensures i ∷
-    c.before.before.before.before.before.row3.ensures i ∷
-    c.before.before.before.before.row4.ensures i ∷
-    c.before.before.before.row5.ensures i ∷
-    c.before.before.row6.ensures i ∷
-    c.before.row7.ensures i ∷
-    c.row8.ensures i ∷
+    c.before.before.before.before.before.before.row-2.ensures i ∷
+    c.before.before.before.before.before.row-3.ensures i ∷
+    c.before.before.before.before.row-4.ensures i ∷
+    c.before.before.before.row-5.ensures i ∷
+    c.before.before.row-6.ensures i ∷
+    c.before.row-7.ensures i ∷
+    c.row-8.ensures i ∷
     []
 
-pub unpacked-spec : {M : Type 1} → statement M
-unpacked-spec =
+pub unpacked_spec : {M : Type 1} → statement M
+unpacked_spec =
     tie.close
     (tie.spec
     (λ c κs. search rules)

@@ -5,7 +5,7 @@ use Rattle.turn.specs.Turn.{at}
 use Rattle.record.proofs.sweep.choice_at.Statement.{statement}
 use Rattle.record.proofs.sweep.choice_at.Tie as tie
 
-choose-turn-requires : tie.Need-choose-turn-requires
+choose-turn-requires : tie.Need-choose_turn-requires
 unfolding at
 choose-turn-requires c κs =
     let s = c.before.before.before in
@@ -21,10 +21,10 @@ returns c =
     let a = s.args.a.now in
     let h = s.requires.2 in
     rw (entry-back a h s.args.p s.args.p, entry-back a h s.args.q s.args.q, entry-back a h s.args.p s.args.q) at
-    c.choose-turn.ensures
+    c.choose_turn.ensures
 
-pub choice-at-spec : {M : Type 1} → statement M
-choice-at-spec =
+pub choice_at_spec : {M : Type 1} → statement M
+choice_at_spec =
     tie.close
     (tie.spec
     (λ c. search rules)

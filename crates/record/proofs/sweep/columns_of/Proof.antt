@@ -3,8 +3,8 @@ use borrow.Author.Rules.{rules}
 use Rattle.record.proofs.sweep.columns_of.Statement.{statement}
 use Rattle.record.proofs.sweep.columns_of.Tie as tie
 
-returns-2 : tie.Need-returns-2
-returns-2 c = rw c.enum-told2.given.1
+returns-2 : tie.Need-returns-in-Tournament
+returns-2 c = rw c.in-Tournament.is
 
-pub columns-of-spec : {M : Type 1} → statement M
-columns-of-spec = tie.close (tie.spec (λ c. search rules) (λ c. search rules) (λ c. search rules) (λ c. search rules) returns-2)
+pub columns_of_spec : {M : Type 1} → statement M
+columns_of_spec = tie.close (tie.spec (λ c. search rules) (λ c. search rules) (λ c. search rules) (λ c. search rules) returns-2)

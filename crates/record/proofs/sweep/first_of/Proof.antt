@@ -3,8 +3,8 @@ use borrow.Author.Rules.{rules}
 use Rattle.record.proofs.sweep.first_of.Statement.{statement}
 use Rattle.record.proofs.sweep.first_of.Tie as tie
 
-returns : tie.Need-returns
-returns c = rw c.enum_told.given.1
+returns : tie.Need-returns-in-Cyclic
+returns c = rw c.in-Cyclic.is
 
-pub first-of-spec : {M : Type 1} → statement M
-first-of-spec = tie.close (tie.spec (λ c. search rules) (λ c. search rules) (λ c. search rules) returns (λ c. search rules))
+pub first_of_spec : {M : Type 1} → statement M
+first_of_spec = tie.close (tie.spec (λ c. search rules) (λ c. search rules) (λ c. search rules) returns (λ c. search rules))

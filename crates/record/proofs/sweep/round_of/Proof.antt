@@ -13,16 +13,16 @@ use Rattle.record.proofs.sweep.round_of.Tie as tie
 fits : (s : tie.Start) → (half s.args.n - 1) * (half s.args.n - 1) + s.args.row < 16
 fits s = rounds-fit (half s.args.n) s.args.row (half-most s.args.n s.requires.1) s.requires.2
 
-mul-round : tie.Need-overflow-mul-round
+mul-round : tie.Need-overflow_mul-round
 mul-round c = record { fits = omega (arith, fits c) }
 
-add-round : tie.Need-overflow-add-round
+add-round : tie.Need-overflow_add-round
 add-round c = record { fits = omega (arith, fits c) }
 
-mul-round-2 : tie.Need-overflow-mul-round-2
+mul-round-2 : tie.Need-offset_bounds-half
 mul-round-2 c = record { fits = omega (arith, fits c) }
 
-array-copy-out-round : tie.Need-array-copy-out-round
+array-copy-out-round : tie.Need-bounds-half-half
 array-copy-out-round c = fits c
 
 returns : tie.Need-returns
@@ -34,8 +34,8 @@ returns c =
       entry-q (half s.args.n) s.args.row s.args.column most s.requires.2 s.requires.3,
     )
 
-pub round-of-spec : {M : Type 1} → statement M
-round-of-spec =
+pub round_of_spec : {M : Type 1} → statement M
+round_of_spec =
     tie.close
     (tie.spec
     (λ c. search rules)

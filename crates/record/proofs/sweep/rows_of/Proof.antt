@@ -3,11 +3,11 @@ use borrow.Author.Rules.{rules}
 use Rattle.record.proofs.sweep.rows_of.Statement.{statement}
 use Rattle.record.proofs.sweep.rows_of.Tie as tie
 
-returns-2 : tie.Need-returns-2
-returns-2 c = rw c.enum-told2.given.1
+returns-2 : tie.Need-returns-in-Tournament
+returns-2 c = rw c.in-Tournament.is
 
-pub rows-of-spec : {M : Type 1} → statement M
-rows-of-spec =
+pub rows_of_spec : {M : Type 1} → statement M
+rows_of_spec =
     tie.close
     (tie.spec
     (λ c. search rules)

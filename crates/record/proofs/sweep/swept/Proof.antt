@@ -3,11 +3,11 @@ use borrow.Author.Rules.{rules}
 use Rattle.record.proofs.sweep.swept.Statement.{statement}
 use Rattle.record.proofs.sweep.swept.Tie as tie
 
-returns : tie.Need-returns
-returns c = rw c.enum_told.given.1
+returns : tie.Need-returns-in-Cyclic
+returns c = rw c.in-Cyclic.is
 
-returns-2 : tie.Need-returns-2
-returns-2 c = rw c.enum-told2.given.1
+returns-2 : tie.Need-returns-in-Tournament
+returns-2 c = rw c.in-Tournament.is
 
-pub swept-spec : {M : Type 1} → statement M
-swept-spec = tie.close (tie.spec (λ c. search rules) (λ c. search rules) returns returns-2)
+pub swept_spec : {M : Type 1} → statement M
+swept_spec = tie.close (tie.spec (λ c. search rules) (λ c. search rules) returns returns-2)

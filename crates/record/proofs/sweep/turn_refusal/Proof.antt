@@ -5,17 +5,17 @@ use Rattle.ledger.specs.Refusal.{refusal_under}
 use Rattle.record.proofs.sweep.turn_refusal.Statement.{statement}
 use Rattle.record.proofs.sweep.turn_refusal.Tie as tie
 
-returns : tie.Need-returns
+returns : tie.Need-returns-then-n-eq0
 unfolding refusal_under
 returns c = rw (le-ltb 0 c.before.args.n (omega arith))
 
-returns-2 : tie.Need-returns-2
+returns-2 : tie.Need-returns-then-p-lt1
 unfolding refusal_under
 returns-2 c =
     let s = c.before.before in
     rw (lt-ltb 0 s.args.n (omega arith), lt-leb 1 s.args.p (omega arith))
 
-returns-3 : tie.Need-returns-3
+returns-3 : tie.Need-returns-then-q-p
 unfolding refusal_under
 returns-3 c =
     let s = c.before.before.before in
@@ -25,7 +25,7 @@ returns-3 c =
       le-ltb s.args.p s.args.q (omega arith),
     )
 
-returns-4 : tie.Need-returns-4
+returns-4 : tie.Need-returns-then-n-q
 unfolding refusal_under
 returns-4 c =
     let s = c.before.before.before.before in
@@ -36,7 +36,7 @@ returns-4 c =
       lt-leb s.args.q s.args.n (omega arith),
     )
 
-returns-5 : tie.Need-returns-5
+returns-5 : tie.Need-returns-then-m-ge-TURN_LIMIT
 unfolding refusal_under
 returns-5 c =
     let s = c.before.before.before.before.before in
@@ -48,7 +48,7 @@ returns-5 c =
       le-ltb s.args.m 448 (omega arith),
     )
 
-returns-6 : tie.Need-returns-6
+returns-6 : tie.Need-returns
 unfolding refusal_under
 returns-6 c =
     let s = c.before.before.before.before.before in
@@ -60,5 +60,5 @@ returns-6 c =
       lt-ltb s.args.m 448 (omega arith),
     )
 
-pub turn-refusal-spec : {M : Type 1} → statement M
-turn-refusal-spec = tie.close (tie.spec returns returns-2 returns-3 returns-4 returns-5 returns-6)
+pub turn_refusal_spec : {M : Type 1} → statement M
+turn_refusal_spec = tie.close (tie.spec returns returns-2 returns-3 returns-4 returns-5 returns-6)

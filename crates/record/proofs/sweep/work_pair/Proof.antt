@@ -19,70 +19,70 @@ work s = work_at s.args.matrix.now s.args.axes.now s.args.m
 abbrev pair : tie.Start → Pair
 pair s = record { p = s.args.p; q = s.args.q }
 
-choice-at-requires : tie.Need-choice-at-requires
+choice-at-requires : tie.Need-choice_at-requires
 choice-at-requires c κs =
-    let s = c.before in
-    (omega arith, omega arith, matrix-small s.args.n (work s) s.requires.3.kept s.requires.3.few)
+    let s = c in
+    (omega arith, omega arith, matrix-small s.args.n (work c) s.requires.3.kept s.requires.3.few)
 
-returns : tie.Need-returns
+returns : tie.Need-returns-in_default
 unfolding chosen
 returns c =
-    let s = c.before.before.before.before in
-    sym (not-turned s.args.n (work s) (pair s) (sym c.before.before.choice-at.ensures ∙ c.enum_told.given.1))
+    let s = c in
+    sym (not-turned s.args.n (work c.before.before) (pair c.before.before) (sym c.choice_at.ensures ∙ c.in_default.is))
 
-of-requires : tie.Need-of-requires
+of-requires : tie.Need-of-r-requires
 unfolding chosen
 of-requires c κs =
-    let s = c.before.before.before.before.before in
-    let chose = sym c.before.before.before.choice-at.ensures ∙ c.before.l.given.1 in
-    l-range s.args.n (work s) (pair s) _ _ chose
+    let s = c in
+    let chose = sym c.choice_at.ensures ∙ c.in-Turn.is in
+    l-range s.args.n (work c.before.before) (pair c.before.before) _ _ chose
 
-turn-axes-requires : tie.Need-turn-axes-requires
+turn-axes-requires : tie.Need-turn_axes-requires
 unfolding chosen
 turn-axes-requires c κs =
-    let s = c.before.before.before.before.before.before.before in
-    let chose = sym c.before.before.before.before.before.choice-at.ensures ∙ c.before.before.before.l.given.1 in
-    let range = l-range s.args.n (work s) (pair s) _ _ chose in (
+    let s = c in
+    let chose = sym c.choice_at.ensures ∙ c.in-Turn.is in
+    let range = l-range s.args.n (work c.before.before.before.before) (pair c.before.before.before.before) _ _ chose in (
       s.requires.0,
       s.requires.1,
       s.requires.2,
-      rw c.before.of.ensures (rotation_of-turns _ _ range.0 range.1),
-      axes-small s.args.n (work s) s.requires.3.kept s.requires.3.few,
+      rw c.of-r.ensures (rotation_of-turns _ _ range.0 range.1),
+      axes-small s.args.n (work c.before.before.before.before) s.requires.3.kept s.requires.3.few,
       s.requires.3.axes,
     )
 
-turn-matrix-requires : tie.Need-turn-matrix-requires
+turn-matrix-requires : tie.Need-turn_matrix-turned-requires
 unfolding chosen
 turn-matrix-requires c κs =
-    let s = c.before.before.before.before.before.before.before.before.before in
-    let chose = sym c.before.before.before.before.before.before.before.choice-at.ensures
-    ∙ c.before.before.before.before.before.l.given.1 in
-    let range = l-range s.args.n (work s) (pair s) _ _ chose in (
+    let s = c in
+    let chose = sym c.choice_at.ensures
+    ∙ c.in-Turn.is in
+    let range = l-range s.args.n (work c.before.before.before.before.before.before) (pair c.before.before.before.before.before.before) _ _ chose in (
       s.requires.0,
       s.requires.1,
       s.requires.2,
-      rw c.before.before.before.of.ensures (rotation_of-turns _ _ range.0 range.1),
-      matrix-small s.args.n (work s) s.requires.3.kept s.requires.3.few,
-      matrix-symmetric s.args.n (work s) s.requires.3.kept s.requires.3.few,
+      rw c.of-r.ensures (rotation_of-turns _ _ range.0 range.1),
+      matrix-small s.args.n (work c.before.before.before.before.before.before) s.requires.3.kept s.requires.3.few,
+      matrix-symmetric s.args.n (work c.before.before.before.before.before.before) s.requires.3.kept s.requires.3.few,
     )
 
-returns-2 : tie.Need-returns-2
+returns-2 : tie.Need-returns
 unfolding chosen work_by
 returns-2 c =
-    let s = c.before.before.before.before.before.before.before.before.before.before in
+    let s = c in
     let chose =
-    sym c.before.before.before.before.before.before.before.before.choice-at.ensures ∙
-    c.before.before.before.before.before.before.l.given.1 in
+    sym c.choice_at.ensures ∙
+    c.in-Turn.is in
     rw (
-      turned_by s.args.n (work s) (pair s) _ _ chose,
-      c.before.before.turn-axes.ensures,
-      c.turn-matrix.ensures,
-      c.before.before.before.before.of.ensures,
+      turned_by s.args.n (work c.before.before.before.before.before.before.before) (pair c.before.before.before.before.before.before.before) _ _ chose,
+      c.turn_axes.ensures,
+      c.turn_matrix-turned.ensures,
+      c.of-r.ensures,
       add-one,
     )
 
-pub work-pair-spec : {M : Type 1} → statement M
-work-pair-spec =
+pub work_pair_spec : {M : Type 1} → statement M
+work_pair_spec =
     tie.close
     (tie.spec
     choice-at-requires

@@ -11,40 +11,40 @@ use Rattle.record.proofs.Orders.{pair-ordered}
 use Rattle.record.proofs.sweep.work_place.Statement.{statement}
 use Rattle.record.proofs.sweep.work_place.Tie as tie
 
-place-of-requires : tie.Need-place-of-requires
+place-of-requires : tie.Need-place_of-place-requires
 place-of-requires c κs =
     let w = c.requires.0 in
     (w.some, w.high, w.row_within, w.column-within)
 
-returns : tie.Need-returns
+returns : tie.Need-returns-then-n-q
 unfolding work_place
 returns c =
-    let s = c.before.before in
+    let s = c in
     let pair = pair_in s.args.order s.args.n s.args.row s.args.column in
     let skipped : ltb pair.q s.args.n ≡ false =
-    le-ltb pair.q s.args.n (omega (arith, c.before.place_of.ensures.1, c.if1.true)) in
+    le-ltb pair.q s.args.n (omega (arith, c.place_of-place.ensures.1, c.if-n-q.true)) in
     rw skipped
 
-work-pair-requires : tie.Need-work-pair-requires
+work-pair-requires : tie.Need-work_pair-requires
 work-pair-requires c κs =
-    let s = c.before.before.before.before in
-    let e = c.before.before.before.place_of.ensures in (
+    let s = c in
+    let e = c.place_of-place.ensures in (
       omega (arith, e.0, e.1, pair-ordered _ _ _ _ s.requires.0),
-      omega (arith, c.before.before.if1.false),
+      omega (arith, c.if-n-q.false),
       s.requires.0.high,
       s.requires.1,
     )
 
-returns-2 : tie.Need-returns-2
+returns-2 : tie.Need-returns
 unfolding work_place
 returns-2 c =
-    let s = c.before.before.before.before.before in
-    let e = c.before.before.before.before.place_of.ensures in
+    let s = c in
+    let e = c.place_of-place.ensures in
     let pair = pair_in s.args.order s.args.n s.args.row s.args.column in
     let work = work_at s.args.matrix.now s.args.axes.now s.args.m in
     let named : ltb pair.q s.args.n ≡ true =
-    lt-ltb pair.q s.args.n (omega (arith, e.1, c.before.before.before.if1.false)) in
-    rw named (c.work-pair.ensures ∙ (λ i. work_pair s.args.n work (record { p = e.0 i; q = e.1 i })))
+    lt-ltb pair.q s.args.n (omega (arith, e.1, c.if-n-q.false)) in
+    rw named (c.work_pair.ensures ∙ (λ i. work_pair s.args.n work (record { p = e.0 i; q = e.1 i })))
 
-pub work-place-spec : {M : Type 1} → statement M
-work-place-spec = tie.close (tie.spec place-of-requires returns work-pair-requires returns-2)
+pub work_place_spec : {M : Type 1} → statement M
+work_place_spec = tie.close (tie.spec place-of-requires returns work-pair-requires returns-2)

@@ -16,13 +16,13 @@ use Rattle.record.proofs.FlatFilled.{flat-square}
 use Rattle.record.proofs.solver.Solver.of_table.Statement.{statement}
 use Rattle.record.proofs.solver.Solver.of_table.Tie as tie
 
-load-matrix-requires : tie.Need-load-matrix-requires
+load-matrix-requires : tie.Need-load_matrix-requires
 unfolding blank
-load-matrix-requires c κs = let l = load-accepted 0 0 _ _ c.before.requires in (refl, l.high, l.count, loads-within l)
+load-matrix-requires c κs = let l = load-accepted 0 0 _ _ c.requires in (refl, l.high, l.count, loads-within l)
 
-load-axes-requires : tie.Need-load-axes-requires
+load-axes-requires : tie.Need-load_axes-requires
 unfolding blank
-load-axes-requires c κs = (refl, (load-accepted 0 0 _ _ c.before.before.before.requires).high)
+load-axes-requires c κs = (refl, (load-accepted 0 0 _ _ c.requires).high)
 
 -- the state with the packed rows
 loaded-is : (n : ℕ) (numbers : List ℤ) (e : ℕ) (a v : List ℤ) →
@@ -33,17 +33,17 @@ loaded-is n numbers e a v matrix axes i = record { n = n; m = 0; e = e; a = matr
 
 returns : tie.Need-returns
 returns c =
-    let axes = c.before.before in
-    let matrix = axes.before.before in
-    let s = matrix.before.before in
+    let axes = c in
+    let matrix = axes in
+    let s = matrix in
     let is =
     loaded-is s.args.n s.args.numbers.now s.args.e _ _
-    (c.before.packed.ensures ∙ flat-square _ _ matrix.load-matrix.ensures)
-    (c.packed2.ensures ∙ flat-square _ _ axes.load-axes.ensures) in
+    (c.packed.ensures ∙ flat-square _ _ matrix.load_matrix.ensures)
+    (c.packed-2.ensures ∙ flat-square _ _ axes.load_axes.ensures) in
     record { is = is; keeps = rw is (loads-kept _ _ (load-accepted 0 0 _ _ s.requires) _) }
 
-pub of-table-spec : {M : Type 1} → statement M
-of-table-spec =
+pub of_table_spec : {M : Type 1} → statement M
+of_table_spec =
     tie.close
     (tie.spec
     load-matrix-requires

@@ -51,33 +51,33 @@ module _ (r : Solver) (limit t : ℕ) (h : SolverRunnable r limit t) (a v : List
 abbrev with-counts : Solver → List ℕ → Record
 with-counts solver counts = record { solver = solver; refused = counts }
 
-run-rows-requires : tie.Need-run-rows-requires
+run-rows-requires : tie.Need-run_rows-ended-requires
 run-rows-requires c κs =
-    let first = c.before.before.before.before.before in
-    let s = first.before.before.before in
+    let first = c in
+    let s = first in
     let h = s.requires in
     record {
       loaded = h.loaded;
       sweeps = h.sweeps;
       tolerated = h.tolerated;
-      holds = holds s.args.t1 s.args.limit s.args.tolerance h _ _ first.unpacked.ensures c.before.before.unpacked2.ensures;
+      holds = holds s.args.self s.args.limit s.args.tolerance h _ _ first.unpacked-matrix.ensures c.unpacked-axes.ensures;
     }
 
 returns : tie.Need-returns
 unfolding worked_of
 returns c =
-    let ran = c.before in
-    let second = ran.before.before.before in
-    let first = second.before.before.before in
-    let s = first.before.before.before in
-    let r = s.args.t1 in
-    let is-itself = itself r s.args.limit s.args.tolerance s.requires _ _ first.unpacked.ensures second.unpacked2.ensures in
+    let ran = c in
+    let second = ran in
+    let first = second in
+    let s = first in
+    let r = s.args.self in
+    let is-itself = itself r s.args.limit s.args.tolerance s.requires _ _ first.unpacked-matrix.ensures second.unpacked-axes.ensures in
     record {
       is = λ counts.
-          ap (λ x. stop ran.run-rows.result.outcome ran.run-rows.result.sweeps (with-counts x counts)) c.with_rows.ensures
-          ∙ ran.run-rows.ensures.is r.e counts
+          ap (λ x. stop ran.run_rows-ended.result.outcome ran.run_rows-ended.result.sweeps (with-counts x counts)) c.with_rows.ensures
+          ∙ ran.run_rows-ended.ensures.is r.e counts
           ∙ ap (λ x. run_from s.args.limit 0 false s.args.tolerance (with-counts x counts)) is-itself;
-      keeps = rw c.with_rows.ensures (ran.run-rows.ensures.holds r.e).keeps;
+      keeps = rw c.with_rows.ensures (ran.run_rows-ended.ensures.holds r.e).keeps;
     }
 
 pub run_spec : {M : Type 1} → statement M

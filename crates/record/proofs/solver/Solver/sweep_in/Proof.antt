@@ -13,68 +13,68 @@ use Rattle.record.specs.Work.{Work, work_pairs}
 use Rattle.record.specs.Worked.{Ready, work_at}
 use Rattle.record.specs.Solver.{accepted_of_under, swept_in, swept_of, value_of, work_of, worked_of}
 use Rattle.record.specs.declared.solver.Solver.{Solver}
-use Rattle.record.proofs.Outcome.{accepted, at-work, kept-ready, refuses}
+use Rattle.record.proofs.EndOfRun.{accepted, at-work, kept-ready, refuses}
 use Rattle.record.proofs.solver.Solver.sweep_in.Statement.{statement}
 use Rattle.record.proofs.solver.Solver.sweep_in.Tie as tie
 
-sweep-refusal-requires : tie.Need-sweep-refusal-requires
+sweep-refusal-requires : tie.Need-sweep_refusal-number-requires
 sweep-refusal-requires c κs = (c.requires.size, c.requires.turns)
 
-returns : tie.Need-returns
+returns : tie.Need-returns-then-number-ne0
 returns c =
-    let s = c.before.before.before in
-    refuses s.args.t1 (sweep_in s.args.order) s.requires _
-    (c.before.before.sweep-refusal.ensures ∙ sym (refused-alike s.args.order _ _)) _ c.before.if1.true c.refuse.ensures
+    let s = c in
+    refuses s.args.self (sweep_in s.args.order) s.requires _
+    (c.sweep_refusal-number.ensures ∙ sym (refused-alike s.args.order _ _)) _ c.if-number-ne0.true c.refuse.ensures
 
 -- the rows of the record, unpacked
-module _ (c : tie.After-unpacked2) where
-  abbrev first : tie.After-unpacked
-  first = c.before.before.before
+module _ (c : tie.After-unpacked-axes) where
+  abbrev first : tie.After-unpacked-matrix
+  first = c.before.before
 
-  abbrev checked : tie.Else1
-  checked = first.before.before.before
+  abbrev checked : tie.Else-number-ne0
+  checked = first.before.before
 
   abbrev start : tie.Start
   start = checked.before.before
 
   abbrev r : Solver
-  r = start.args.t1
+  r = start.args.self
 
   abbrev order : Order
   order = start.args.order
 
-  rows : work_at first.unpacked.result c.unpacked2.result r.m ≡ work_of r
-  rows = at-work r _ _ first.unpacked.ensures c.unpacked2.ensures
+  rows : work_at first.unpacked-matrix.result c.unpacked-axes.result r.m ≡ work_of r
+  rows = at-work r _ _ first.unpacked-matrix.ensures c.unpacked-axes.ensures
 
-  ready : Ready r.n first.unpacked.result c.unpacked2.result r.m
-  ready = kept-ready r _ _ first.unpacked.ensures c.unpacked2.ensures start.pre
+  ready : Ready r.n first.unpacked-matrix.result c.unpacked-axes.result r.m
+  ready = kept-ready r _ _ first.unpacked-matrix.ensures c.unpacked-axes.ensures start.requires
 
-work-pairs-requires : tie.Need-work-pairs-requires
+work-pairs-requires : tie.Need-work_pairs-made-requires
 work-pairs-requires c κs =
     let u = c.before.before in
     let s = start u in
-    let taken = sym (checked u).before.sweep-refusal.ensures ∙ (checked u).if1.false in
-    (sweep-held (r u).n (r u).m Cyclic taken, s.pre.size, sweep-accepted (r u).n (r u).m Cyclic taken, ready u)
+    let taken = sym (checked u).sweep_refusal-number.ensures ∙ (checked u).if-number-ne0.false in
+    (sweep-held (r u).n (r u).m Cyclic taken, s.requires.size, sweep-accepted (r u).n (r u).m Cyclic taken, ready u)
 
-least : tie.Need-overflow-sub-swept
+least : tie.Need-overflow_sub-made
 unfolding work_of
 least c =
     let u = c.before.before.before in
-    rw (← (c.work-pairs.ensures ∙ ap (λ w. work_pairs (r u).n w (pairs_in (order u) (r u).n)) (rows u))) at
+    rw (← (c.work_pairs-made.ensures ∙ ap (λ w. work_pairs (r u).n w (pairs_in (order u) (r u).n)) (rows u))) at
     (works-least (r u).n (work_of (r u)) (pairs_in (order u) (r u).n))
 
-returns-2 : tie.Need-returns-2
+returns-2 : tie.Need-returns
 unfolding value_of accepted_of_under swept_of worked_of
 returns-2 c =
     let u = c.before.before.before.before.before in
-    let swept = c.before.before.work-pairs.ensures ∙ ap (λ w. work_pairs (r u).n w (pairs_in (order u) (r u).n)) (rows u) in
-    accepted (r u) (sweep_in (order u)) (start u).requires _ ((checked u).before.sweep-refusal.ensures ∙ sym (refused-alike (order u) _ _)) _ _
-    (checked u).if1.false
-    (c.before.swept.ensures ∙ ap (λ (w : Work). swept_in (order u) (w.m - (r u).m)) swept)
+    let swept = c.work_pairs-made.ensures ∙ ap (λ w. work_pairs (r u).n w (pairs_in (order u) (r u).n)) (rows u) in
+    accepted (r u) (sweep_in (order u)) (start u).requires _ ((checked u).sweep_refusal-number.ensures ∙ sym (refused-alike (order u) _ _)) _ _
+    (checked u).if-number-ne0.false
+    (c.swept.ensures ∙ ap (λ (w : Work). swept_in (order u) (w.m - (r u).m)) swept)
     (c.with_rows.ensures ∙ ap (worked_of (r u)) swept)
 
-pub sweep-in-spec : {M : Type 1} → statement M
-sweep-in-spec =
+pub sweep_in_spec : {M : Type 1} → statement M
+sweep_in_spec =
     tie.close
     (tie.spec
     sweep-refusal-requires

@@ -6,7 +6,7 @@ use Rattle.record.proofs.solver.Solver.with_rows.Tie as tie
 
 returns : tie.Need-returns
 unfolding worked_of
-returns c = rw (c.before.packed.ensures, c.packed2.ensures)
+returns c = rw (c.packed-a.ensures, c.packed-v.ensures)
 
-pub with-rows-spec : {M : Type 1} → statement M
-with-rows-spec = tie.close (tie.spec (λ c κs. search rules) (λ c κs. search rules) returns)
+pub with_rows_spec : {M : Type 1} → statement M
+with_rows_spec = tie.close (tie.spec (λ c κs. search rules) (λ c κs. search rules) returns)

@@ -1,0 +1,34 @@
+-- `record::raise` meets its contract.
+use mathlib.Core.Path.{ap}
+use Prim.Native.Nat.{◌-◌, ◌≤◌}
+use native.Mathlib.Omega.{arith}
+use lib.ListN.{set}
+use Rattle.integer.specs.laws.Within.{is_within}
+use Rattle.ledger.specs.Bench.{is_bench}
+use Rattle.limits.specs.Limits.{benches}
+use Rattle.record.specs.Record.{raised}
+use Rattle.record.proofs.raise.Goals as goal
+
+pub overflow_sub-at : goal.overflow_sub-at
+unfolding is_bench
+overflow_sub-at c = omega (arith, is_within 1 benches c.args.bench c.requires)
+
+pub bounds-counts-at : goal.bounds-counts-at
+unfolding is_bench
+bounds-counts-at c = omega (arith, is_within 1 benches c.args.bench c.requires)
+
+pub bounds-after-at : goal.bounds-after-at
+unfolding is_bench
+bounds-after-at c = omega (arith, is_within 1 benches c.args.bench c.requires)
+
+pub offset_bounds-counts-at : goal.offset_bounds-counts-at
+unfolding is_bench
+offset_bounds-counts-at c = record { fits = omega (arith, is_within 1 benches c.args.bench c.requires) }
+
+pub offset_bounds-after-at : goal.offset_bounds-after-at
+unfolding is_bench
+offset_bounds-after-at c = record { fits = omega (arith, is_within 1 benches c.args.bench c.requires) }
+
+pub returns : goal.returns
+unfolding raised
+returns c = ap (set c.args.counts (c.args.bench - 1)) c.one_more.ensures

@@ -1,0 +1,12 @@
+-- `record::run::is_settled` meets its contract.
+use mathlib.Core.Path.{sym, ap, ◌∙◌}
+use Rattle.record.specs.Run.{no_pair}
+use Rattle.record.proofs.Told.{not_none}
+use Rattle.record.proofs.run.is_settled.Goals as goal
+
+pub returns-in-NoPair : goal.returns-in-NoPair
+unfolding no_pair
+returns-in-NoPair c = ap no_pair (sym c.in-NoPair.is ∙ c.loose_pair_of-answer.ensures)
+
+pub returns-in_default : goal.returns-in_default
+returns-in_default c = not_none _ c.in_default.not-NoPair ∙ ap no_pair c.loose_pair_of-answer.ensures
