@@ -16,32 +16,32 @@ use Rattle.run.proofs.run.Statement.{statement}
 use Rattle.run.proofs.run.Tie as tie
 
 -- the record after the load
-module _ (c : tie.After-load) where
+module _ (c : tie.After-load-loaded) where
   abbrev start : tie.Start
   start = c.before.before
 
   loads : Loads start.args.n start.args.numbers.now
-  loads = load-accepted 0 0 _ _ start.pre.matrix
+  loads = load-accepted 0 0 _ _ start.requires.matrix
 
-  is-loaded : c.load.result.next ≡ record_after fresh (own (load start.args.n start.args.numbers.now))
+  is-loaded : c.load-loaded.result.next ≡ record_after fresh (own (load start.args.n start.args.numbers.now))
   is-loaded =
-      c.load.ensures.leaves ∙ ap (λ r. record_after r (own (load start.args.n start.args.numbers.now))) c.before.new.ensures.is
+      c.load-loaded.ensures.leaves ∙ ap (λ r. record_after r (own (load start.args.n start.args.numbers.now))) c.before.new-fresh.ensures.is
 
-  taken : c.load.result.next ≡ record { solver = loaded_solver start.args.n start.args.numbers.now 0; refused = fresh.refused }
+  taken : c.load-loaded.result.next ≡ record { solver = loaded_solver start.args.n start.args.numbers.now 0; refused = fresh.refused }
   unfolding accepted_of_under
   taken =
-      let e = load-refusal-alone fresh.solver.n fresh.solver.m start.args.n start.args.numbers.now ∙ start.pre.matrix in
+      let e = load-refusal-alone fresh.solver.n fresh.solver.m start.args.n start.args.numbers.now ∙ start.requires.matrix in
       is-loaded ∙ own-after fresh (load start.args.n start.args.numbers.now) e
 
-  runnable : Runnable c.load.result.next start.args.limit start.args.tolerance
+  runnable : Runnable c.load-loaded.result.next start.args.limit start.args.tolerance
   unfolding loaded_solver
   runnable =
       record {
-        keeps = c.load.ensures.keeps;
+        keeps = c.load-loaded.ensures.keeps;
         loaded = rw taken (omega (arith, loads.low));
         unturned = rw taken;
-        sweeps = start.pre.sweeps;
-        tolerated = start.pre.tolerance;
+        sweeps = start.requires.sweeps;
+        tolerated = start.requires.tolerance;
       }
 
 returns : tie.Need-returns

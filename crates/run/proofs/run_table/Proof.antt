@@ -14,24 +14,24 @@ use Rattle.run.proofs.run_table.Statement.{statement}
 use Rattle.run.proofs.run_table.Tie as tie
 
 -- the record after the load
-module _ (c : tie.After-load-table) where
+module _ (c : tie.After-load_table-loaded) where
   abbrev start : tie.Start
   start = c.before.before
 
-  is-loaded : c.load-table.result ≡ loaded_record fresh start.args.n start.args.numbers.now start.args.e
+  is-loaded : c.load_table-loaded.result ≡ loaded_record fresh start.args.n start.args.numbers.now start.args.e
   is-loaded =
-      c.load-table.ensures.is
-      ∙ ap (λ r. loaded_record r start.args.n start.args.numbers.now start.args.e) c.before.new.ensures.is
+      c.load_table-loaded.ensures.is
+      ∙ ap (λ r. loaded_record r start.args.n start.args.numbers.now start.args.e) c.before.new-fresh.ensures.is
 
-  runnable : Runnable c.load-table.result start.args.limit start.args.tolerance
+  runnable : Runnable c.load_table-loaded.result start.args.limit start.args.tolerance
   unfolding loaded_solver
   runnable =
       record {
-        keeps = c.load-table.ensures.keeps;
-        loaded = rw is-loaded (omega (arith, (load-accepted 0 0 _ _ start.pre.matrix).low));
+        keeps = c.load_table-loaded.ensures.keeps;
+        loaded = rw is-loaded (omega (arith, (load-accepted 0 0 _ _ start.requires.matrix).low));
         unturned = rw is-loaded;
-        sweeps = start.pre.sweeps;
-        tolerated = start.pre.tolerance;
+        sweeps = start.requires.sweeps;
+        tolerated = start.requires.tolerance;
       }
 
 returns : tie.Need-returns
@@ -43,6 +43,6 @@ returns c =
       keeps = c.run.ensures.keeps;
     }
 
-pub run-table-spec : {M : Type 1} → statement M
-run-table-spec =
-    tie.close (tie.spec (λ c κs. search rules) (λ c κs. (c.new.ensures.keeps, c.before.requires.matrix)) (λ c κs. runnable c) returns)
+pub run_table_spec : {M : Type 1} → statement M
+run_table_spec =
+    tie.close (tie.spec (λ c κs. search rules) (λ c κs. (c.new-fresh.ensures.keeps, c.before.requires.matrix)) (λ c κs. runnable c) returns)
