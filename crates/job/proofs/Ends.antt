@@ -3,7 +3,6 @@ use Prim.Native.Nat.{ℕ, ◌+◌}
 use mathlib.Core.Path.{◌≡◌, sym, ap}
 use mathlib.Core.Bool.{true, false, cond, ◌&&◌}
 use mathlib.Core.List.{List}
-use mathlib.Core.Logic.{◌⊎◌}
 use lib.Dec.{leb, ltb, eqb, lit<, lit≤}
 use lib.ListN.{length, set, replicate}
 use Rattle.job.specs.inner.FieldScan.{field_at, tagged_at}
@@ -14,7 +13,7 @@ use Rattle.job.specs.inner.LineScan.{malformed_line, numbers_at, line_at, parame
 use Rattle.job.specs.declared.sample.Line.{Line}
 use Rattle.job.specs.declared.first.Parameters.TheVariants as P
 use Rattle.job.specs.declared.last.Ending.TheVariants as E
-use Rattle.job.proofs.Lines.{variant, numbers_more, numbers-broken, numbers-unended, numbers-last}
+use Rattle.job.proofs.Lines.{IsNotInner, IsNotLast, numbers_more, numbers-broken, numbers-unended, numbers-last}
 
 untagged : (text : List ℕ) (at tag m : ℕ) → tagged_at text at tag ≡ false → malformed_line ≡ line_at text at tag m
 unfolding line_at
@@ -33,21 +32,21 @@ module _ (text : List ℕ) where
   p-untagged t = malformed-p (untagged text 0 80 2 t)
 
   module _ (t : tagged_at text 0 80 ≡ true) (f : Field) (p : f ≡ field_at text 2) where
-    pub p-first : (variant f ≡ 1) ⊎ (variant f ≡ 2) → P.Refused 1 ≡ parameters_at text
+    pub p-first : IsNotInner f → P.Refused 1 ≡ parameters_at text
     p-first b = malformed-p (numbers-broken _ _ _ _ _ _ (tagged text 0 80 2 t) f p (lit< tt) b)
 
     module _ (n second : ℕ) (e : f ≡ Inner n second) (f' : Field) (p' : f' ≡ field_at text second) where
       after-n : line_at text 0 80 2 ≡ numbers_at text (set (replicate 9 0) 0 n) second 1 1
       after-n = numbers_more _ _ _ _ _ _ (tagged text 0 80 2 t) f p (lit< tt) n second e
 
-      pub p-second : (variant f' ≡ 1) ⊎ (variant f' ≡ 2) → P.Refused 1 ≡ parameters_at text
+      pub p-second : IsNotInner f' → P.Refused 1 ≡ parameters_at text
       p-second b = malformed-p (numbers-broken _ _ _ _ _ _ after-n f' p' (lit< tt) b)
 
       module _ (limit third : ℕ) (e' : f' ≡ Inner limit third) (f'' : Field) (p'' : f'' ≡ field_at text third) where
         after-limit : line_at text 0 80 2 ≡ numbers_at text (set (set (replicate 9 0) 0 n) 1 limit) third 2 0
         after-limit = numbers_more _ _ _ _ _ _ after-n f' p' (lit< tt) limit third e'
 
-        pub p-third : (variant f'' ≡ 0) ⊎ (variant f'' ≡ 2) → P.Refused 1 ≡ parameters_at text
+        pub p-third : IsNotLast f'' → P.Refused 1 ≡ parameters_at text
         p-third b = malformed-p (numbers-unended _ _ _ _ _ _ after-limit f'' p'' (lit≤ tt) b)
 
         pub p-whole : (tolerance next : ℕ) → f'' ≡ Last tolerance next →
@@ -65,7 +64,7 @@ module _ (text : List ℕ) (at k : ℕ) where
   e-untagged t = malformed-e (untagged text at 69 0 t)
 
   module _ (t : tagged_at text at 69 ≡ true) (f : Field) (p : f ≡ field_at text (at + 2)) where
-    pub e-first : (variant f ≡ 0) ⊎ (variant f ≡ 2) → E.Refused 1 ≡ ending_at text at k
+    pub e-first : IsNotLast f → E.Refused 1 ≡ ending_at text at k
     e-first b = malformed-e (numbers-unended _ _ _ _ _ _ (tagged text at 69 0 t) f p (lit≤ tt) b)
 
     pub e-whole : (count next : ℕ) → f ≡ Last count next →

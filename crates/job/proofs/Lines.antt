@@ -5,7 +5,6 @@ use mathlib.Core.Bool.{Bool, true, false}
 use mathlib.Core.List.{List, ◌∷◌}
 use native.Mathlib.Numerals.{add-one}
 use native.Mathlib.Omega.{arith}
-use mathlib.Core.Logic.{◌⊎◌, ⊎_elim}
 use lib.ListN.{length, get_or, set}
 use lib.Seq.{slice, slice-cons, slice_empty}
 use Rattle.integer.specs.Within.{within, all_within}
@@ -15,8 +14,6 @@ use Rattle.job.specs.declared.field.Field.TheVariants.{Inner, Last, Bad}
 use Rattle.job.specs.inner.LineScan.{malformed_line, last_number, inner_number, numbers_at}
 use Rattle.job.specs.declared.sample.Line.{Line}
 use Rattle.job.specs.declared.sample.Extent.TheVariants.{To}
-use denote.Enum.Declared.{tag_of, declared}
-use Rattle.job.specs.contracts.field.Field.{enum}
 
 -- u is the test of all the counts of a sample, which has come to number i.
 module _ (u : Bool) (xs : List ℕ) (i n low high : ℕ) (q : u ≡ all_within low high (slice i (n + 1) xs)) (l : length xs ≡ 9) (k : n ≤ 8) where
@@ -38,20 +35,23 @@ module _ (u : Bool) (xs : List ℕ) (i n low high : ℕ) (q : u ≡ all_within l
     unfolding all_within
     all_more o = q ∙ rw (first, add-one i) (simp o)
 
--- The variants of a field by their numbers.
-abbrev pub variant : Field → ℕ
-variant f = tag_of (declared enum) f
+-- A field after which no tab stands, and one after which no line feed does.
+abbrev pub IsNotInner : Field → Type 0
+IsNotInner f = (v next : ℕ) → f ≡ Inner v next → ⊥
 
-inner-only : (f : Field) (go : ℕ → ℕ → Line) → (variant f ≡ 1) ⊎ (variant f ≡ 2) → inner_number f go ≡ malformed_line
+abbrev pub IsNotLast : Field → Type 0
+IsNotLast f = (v next : ℕ) → f ≡ Last v next → ⊥
+
+inner-only : (f : Field) (go : ℕ → ℕ → Line) → IsNotInner f → inner_number f go ≡ malformed_line
 unfolding inner_number
-inner-only (Inner v next) go h = absurd (⊎_elim (λ e. omega arith) (λ e. omega arith) h)
+inner-only (Inner v next) go h = absurd (h v next refl)
 inner-only (Last v next) go h = refl
 inner-only Bad go h = refl
 
-last-only : (f : Field) (xs : List ℕ) (i : ℕ) → (variant f ≡ 0) ⊎ (variant f ≡ 2) → last_number xs i f ≡ malformed_line
+last-only : (f : Field) (xs : List ℕ) (i : ℕ) → IsNotLast f → last_number xs i f ≡ malformed_line
 unfolding last_number
 last-only (Inner v next) xs i h = refl
-last-only (Last v next) xs i h = absurd (⊎_elim (λ e. omega arith) (λ e. omega arith) h)
+last-only (Last v next) xs i h = absurd (h v next refl)
 last-only Bad xs i h = refl
 
 -- r is the line, read on from the field f at the place `at`.
@@ -66,10 +66,10 @@ module _ (r : Line) (text xs : List ℕ) (at i m : ℕ) (q : r ≡ numbers_at te
   unfolding inner_number
   numbers_more h v next g = more h ∙ rw g refl
 
-  pub numbers-broken : 0 < m → (variant f ≡ 1) ⊎ (variant f ≡ 2) → malformed_line ≡ r
+  pub numbers-broken : 0 < m → IsNotInner f → malformed_line ≡ r
   numbers-broken h g = sym (more h ∙ inner-only f _ g)
 
-  pub numbers-unended : m ≤ 0 → (variant f ≡ 0) ⊎ (variant f ≡ 2) → malformed_line ≡ r
+  pub numbers-unended : m ≤ 0 → IsNotLast f → malformed_line ≡ r
   unfolding numbers_at
   numbers-unended h g =
       let e : m ≡ 0 = omega arith in
