@@ -23,23 +23,23 @@ sized : (c : tie.Start) →
 unfolding text_of_lines
 sized c = simp length-append at c.requires.1
 
-put-line-requires : tie.Need-put-line-requires
+put-line-requires : tie.Need-put_line-at-requires
 put-line-requires c κs = (search rules, omega (arith, sized c.before.before.before.before.before))
 
-put-samples-requires : tie.Need-put-samples-requires
+put-samples-requires : tie.Need-put_samples-at-requires
 put-samples-requires c κs =
     let first = c.before.before.before in
     let start = first.before.before.before.before.before.before in
-    (start.requires.0, omega (arith, sized start, first.put-line.ensures.answer, first.put-line.auto))
+    (start.requires.0, omega (arith, sized start, first.put_line-at.ensures.answer, first.put_line-at.auto))
 
 -- The first line and the samples.
-begun : (c : tie.After-put-samples) →
+begun : (c : tie.After-put_samples-at) →
     (let a = c.before.before.before.before.before.before.before.before.before.before.args in
     Put (number_line 80 (take 3 a.first.now) ++ lines (sample_line a.n a.dilutions.now a.counts.now) (length a.dilutions.now)) 0
-    a.out.now c.put-samples.new.0 c.put-samples.result)
-begun c = put_then c.before.before.before.before.put-line.ensures c.put-samples.ensures
+    a.out.now c.put_samples-at.new.out c.put_samples-at.result)
+begun c = put_then c.before.before.before.before.put_line-at.ensures c.put_samples-at.ensures
 
-put-line-requires-2 : tie.Need-put-line-requires-2
+put-line-requires-2 : tie.Need-put_line-requires
 put-line-requires-2 c κs =
     let samples = c.before.before.before.before in
     let start = samples.before.before.before.before.before.before.before.before.before.before in
@@ -48,10 +48,10 @@ put-line-requires-2 c κs =
 
 returns : tie.Need-returns
 unfolding text_of_lines
-returns c = put-part (begun c.before.before.before.before.before.before.before) c.before.before.put-line2.ensures
+returns c = put-part (begun c.before.before.before.before.before.before.before) c.before.before.put_line.ensures
 
-pub put-text-spec : {M : Type 1} → statement M
-put-text-spec =
+pub put_text_spec : {M : Type 1} → statement M
+put_text_spec =
     tie.close
     (tie.spec
     put-line-requires

@@ -10,16 +10,16 @@ use Rattle.job_text.proofs.text_length.Tie as tie
 returns : tie.Need-returns
 unfolding text_of_lines
 returns c =
-    let last = c.numbers-length2.ensures in
-    let samples = c.before.before.samples-length.ensures in
-    let first = c.before.before.before.numbers-length.ensures in
+    let last = c.numbers_length-2.ensures in
+    let samples = c.before.before.samples_length.ensures in
+    let first = c.before.before.before.numbers_length.ensures in
     record {
       exact = simp (length-append, length-number-line) (omega (arith, first.exact, samples.exact, last.exact));
       bounded = omega (arith, first.bounded, samples.bounded, last.bounded);
     }
 
-pub text-length-spec : {M : Type 1} → statement M
-text-length-spec =
+pub text_length_spec : {M : Type 1} → statement M
+text_length_spec =
     tie.close
     (tie.spec
     (λ c κs. search rules)

@@ -19,11 +19,11 @@ use Rattle.job_text.proofs.Writer.{taken-proper}
 use Rattle.job_text.proofs.write_job.Statement.{statement}
 use Rattle.job_text.proofs.write_job.Tie as tie
 
-returns : tie.Need-returns
-returns c = refused _ _ _ _ c.before.job-refusal.ensures c.if1.true
+returns : tie.Need-returns-then-number-ne0
+returns c = refused _ _ _ _ c.before.job_refusal-number.ensures c.if-number-ne0.true
 
 -- What is not refused.
-module _ (c : tie.Else1) where
+module _ (c : tie.Else-number-ne0) where
   abbrev start : tie.Start
   start = c.before.before.before.before.before
 
@@ -31,7 +31,7 @@ module _ (c : tie.Else1) where
   job = let a = start.args in job_with a.n a.limit a.tolerance a.dilutions.now a.counts.now
 
   not-refused : job_refusal job.n job.limit job.tolerance job.dilutions job.counts ≡ 0
-  not-refused = sym c.before.job-refusal.ensures ∙ c.if1.false
+  not-refused = sym c.before.job_refusal-number.ensures ∙ c.if-number-ne0.false
 
   proper : Proper job
   proper = taken-proper job not-refused
@@ -47,27 +47,27 @@ module _ (c : tie.Else1) where
     to_z_pos w64 {n = length job.dilutions} (omega (arith, (number job proper).1)),
   )
 
-returns-2 : tie.Need-returns-2
+returns-2 : tie.Need-returns-then-out-length
 returns-2 c =
     let l = c.before in
     let e = l.before.before.before in
-    short _ _ _ (not-refused e) (omega (arith, l.text-length.ensures.exact ∙ ap length (text e), c.if2.true))
+    short _ _ _ (not-refused e) (omega (arith, l.text_length-length.ensures.exact ∙ ap length (text e), c.if-out-length.true))
 
-put-text-requires : tie.Need-put-text-requires
+put-text-requires : tie.Need-put_text-requires
 put-text-requires c κs =
     let t = c.before.before.before in
     let l = t.before in
     let e = l.before.before.before in
-    (readings (job e) (proper e), omega (arith, l.text-length.ensures.exact, t.if2.false))
+    (readings (job e) (proper e), omega (arith, l.text_length-length.ensures.exact, t.if-out-length.false))
 
-returns-3 : tie.Need-returns-3
+returns-3 : tie.Need-returns
 returns-3 c =
     let put = c.before.before in
     let e = put.before.before.before.before.before.before.before.before in
-    written _ _ _ (not-refused e) (same-put (text e) put.put-text.ensures)
+    written _ _ _ (not-refused e) (same-put (text e) put.put_text.ensures)
 
-pub write-job-spec : {M : Type 1} → statement M
-write-job-spec =
+pub write_job_spec : {M : Type 1} → statement M
+write_job_spec =
     tie.close
     (tie.spec
     (λ c κs. search rules)
