@@ -17,18 +17,18 @@ sized : (c : tie.Start)
 unfolding text_of_rows
 sized c = rw length-append at c.requires.2
 
-put-line-requires : tie.Need-put-line-requires
+put-line-requires : tie.Need-put_line-at-requires
 put-line-requires c κs = (search rules, omega (arith, sized c.before.before.before))
 
-put-rows-requires : tie.Need-put-rows-requires
+put-rows-requires : tie.Need-put_rows-requires
 put-rows-requires c κs =
     let first = c.before.before.before in
     let start = first.before.before.before.before in
-    (start.requires.0, omega (arith, start.requires.0), start.requires.1, omega (arith, sized start, first.put-line.ensures.answer, first.put-line.auto))
+    (start.requires.0, omega (arith, start.requires.0), start.requires.1, omega (arith, sized start, first.put_line-at.ensures.answer, first.put_line-at.auto))
 
 returns : tie.Need-returns
 unfolding text_of_rows
-returns c = let rows = c.before.before in put_then rows.before.before.before.before.put-line.ensures rows.put-rows.ensures
+returns c = let rows = c.before.before in put_then rows.before.before.before.before.put_line-at.ensures rows.put_rows.ensures
 
-pub put-text-spec : {M : Type 1} → statement M
-put-text-spec = tie.close (tie.spec put-line-requires (λ c. search rules) put-rows-requires (λ c. search rules) returns)
+pub put_text_spec : {M : Type 1} → statement M
+put_text_spec = tie.close (tie.spec put-line-requires (λ c. search rules) put-rows-requires (λ c. search rules) returns)

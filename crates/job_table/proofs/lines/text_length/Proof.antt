@@ -10,16 +10,16 @@ use Rattle.job_table.proofs.lines.text_length.Tie as tie
 returns : tie.Need-returns
 unfolding text_of_rows
 returns c =
-    let first = c.before.numbers-length.ensures in
-    let rows = c.rows-length.ensures in
+    let first = c.before.numbers_length.ensures in
+    let rows = c.rows_length.ensures in
     let n = c.before.before.before.requires.0 in
     record {
       exact = rw (length-append, length-number-line) (omega (arith, first.exact, rows.exact 83));
       bounded = omega (arith, first.bounded, rows.bounded);
     }
 
-pub text-length-spec : {M : Type 1} → statement M
-text-length-spec =
+pub text_length_spec : {M : Type 1} → statement M
+text_length_spec =
     tie.close
     (tie.spec
     (λ c κs. search rules)

@@ -34,19 +34,19 @@ module _ (number : ℕ) (sums : List ℤ) (at : ℕ) where
       by (yes e) = rw e
       by (no d) = let e : p ≡ 10 = omega arith in rw e
 
-abbrev invariant-loop : tie.invariant-loop
+abbrev invariant-loop : tie.invariant-loop-j
 invariant-loop number sums at row₀ j₀ row j = (j ≤ 8) × Filled (pos 0) (target number sums at) (replicate 11 (pos 0)) row (suc j)
 
-abbrev decreases-loop : tie.decreases-loop
+abbrev decreases-loop : tie.decreases-loop-j
 decreases-loop number sums at row₀ j₀ row j = 8 - j
 
-loop-holds : tie.Need-loop-init invariant-loop decreases-loop
+loop-holds : tie.Need-loop-j-init invariant-loop decreases-loop
 loop-holds c = (omega arith, filled_more filled_none 0 1 _ refl refl (omega arith) (to_z_pos w64 (omega arith)))
 
-loop-again : tie.Need-loop-preserved invariant-loop decreases-loop
+loop-again : tie.Need-loop-j-preserved invariant-loop decreases-loop
 loop-again c =
     let s = c.before.before.before in
-    let l = c.before.before.loop in
+    let l = c.before.before.loop-j in
     let f : SFits w64 (get_or s.args.sums.now (s.args.at + l.j) (pos 0)) = search rules in (
       omega arith,
       filled_more l.invariant.1 (l.j + 1) _ _ (add-one l.j) (omega arith) (omega (arith, l.invariant.1.size))
@@ -57,12 +57,12 @@ returns : tie.Need-returns invariant-loop decreases-loop
 unfolding tabulate
 returns c =
     let s = c.before.before in
-    let l = c.before.loop in
+    let l = c.before.loop-j in
     filled-all (filled-skip l.invariant.1 11 (omega arith) (λ p h k. nothing s.args.number s.args.sums.now s.args.at p (omega arith) k))
     refl (omega arith)
 
-pub row-from-spec : {M : Type 1} → statement M
-row-from-spec =
+pub row_from_spec : {M : Type 1} → statement M
+row_from_spec =
     tie.close
     (tie.spec
     invariant-loop

@@ -11,9 +11,9 @@ use Rattle.job_table.proofs.rows.row_of.Tie as tie
 start : (c : tie.Start) → c.args.i * c.args.n ≤ 56
 start c = mul-le-mul {n₂ = 7} {m₂ = 8} (omega arith) c.requires.0
 
-pub row-of-spec : {M : Type 1} → statement M
+pub row_of_spec : {M : Type 1} → statement M
 unfolding table_row matrix_of
-row-of-spec =
+row_of_spec =
     tie.close
     (tie.spec
     (λ c. search rules)

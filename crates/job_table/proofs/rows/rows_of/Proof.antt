@@ -10,17 +10,17 @@ returns : tie.Need-returns
 unfolding table_rows tabulate
 returns c k =
     c.before.before.before.before.before.before.before.row_of.ensures k
-    ∷ c.before.before.before.before.before.before.row-of2.ensures k
-    ∷ c.before.before.before.before.before.row-of3.ensures k
-    ∷ c.before.before.before.before.row-of4.ensures k
-    ∷ c.before.before.before.row-of5.ensures k
-    ∷ c.before.before.row-of6.ensures k
-    ∷ c.before.row-of7.ensures k
-    ∷ c.row-of8.ensures k
+    ∷ c.before.before.before.before.before.before.row_of-2.ensures k
+    ∷ c.before.before.before.before.before.row_of-3.ensures k
+    ∷ c.before.before.before.before.row_of-4.ensures k
+    ∷ c.before.before.before.row_of-5.ensures k
+    ∷ c.before.before.row_of-6.ensures k
+    ∷ c.before.row_of-7.ensures k
+    ∷ c.row_of-8.ensures k
     ∷ []
 
-pub rows-of-spec : {M : Type 1} → statement M
-rows-of-spec =
+pub rows_of_spec : {M : Type 1} → statement M
+rows_of_spec =
     tie.close
     (tie.spec
     (λ c κs. search rules)
