@@ -5,7 +5,7 @@ ghost use Rattle.std.specs.Prelude.{◌≤◌, ◌++◌, length, take};
 ghost use Rattle.text.specs.Put.{Put};
 ghost use Rattle.text.specs.Line.{number_line, word_line};
 
-use libc::STDOUT_FILENO;
+use std::io;
 
 // Two lines: the second is written into the part of the buffer that starts where the first ended.
 fn two_lines(buf: &mut [u8], values: &[i64], n: usize, word: &[u8]) -> usize
@@ -18,7 +18,7 @@ fn two_lines(buf: &mut [u8], values: &[i64], n: usize, word: &[u8]) -> usize
     at + text::line::put_word_line(&mut buf[at..], b'R', values, n, word)
 }
 
-fn main() {
+fn main(rt: HostRuntime) -> io::Result<()> {
     let values = [
         0i64,
         9,
@@ -30,5 +30,5 @@ fn main() {
     ];
     let mut buffer = [0u8; 512];
     let end = two_lines(&mut buffer, &values, 7, b"settled");
-    io::write_all(STDOUT_FILENO, &buffer[..end]);
+    rt.write_all(&buffer[..end])
 }

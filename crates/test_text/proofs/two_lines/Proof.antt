@@ -6,27 +6,27 @@ use Rattle.text.specs.laws.Put.{put-part, part-size}
 use Rattle.test_text.proofs.two_lines.Statement.{statement}
 use Rattle.test_text.proofs.two_lines.Tie as tie
 
-put-line-requires : tie.Need-put-line-requires
+put-line-requires : tie.Need-put_line-at-requires
 put-line-requires c κs =
     let start = c.before.before.before in
     let room = rw length-append at start.requires.1 in
     (start.requires.0, omega arith)
 
-put-word-line-requires : tie.Need-put-word-line-requires
+put-word-line-requires : tie.Need-put_word_line-requires
 put-word-line-requires c κs =
     let first = c.before.before.before in
     let start = first.before.before.before.before in
     let room = rw length-append at start.requires.1 in
-    (start.requires.0, omega (arith, part-size first.put-line.ensures, first.put-line.ensures.answer))
+    (start.requires.0, omega (arith, part-size first.put_line-at.ensures, first.put_line-at.ensures.answer))
 
 returns : tie.Need-returns
 returns c =
     let second = c.before.before in
     let first = second.before.before.before.before in
-    put-part first.put-line.ensures second.put-word-line.ensures
+    put-part first.put_line-at.ensures second.put_word_line.ensures
 
-pub two-lines-spec : {M : Type 1} → statement M
-two-lines-spec =
+pub two_lines_spec : {M : Type 1} → statement M
+two_lines_spec =
     tie.close
     (tie.spec
     put-line-requires
