@@ -19,8 +19,8 @@ ghost use Rattle.std.specs.Prelude.{◌^◌, ◌<◌, ◌≤◌};
 ghost use Rattle.sums.specs.inner.Ranges.{Room};
 ghost use Rattle.test_tables.specs.Limit.{limit_of};
 
-use libc::STDOUT_FILENO;
 use scatter::table::Table;
+use std::io;
 
 fn draw(a: u64) -> u64
     requires { a < 2 ^ 32 }
@@ -124,44 +124,35 @@ fn table_at(c: u64) -> Table
     scatter::table::table_of_readings(n, &dilutions[..k], &counts[..held])
 }
 
-fn print_entry(u: i64) {
-    if u < 0 {
-        io::write_all(STDOUT_FILENO, b"\t-");
-    } else {
-        io::write_all(STDOUT_FILENO, b"\t");
-    }
-    io::print_decimal(STDOUT_FILENO, integer::magnitude(u));
+fn print_entry(rt: &impl Print, u: i64) -> io::Result<()> {
+    print!(rt; "\t{u}")
 }
 
-fn print_entries(entries: &[i64; 64], count: usize)
+fn print_entries(rt: &impl Print, entries: &[i64; 64], count: usize) -> io::Result<()>
     requires { count ≤ 64 }
 {
-    let mut p = 0;
-    while p < count {
-        print_entry(entries[p]);
-        p += 1;
+    for u in &entries[..count] {
+        print_entry(rt, *u)?;
     }
+    Ok(())
 }
 
-fn print_table(c: u64)
+fn print_table(rt: &impl Print, c: u64) -> io::Result<()>
     requires { c < 210 }
 {
     let n = channels_of(c);
+    let k = samples_of(c);
     let t = table_at(c);
-    io::print_decimal(STDOUT_FILENO, n as u64);
-    io::write_all(STDOUT_FILENO, b"\t");
-    io::print_decimal(STDOUT_FILENO, samples_of(c) as u64);
-    io::write_all(STDOUT_FILENO, b"\t");
-    io::print_decimal(STDOUT_FILENO, t.e as u64);
+    let e = t.e;
+    print!(rt; "{n}\t{k}\t{e}")?;
     let entries = t.entries;
-    print_entries(&entries, n * n);
-    io::write_all(STDOUT_FILENO, b"\n");
+    print_entries(rt, &entries, n * n)?;
+    println!(rt)
 }
 
-fn main() {
-    let mut c = 0;
-    while c < 210 {
-        print_table(c);
-        c += 1;
+fn main(rt: HostRuntime) -> io::Result<()> {
+    for c in 0..210 {
+        print_table(&rt, c)?;
     }
+    Ok(())
 }

@@ -3,14 +3,14 @@ use borrow.Author.Rules.{rules}
 use Rattle.test_tables.proofs.reading_at.Statement.{statement}
 use Rattle.test_tables.proofs.reading_at.Tie as tie
 
-returns : tie.Need-returns
-returns c = rw c.before.if1.true c.count_at.ensures
+returns : tie.Need-returns-then-counts
+returns c = rw c.before.if-counts.true c.count_at.ensures
 
-returns-2 : tie.Need-returns-2
-returns-2 c = rw c.before.if1.false c.dilution-at.ensures
+returns-2 : tie.Need-returns-else-counts
+returns-2 c = rw c.before.if-counts.false c.dilution_at.ensures
 
-pub reading-at-spec : {M : Type 1} → statement M
-reading-at-spec =
+pub reading_at_spec : {M : Type 1} → statement M
+reading_at_spec =
     tie.close
     (tie.spec
     (λ c κs. search rules)

@@ -7,17 +7,17 @@ use Rattle.test_tables.proofs.Rooms.{room-zeros, room-set}
 use Rattle.test_tables.proofs.readings_of.Statement.{statement}
 use Rattle.test_tables.proofs.readings_of.Tie as tie
 
-abbrev invariant-loop : tie.invariant-loop
+abbrev invariant-loop : tie.invariant-loop-p
 invariant-loop c n counts readings₀ p₀ readings p = (p ≤ 2048) × Room 2048 (limit_of counts) readings
 
-abbrev decreases-loop : tie.decreases-loop
+abbrev decreases-loop : tie.decreases-loop-p
 decreases-loop c n counts readings₀ p₀ readings p = 2048 - p
 
-loop-again : tie.Need-loop-preserved invariant-loop decreases-loop
-loop-again c = (search rules, room-set c.before.before.loop.invariant.1 _ _ (search rules) c.reading-at.ensures)
+loop-again : tie.Need-loop-p-preserved invariant-loop decreases-loop
+loop-again c = (search rules, room-set c.before.before.loop-p.invariant.1 _ _ (search rules) c.reading_at.ensures)
 
-pub readings-of-spec : {M : Type 1} → statement M
-readings-of-spec =
+pub readings_of_spec : {M : Type 1} → statement M
+readings_of_spec =
     tie.close
     (tie.spec
     invariant-loop
@@ -29,4 +29,4 @@ readings-of-spec =
     (λ c. search rules)
     (λ c. search rules)
     loop-again
-    (λ c. c.before.loop.invariant.1))
+    (λ c. c.before.loop-p.invariant.1))
