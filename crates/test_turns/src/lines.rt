@@ -3,90 +3,91 @@ ghost use Rattle.std.specs.Prelude.{◌<◌, ◌≤◌, ◌+◌, ◌/◌, ◌^�
 
 use crate::{generator, text};
 use choice::Choice;
+use std::io;
 use turn::pair::Rotation;
 
 // R u w rnd(u/w)
-pub fn rounded(k: u64)
+pub fn rounded(rt: &impl Print, k: u64) -> io::Result<()>
     requires { k < 2 ^ 20 }
 {
     let u = generator::value(8 * k, 0x4010_0000_0000_0000);
     let w = generator::size(8 * k + 1, 0x7ff_ffff_ffff) + 1;
-    io::write_all(1, b"R");
-    text::number(u);
-    text::natural(w);
-    text::number(rounding::nearest(u, w));
-    text::end();
+    print!(rt; "R")?;
+    text::number(rt, u)?;
+    text::natural(rt, w)?;
+    text::number(rt, rounding::nearest(u, w))?;
+    text::end(rt)
 }
 
 // R u w rnd(u/w), of every u and w that rounding takes
-fn rounded_of(u: i64, w: u64)
+fn rounded_of(rt: &impl Print, u: i64, w: u64) -> io::Result<()>
     requires { (0 < w) × (w < 2 ^ 63) × (nat_abs u + w / 2 < 2 ^ 63) }
 {
-    io::write_all(1, b"R");
-    text::number(u);
-    text::natural(w);
-    text::number(rounding::nearest(u, w));
-    text::end();
+    print!(rt; "R")?;
+    text::number(rt, u)?;
+    text::natural(rt, w)?;
+    text::number(rt, rounding::nearest(u, w))?;
+    text::end(rt)
 }
 
 // The largest u for the smallest w, and for the largest w the least u that is rounded away from zero and the greatest that is not.
-pub fn largest_rounded() {
-    rounded_of(9_223_372_036_854_775_807, 1);
-    rounded_of(-9_223_372_036_854_775_807, 1);
-    rounded_of(4_611_686_018_427_387_904, 9_223_372_036_854_775_807);
-    rounded_of(-4_611_686_018_427_387_904, 9_223_372_036_854_775_807);
-    rounded_of(4_611_686_018_427_387_903, 9_223_372_036_854_775_807);
-    rounded_of(-4_611_686_018_427_387_903, 9_223_372_036_854_775_807);
+pub fn largest_rounded(rt: &impl Print) -> io::Result<()> {
+    rounded_of(rt, 9_223_372_036_854_775_807, 1)?;
+    rounded_of(rt, -9_223_372_036_854_775_807, 1)?;
+    rounded_of(rt, 4_611_686_018_427_387_904, 9_223_372_036_854_775_807)?;
+    rounded_of(rt, -4_611_686_018_427_387_904, 9_223_372_036_854_775_807)?;
+    rounded_of(rt, 4_611_686_018_427_387_903, 9_223_372_036_854_775_807)?;
+    rounded_of(rt, -4_611_686_018_427_387_903, 9_223_372_036_854_775_807)
 }
 
 // H u w rnd(u/w), with w even and u a multiple of w/2: a half where it is an odd one
-pub fn half(k: u64)
+pub fn half(rt: &impl Print, k: u64) -> io::Result<()>
     requires { k < 2 ^ 20 }
 {
     let h = generator::size(8 * k + 2, 0x3ff_ffff_ffff) + 1;
     let size = generator::product(generator::size(8 * k + 3, 0x4_0000), h);
     let u = generator::with_sign(8 * k + 3, size);
-    io::write_all(1, b"H");
-    text::number(u);
-    text::natural(2 * h);
-    text::number(rounding::nearest(u, 2 * h));
-    text::end();
+    print!(rt; "H")?;
+    text::number(rt, u)?;
+    text::natural(rt, 2 * h)?;
+    text::number(rt, rounding::nearest(u, 2 * h))?;
+    text::end(rt)
 }
 
-fn sign(minus: bool) {
+fn sign(rt: &impl Print, minus: bool) -> io::Result<()> {
     if minus {
-        io::write_all(1, b"\t-1");
+        print!(rt; "\t-1")
     } else {
-        io::write_all(1, b"\t1");
+        print!(rt; "\t1")
     }
 }
 
 // l and f of a choice, or none
-fn chosen(choice: Choice) {
+fn chosen(rt: &impl Print, choice: Choice) -> io::Result<()> {
     match choice {
         Choice::Turn { l, minus } => {
-            text::natural(l as u64);
-            sign(minus);
+            text::natural(rt, l as u64)?;
+            sign(rt, minus)?;
         }
         Choice::NoTurn => {
-            io::write_all(1, b"\tnone");
+            print!(rt; "\tnone")?;
         }
     }
-    text::end();
+    text::end(rt)
 }
 
 // C a_pp a_qq a_pq, then l and f
-pub fn choice(k: u64)
+pub fn choice(rt: &impl Print, k: u64) -> io::Result<()>
     requires { k < 2 ^ 20 }
 {
     let app = generator::value(8 * k + 4, 0x4_0000_0700);
     let aqq = generator::value(8 * k + 5, 0x4_0000_0700);
     let apq = generator::value(8 * k + 6, 0x4_0000_0700);
-    io::write_all(1, b"C");
-    text::number(app);
-    text::number(aqq);
-    text::number(apq);
-    chosen(choice::choose_turn(app, aqq, apq));
+    print!(rt; "C")?;
+    text::number(rt, app)?;
+    text::number(rt, aqq)?;
+    text::number(rt, apq)?;
+    chosen(rt, choice::choose_turn(app, aqq, apq))
 }
 
 // The largest g that T_l lets through beside |a_pq| = m: the whole part of 2m × 2^24 / T_l
@@ -98,43 +99,52 @@ fn largest_gap(m: u64, l: u32) -> u64
 }
 
 // B a_qq a_pq, then l and f, for a_pp = 0 and an a_qq at a threshold: the last that T_l lets through, or the next
-pub fn bound(k: u64)
+pub fn bound(rt: &impl Print, k: u64) -> io::Result<()>
     requires { k < 2 ^ 20 }
 {
     let m = generator::size(8 * k + 7, 511) + 1;
     let g = largest_gap(m, generator::pick(k, 14) as u32 + 1) + k % 2;
     let aqq = generator::with_sign(8 * k, g);
     let apq = generator::with_sign(8 * k + 7, m);
-    io::write_all(1, b"B");
-    text::number(aqq);
-    text::number(apq);
-    chosen(choice::choose_turn(0, aqq, apq));
+    print!(rt; "B")?;
+    text::number(rt, aqq)?;
+    text::number(rt, apq)?;
+    chosen(rt, choice::choose_turn(0, aqq, apq))
 }
 
 // T n p q l f, then a digest of the new matrix and one of the new axes; both in whole where k is a multiple of 32
-fn turned(k: u64, n: usize, p: usize, q: usize, l: u32, minus: bool)
+fn turned(
+    rt: &impl Print,
+    k: u64,
+    n: usize,
+    p: usize,
+    q: usize,
+    l: u32,
+    minus: bool,
+) -> io::Result<()>
     requires { (k < 2 ^ 20) × (p < q) × (q < n) × (n ≤ 8) × (1 ≤ l) × (l ≤ 14) }
 {
     let r = Rotation::of(l, minus);
     let a = turn::turn_matrix(generator::matrix(4096 * k), n, r, p, q);
     let mut v = generator::axes(4096 * k + 1024);
     turn::turn_axes(&mut v, n, r, p, q);
-    io::write_all(1, b"T");
-    text::natural(n as u64);
-    text::natural(p as u64 + 1);
-    text::natural(q as u64 + 1);
-    text::natural(l as u64);
-    sign(minus);
-    text::natural(text::digest(&a));
-    text::natural(text::digest(&v));
-    text::end();
+    print!(rt; "T")?;
+    text::natural(rt, n as u64)?;
+    text::natural(rt, p as u64 + 1)?;
+    text::natural(rt, q as u64 + 1)?;
+    text::natural(rt, l as u64)?;
+    sign(rt, minus)?;
+    text::natural(rt, text::digest(&a))?;
+    text::natural(rt, text::digest(&v))?;
+    text::end(rt)?;
     if k % 32 == 0 {
-        text::array(&a);
-        text::array(&v);
+        text::array(rt, &a)?;
+        text::array(rt, &v)?;
     }
+    Ok(())
 }
 
-pub fn turn(k: u64)
+pub fn turn(rt: &impl Print, k: u64) -> io::Result<()>
     requires { k < 2 ^ 20 }
 {
     let n = generator::pick(4 * k, 7) + 2;
@@ -142,11 +152,12 @@ pub fn turn(k: u64)
     let p = generator::pick(4 * k + 2, q);
     let l = generator::pick(4 * k + 3, 14) + 1;
     turned(
+        rt,
         k,
         n as usize,
         p as usize,
         q as usize,
         l as u32,
         generator::minus(k),
-    );
+    )
 }

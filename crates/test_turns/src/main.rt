@@ -10,15 +10,15 @@ mod generator;
 mod lines;
 mod text;
 
-fn main() {
-    let mut k: u64 = 0;
-    while k < 300 {
-        lines::rounded(k);
-        lines::half(k);
-        lines::choice(k);
-        lines::bound(k);
-        lines::turn(k);
-        k += 1;
+use std::io;
+
+fn main(rt: HostRuntime) -> io::Result<()> {
+    for k in 0..300 {
+        lines::rounded(&rt, k)?;
+        lines::half(&rt, k)?;
+        lines::choice(&rt, k)?;
+        lines::bound(&rt, k)?;
+        lines::turn(&rt, k)?;
     }
-    lines::largest_rounded();
+    lines::largest_rounded(&rt)
 }

@@ -1,33 +1,28 @@
 // Lines of text: a letter, then numbers, each after a tab.
 
-pub fn number(x: i64) {
-    if x < 0 {
-        io::write_all(1, b"\t-");
-    } else {
-        io::write_all(1, b"\t");
-    }
-    io::print_decimal(1, integer::magnitude(x));
+use std::io;
+
+pub fn number(rt: &impl Print, x: i64) -> io::Result<()> {
+    print!(rt; "\t{x}")
 }
 
-pub fn natural(x: u64) {
-    io::write_all(1, b"\t");
-    io::print_decimal(1, x);
+pub fn natural(rt: &impl Print, x: u64) -> io::Result<()> {
+    print!(rt; "\t{x}")
 }
 
-pub fn end() {
-    io::write_all(1, b"\n");
+pub fn end(rt: &impl Print) -> io::Result<()> {
+    println!(rt)
 }
 
 // Eight lines of eight numbers.
-pub fn array(a: &[[i64; 8]; 8]) {
-    let mut k: usize = 0;
-    while k < 64 {
-        number(a[k / 8][k % 8]);
-        if k % 8 == 7 {
-            end();
+pub fn array(rt: &impl Print, a: &[[i64; 8]; 8]) -> io::Result<()> {
+    for row in a {
+        for x in row {
+            number(rt, *x)?;
         }
-        k += 1;
+        end(rt)?;
     }
+    Ok(())
 }
 
 fn folded(sum: u64, x: i64) -> u64 {

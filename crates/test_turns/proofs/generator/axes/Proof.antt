@@ -15,17 +15,17 @@ returns c =
     let s = c.before.before.before.before.before.before.before.before in
     let e = gathered (λ i. row_of (s.args.base + 64 * (i + 1)) (2 ^ 30 + 448))
     c.before.before.before.before.before.before.before.row.ensures
-    c.before.before.before.before.before.before.row2.ensures
-    c.before.before.before.before.before.row3.ensures
-    c.before.before.before.before.row4.ensures
-    c.before.before.before.row5.ensures
-    c.before.before.row6.ensures
-    c.before.row7.ensures
-    c.row8.ensures in
+    c.before.before.before.before.before.before.row-2.ensures
+    c.before.before.before.before.before.row-3.ensures
+    c.before.before.before.before.row-4.ensures
+    c.before.before.before.row-5.ensures
+    c.before.before.row-6.ensures
+    c.before.row-7.ensures
+    c.row-8.ensures in
     (e, subst Small (sym e) (axes_of-small _))
 
-pub axes-spec : {M : Type 1} → statement M
-axes-spec =
+pub axes_spec : {M : Type 1} → statement M
+axes_spec =
     tie.close
     (tie.spec
     (λ c. search rules)

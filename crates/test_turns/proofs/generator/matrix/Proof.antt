@@ -17,17 +17,17 @@ returns c =
     let s = c.before.before.before.before.before.before.before.before in
     let e = gathered (λ i. row_of (s.args.base + offset i) widest)
     c.before.before.before.before.before.before.before.row.ensures
-    c.before.before.before.before.before.before.row2.ensures
-    c.before.before.before.before.before.row3.ensures
-    c.before.before.before.before.row4.ensures
-    c.before.before.before.row5.ensures
-    c.before.before.row6.ensures
-    c.before.row7.ensures
-    c.row8.ensures in
+    c.before.before.before.before.before.before.row-2.ensures
+    c.before.before.before.before.before.row-3.ensures
+    c.before.before.before.before.row-4.ensures
+    c.before.before.before.row-5.ensures
+    c.before.before.row-6.ensures
+    c.before.row-7.ensures
+    c.row-8.ensures in
     (e, subst Small (sym e) (matrix_of-small _), subst SymmetricRows (sym e) (matrix_of-symmetric _))
 
-pub matrix-spec : {M : Type 1} → statement M
-matrix-spec =
+pub matrix_spec : {M : Type 1} → statement M
+matrix_spec =
     tie.close
     (tie.spec
     (λ c. search rules)

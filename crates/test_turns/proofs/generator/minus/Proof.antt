@@ -6,5 +6,5 @@ use Rattle.test_turns.proofs.generator.minus.Tie as tie
 returns : tie.Need-returns
 returns c = rw c.draw.ensures
 
-pub minus-spec : {M : Type 1} → statement M
-minus-spec = tie.close (tie.spec (λ c. search rules) (λ c. search rules) (λ c κs. search rules) returns)
+pub minus_spec : {M : Type 1} → statement M
+minus_spec = tie.close (tie.spec (λ c. search rules) (λ c. search rules) (λ c κs. search rules) returns)

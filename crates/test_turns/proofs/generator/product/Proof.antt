@@ -8,5 +8,5 @@ use Rattle.test_turns.proofs.generator.product.Tie as tie
 most : (c : tie.Start) → c.args.x * c.args.y ≤ 2 ^ 60
 most c = mul-le-mul c.requires.0 c.requires.1
 
-pub product-spec : {M : Type 1} → statement M
-product-spec = tie.close (tie.spec (λ c. record { fits = omega (arith, most c) }) (λ c. most c))
+pub product_spec : {M : Type 1} → statement M
+product_spec = tie.close (tie.spec (λ c. record { fits = omega (arith, most c) }) (λ c. most c))

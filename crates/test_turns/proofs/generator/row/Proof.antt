@@ -12,19 +12,19 @@ unfolding row_of eight
 returns c i =
     word {x = c.before.before.before.before.before.before.before.value.result} (search rules)
     c.before.before.before.before.before.before.before.value.ensures.0 i ∷
-    word {x = c.before.before.before.before.before.before.value2.result} (search rules)
-    c.before.before.before.before.before.before.value2.ensures.0 i ∷
-    word {x = c.before.before.before.before.before.value3.result} (search rules)
-    c.before.before.before.before.before.value3.ensures.0 i ∷
-    word {x = c.before.before.before.before.value4.result} (search rules) c.before.before.before.before.value4.ensures.0 i ∷
-    word {x = c.before.before.before.value5.result} (search rules) c.before.before.before.value5.ensures.0 i ∷
-    word {x = c.before.before.value6.result} (search rules) c.before.before.value6.ensures.0 i ∷
-    word {x = c.before.value7.result} (search rules) c.before.value7.ensures.0 i ∷
-    word {x = c.value8.result} (search rules) c.value8.ensures.0 i ∷
+    word {x = c.before.before.before.before.before.before.value-2.result} (search rules)
+    c.before.before.before.before.before.before.value-2.ensures.0 i ∷
+    word {x = c.before.before.before.before.before.value-3.result} (search rules)
+    c.before.before.before.before.before.value-3.ensures.0 i ∷
+    word {x = c.before.before.before.before.value-4.result} (search rules) c.before.before.before.before.value-4.ensures.0 i ∷
+    word {x = c.before.before.before.value-5.result} (search rules) c.before.before.before.value-5.ensures.0 i ∷
+    word {x = c.before.before.value-6.result} (search rules) c.before.before.value-6.ensures.0 i ∷
+    word {x = c.before.value-7.result} (search rules) c.before.value-7.ensures.0 i ∷
+    word {x = c.value-8.result} (search rules) c.value-8.ensures.0 i ∷
     []
 
-pub row-spec : {M : Type 1} → statement M
-row-spec =
+pub row_spec : {M : Type 1} → statement M
+row_spec =
     tie.close
     (tie.spec
     (λ c. search rules)

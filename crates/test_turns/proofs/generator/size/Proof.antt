@@ -7,11 +7,11 @@ use Rattle.test_turns.proofs.generator.size.Tie as tie
 
 returns : tie.Need-returns
 returns c =
-    rw (c.size-from.ensures, c.before.draw3.ensures, c.before.before.draw2.ensures, c.before.before.before.draw.ensures)
+    rw (c.size_from.ensures, c.before.draw-3.ensures, c.before.before.draw-2.ensures, c.before.before.before.draw.ensures)
     (refl, size_from-most _ _ _ c.before.before.before.before.requires.1)
 
-pub size-spec : {M : Type 1} → statement M
-size-spec =
+pub size_spec : {M : Type 1} → statement M
+size_spec =
     tie.close
     (tie.spec
     (λ c. search rules)

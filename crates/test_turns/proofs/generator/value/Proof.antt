@@ -11,10 +11,10 @@ use Rattle.test_turns.proofs.generator.value.Tie as tie
 returns : tie.Need-returns
 unfolding value_of
 returns c =
-    let f : SFits w64 c.with-sign.result = search rules in
+    let f : SFits w64 c.with_sign.result = search rules in
     rw (to_z-of_z f) (
-      rw (c.with-sign.ensures.0, c.before.size.ensures.0),
-      omega (arith, c.with-sign.ensures.1, c.before.size.ensures.1),
+      rw (c.with_sign.ensures.0, c.before.size.ensures.0),
+      omega (arith, c.with_sign.ensures.1, c.before.size.ensures.1),
     )
 
 pub value_spec : {M : Type 1} → statement M

@@ -10,8 +10,8 @@ use Rattle.test_turns.proofs.generator.with_sign.Tie as tie
 
 returns : tie.Need-returns
 returns c =
-    let f : SFits w64 c.with-sign.result = search rules in
-    rw (to_z-of_z f, c.with-sign.ensures, c.before.minus.ensures) (refl, signed-size _ _)
+    let f : SFits w64 c.with_sign.result = search rules in
+    rw (to_z-of_z f, c.with_sign.ensures, c.before.minus.ensures) (refl, signed-size _ _)
 
-pub with-sign-spec : {M : Type 1} → statement M
-with-sign-spec = tie.close (tie.spec (λ c κs. search rules) (λ c κs. search rules) returns)
+pub with_sign_spec : {M : Type 1} → statement M
+with_sign_spec = tie.close (tie.spec (λ c κs. search rules) (λ c κs. search rules) returns)

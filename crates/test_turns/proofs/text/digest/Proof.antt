@@ -4,14 +4,14 @@ use borrow.Author.Rules.{rules}
 use Rattle.test_turns.proofs.text.digest.Statement.{statement}
 use Rattle.test_turns.proofs.text.digest.Tie as tie
 
-abbrev invariant-loop : tie.invariant-loop
+abbrev invariant-loop : tie.invariant-loop-k
 invariant-loop a sum₀ k₀ sum k = k ≤ 64
 
-abbrev decreases-loop : tie.decreases-loop
+abbrev decreases-loop : tie.decreases-loop-k
 decreases-loop a sum₀ k₀ sum k = 64 - k
 
-pub digest-spec : {M : Type 1} → statement M
-digest-spec =
+pub digest_spec : {M : Type 1} → statement M
+digest_spec =
     tie.close
     (tie.spec invariant-loop decreases-loop
     (λ c. search rules)
