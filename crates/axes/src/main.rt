@@ -1,12 +1,15 @@
 // Reads a job from standard input, and prints its report or its refusal.
 #![tactic(auto)]
 
-use libc::{STDIN_FILENO, STDOUT_FILENO};
+use std::io;
+use std::io::Read;
 
-fn main() {
-    let mut text = [0u8; limits::MOST_BYTES];
-    let n = io::read_full(STDIN_FILENO, &mut text);
+fn main(rt: HostRuntime) -> io::Result<()> {
+    let mut text = Vec::new(rt.alloc());
+    rt.reader()
+        .take(limits::MOST_BYTES as u64)
+        .read_to_end(&mut text)?;
     let mut out = [0u8; 2048];
-    let length = report::answer(&text[..n], &mut out);
-    io::write_all(STDOUT_FILENO, &out[..length]);
+    let length = report::answer(&text, &mut out);
+    rt.write_all(&out[..length])
 }

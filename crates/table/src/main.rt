@@ -1,12 +1,15 @@
 // Reads at most 16,384 bytes of job text from standard input and prints the exact sums of its table, or the refusal's line.
 #![tactic(auto)]
 
-use libc::{STDIN_FILENO, STDOUT_FILENO};
+use std::io;
+use std::io::Read;
 
-fn main() {
-    let mut text = [0u8; limits::MOST_BYTES];
-    let length = io::read_full(STDIN_FILENO, &mut text);
+fn main(rt: HostRuntime) -> io::Result<()> {
+    let mut text = Vec::new(rt.alloc());
+    rt.reader()
+        .take(limits::MOST_BYTES as u64)
+        .read_to_end(&mut text)?;
     let mut out = [0u8; 2048];
-    let printed = job_table::lines::answer(&text[..length], &mut out);
-    io::write_all(STDOUT_FILENO, &out[..printed]);
+    let printed = job_table::lines::answer(&text, &mut out);
+    rt.write_all(&out[..printed])
 }
