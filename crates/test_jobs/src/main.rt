@@ -6,7 +6,9 @@
 ghost use Rattle.std.specs.Prelude.{◌≤◌, ◌<◌, length};
 
 use job::reply::Reply;
-use libc::STDOUT_FILENO;
+use std::fs::File;
+use std::io;
+use std::io::Read;
 
 // The value of a digit, and 10 for another byte.
 fn digit(b: u8) -> usize
@@ -84,29 +86,28 @@ fn printed(text: &[u8], size: usize, out: &mut [u8]) -> usize
     }
 }
 
-fn print_job(text: &[u8], size: usize)
+fn print_job(rt: &impl Print, text: &[u8], size: usize) -> io::Result<()>
     requires { size ≤ 2048 }
 {
     let mut out = [0u8; 2048];
     let length = printed(text, size, &mut out);
-    io::write_all(STDOUT_FILENO, &out[..length]);
+    rt.write_all(&out[..length])
 }
 
-fn print_jobs(jobs: &[u8]) {
+fn print_jobs(rt: &impl Print, jobs: &[u8]) -> io::Result<()> {
     let mut at = 0;
     while at < jobs.len() {
         let job = next_job(jobs, at);
         let start = job.start;
         let end = job.end;
-        print_job(&jobs[start..end], job.size);
+        print_job(rt, &jobs[start..end], job.size)?;
         at = end;
     }
+    Ok(())
 }
 
-fn main() {
-    let fd = os::open_read(b"jobs");
-    let mut jobs = [0u8; 65536];
-    let size = io::read_full(fd, &mut jobs);
-    libc::close(fd);
-    print_jobs(&jobs[..size]);
+fn main(rt: HostRuntime) -> io::Result<()> {
+    let mut jobs = Vec::new(rt.alloc());
+    File::open(&rt, "jobs")?.take(65536).read_to_end(&mut jobs)?;
+    print_jobs(&rt, &jobs)
 }
