@@ -18,6 +18,11 @@ rounded_up-rule x y h =
     }
 
 pub rounded_up-unique : (x y t : ℕ) → 0 < y → RoundedUp x y t → t ≡ rounded_up x y
-rounded_up-unique x y t h r =
-    let rule = rounded_up-rule x y h in
-    omega (arith, rule.least t r.enough, r.least (rounded_up x y) rule.enough)
+unfolding rounded_up
+rounded_up-unique x y t h r = omega (arith, least, r.least (rounded_up x y) enough)
+  where
+    enough : x ≤ rounded_up x y * y
+    enough = omega (arith, lt-div-mul-add {a = x + (y - 1)} h)
+
+    least : rounded_up x y ≤ t
+    least = omega (arith, (div-lt_iff_lt-mul {x = x + (y - 1)} {y = suc t} h).1 (omega (arith, r.enough)))
