@@ -14,8 +14,10 @@ rnd-size (pos u) w = refl
 rnd-size (negsuc u) w = nat_abs-neg_ℤ (pos ((suc u + w / 2) / w))
 
 pub rnd-bound : (u : ℤ) (w k : ℕ) → 0 < w → nat_abs u ≤ k * w → nat_abs (rnd u w) ≤ k
-rnd-bound u w k h b =
-    rw rnd-size (omega (arith, (div-lt_iff_lt-mul {k = w} {x = nat_abs u + w / 2} {y = suc k} h).1 (omega arith)))
+unfolding rnd
+rnd-bound (pos u) w k h b = omega (arith, (div-lt_iff_lt-mul {k = w} {x = u + w / 2} {y = suc k} h).1 (omega arith))
+rnd-bound (negsuc u) w k h b =
+    rw (nat_abs-neg_ℤ (pos ((suc u + w / 2) / w))) (omega (arith, (div-lt_iff_lt-mul {k = w} {x = suc u + w / 2} {y = suc k} h).1 (omega arith)))
 
 pub rnd-zero : (w : ℕ) → 0 < w → rnd (pos 0) w ≡ pos 0
 unfolding rnd
@@ -23,7 +25,10 @@ rnd-zero w h = rw (zero-add, div-eq_of_lt {n = w / 2} {m = w} (omega arith))
 
 pub rnd-neg : (u : ℤ) (w : ℕ) → 0 < w → rnd (neg_ℤ u) w ≡ neg_ℤ (rnd u w)
 unfolding rnd
-rnd-neg (pos zero) w h = rnd-zero w h ∙ sym (ap neg_ℤ (rnd-zero w h))
+rnd-neg (pos zero) w h = nought ∙ sym (ap neg_ℤ nought)
+  where
+    nought : rnd (pos 0) w ≡ pos 0
+    nought = rw (zero-add, div-eq_of_lt {n = w / 2} {m = w} (omega arith))
 rnd-neg (pos (suc u)) w h = refl
 rnd-neg (negsuc u) w h = sym (neg_ℤ-neg_ℤ _)
 
@@ -31,16 +36,6 @@ rnd-neg (negsuc u) w h = sym (neg_ℤ-neg_ℤ _)
 pub record Nearest (u : ℤ) (w : ℕ) (z : ℤ) : Type 0 where
   pub near : 2 * nat_abs (pos w *ℤ z -ℤ u) ≤ w
   pub half : 2 * nat_abs (pos w *ℤ z -ℤ u) ≡ w → nat_abs u ≤ w * nat_abs z
-
-rnd-nearest-pos : (u w : ℕ) → 0 < w → Nearest (pos u) w (rnd (pos u) w)
-unfolding rnd
-rnd-nearest-pos u w h = record { near = rw nat_abs--ℤ (omega (arith, below, above)); half = λ e. omega (arith, below, above, rw nat_abs--ℤ at e) }
-  where
-    below : (u + w / 2) / w * w ≤ u + w / 2
-    below = div-mul-le_self (u + w / 2) w
-
-    above : u + w / 2 < (u + w / 2) / w * w + w
-    above = lt-div-mul-add h
 
 -- the sentence for u is the sentence for −u, of the numbers' negatives
 mirrored : (u : ℤ) (w : ℕ) (z : ℤ) → Nearest u w z → Nearest (neg_ℤ u) w (neg_ℤ z)
@@ -51,29 +46,44 @@ mirrored u w z n =
     same = rw (*ℤ-negℤ (pos w) z, ← neg_ℤ-+ℤ) (nat_abs-neg_ℤ (pos w *ℤ z -ℤ u))
 
 pub rnd-nearest : (u : ℤ) (w : ℕ) → 0 < w → Nearest u w (rnd u w)
-rnd-nearest (pos u) w h = rnd-nearest-pos u w h
-rnd-nearest (negsuc u) w h = rw (rnd-neg (pos (suc u)) w h) (mirrored (pos (suc u)) w _ (rnd-nearest-pos (suc u) w h))
-
-nearest-unique-pos : (u w : ℕ) (z : ℤ) → 0 < w → Nearest (pos u) w z → z ≡ rnd (pos u) w
 unfolding rnd
-nearest-unique-pos u w (pos z) h n = ap pos (sym (div-eq_of_lt-le w {m = u + w / 2} (omega (arith, near)) (above (dec_lt (u + w / 2) ((z + 1) * w)))))
+rnd-nearest u w h = by_sign u
   where
-    near : 2 * ((w * z - u) + (u - w * z)) ≤ w
-    near = rw nat_abs--ℤ at n.near
+    below : (u : ℕ) → (u + w / 2) / w * w ≤ u + w / 2
+    below u = div-mul-le_self (u + w / 2) w
 
-    half : 2 * ((w * z - u) + (u - w * z)) ≡ w → u ≤ w * z
-    half e = n.half (rw nat_abs--ℤ e)
+    above : (u : ℕ) → u + w / 2 < (u + w / 2) / w * w + w
+    above u = lt-div-mul-add h
 
-    above : Dec (u + w / 2 < (z + 1) * w) → u + w / 2 < (z + 1) * w
-    above (yes p) = p
-    above (no f) = let g : u ≤ w * z = half (omega (arith, f, near)) in omega (arith, f, near, g)
-nearest-unique-pos u w (negsuc z) h n =
-    absurd (no_room (w * suc z) (mul-le-mul_left w (suc-le-suc zero-le)) (rw nat_abs-opposite at n.near))
-  where
-    no_room : (a : ℕ) → w * 1 ≤ a → 2 * (a + u) ≤ w → ⊥
-    no_room a b c = omega arith
+    positive : (u : ℕ) → Nearest (pos u) w (rnd (pos u) w)
+    positive u = record { near = rw nat_abs--ℤ (omega (arith, below u, above u)); half = λ e. omega (arith, below u, above u, rw nat_abs--ℤ at e) }
+
+    by_sign : (u : ℤ) → Nearest u w (rnd u w)
+    by_sign (pos u) = positive u
+    by_sign (negsuc u) = mirrored (pos (suc u)) w _ (positive (suc u))
 
 pub nearest-unique : (u : ℤ) (w : ℕ) (z : ℤ) → 0 < w → Nearest u w z → z ≡ rnd u w
-nearest-unique (pos u) w z h n = nearest-unique-pos u w z h n
-nearest-unique (negsuc u) w z h n =
-    sym (neg_ℤ-neg_ℤ z) ∙ ap neg_ℤ (nearest-unique-pos (suc u) w (neg_ℤ z) h (mirrored (negsuc u) w z n)) ∙ sym (rnd-neg (pos (suc u)) w h)
+unfolding rnd
+nearest-unique u w z h n = by_sign u z n
+  where
+    positive : (u : ℕ) (z : ℤ) → Nearest (pos u) w z → z ≡ rnd (pos u) w
+    positive u (pos z) n = ap pos (sym (div-eq_of_lt-le w {m = u + w / 2} (omega (arith, near)) (above (dec_lt (u + w / 2) ((z + 1) * w)))))
+      where
+        near : 2 * ((w * z - u) + (u - w * z)) ≤ w
+        near = rw nat_abs--ℤ at n.near
+
+        half : 2 * ((w * z - u) + (u - w * z)) ≡ w → u ≤ w * z
+        half e = n.half (rw nat_abs--ℤ e)
+
+        above : Dec (u + w / 2 < (z + 1) * w) → u + w / 2 < (z + 1) * w
+        above (yes p) = p
+        above (no f) = let g : u ≤ w * z = half (omega (arith, f, near)) in omega (arith, f, near, g)
+    positive u (negsuc z) n =
+        absurd (no_room (w * suc z) (mul-le-mul_left w (suc-le-suc zero-le)) (rw nat_abs-opposite at n.near))
+      where
+        no_room : (a : ℕ) → w * 1 ≤ a → 2 * (a + u) ≤ w → ⊥
+        no_room a b c = omega arith
+
+    by_sign : (u : ℤ) (z : ℤ) → Nearest u w z → z ≡ rnd u w
+    by_sign (pos u) z n = positive u z n
+    by_sign (negsuc u) z n = sym (neg_ℤ-neg_ℤ z) ∙ ap neg_ℤ (positive (suc u) (neg_ℤ z) (mirrored (negsuc u) w z n))
