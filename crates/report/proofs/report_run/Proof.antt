@@ -22,45 +22,45 @@ use Rattle.report.proofs.report_run.Statement.{statement}
 use Rattle.report.proofs.report_run.Tie as tie
 
 -- n, which is the record's
-module _ (c : tie.After-channels) where
+module _ (c : tie.After-channels-n) where
   abbrev start : tie.Start
   start = c.before.before.before
 
-  high : c.channels.result ≤ 8
-  high = rw c.channels.ensures start.pre.keeps.solver.size
+  high : c.channels-n.result ≤ 8
+  high = rw c.channels-n.ensures start.requires.keeps.solver.size
 
-  n-fits : SFits w64 (pos c.channels.result)
+  n-fits : SFits w64 (pos c.channels-n.result)
   n-fits = record { sfits = omega (arith, high) }
 
   k-fits : SFits w64 (pos start.args.k)
-  k-fits = record { sfits = omega (arith, start.pre.samples) }
+  k-fits = record { sfits = omega (arith, start.requires.samples) }
 
   sweeps-fit : SFits w64 (pos start.args.run.sweeps)
-  sweeps-fit = record { sfits = omega (arith, start.pre.sweeps) }
+  sweeps-fit = record { sfits = omega (arith, start.requires.sweeps) }
 
 -- what is known where the length is asked for
 module _ (c : tie.After-turns) where
   abbrev shifted : tie.After-shift
   shifted = c.before.before
 
-  abbrev listed : tie.After-ordered
+  abbrev listed : tie.After-ordered-listed
   listed = shifted.before
 
-  abbrev numbered : tie.After-axes-numbers
+  abbrev numbered : tie.After-axes_numbers-axes
   numbered = listed.before.before
 
-  abbrev begun : tie.After-channels
+  abbrev begun : tie.After-channels-n
   begun = numbered.before
 
   abbrev z : Run
   z = (start begun).args.run
 
   turns_fit : SFits w64 (pos c.turns.result)
-  turns_fit = record { sfits = rw c.turns.ensures (omega (arith, (start begun).pre.keeps.solver.turns)) }
+  turns_fit = record { sfits = rw c.turns.ensures (omega (arith, (start begun).requires.keeps.solver.turns)) }
 
   abbrev head : List ℤ
   head =
-      to_z w64 begun.channels.result
+      to_z w64 begun.channels-n.result
       ∷ to_z w64 (start begun).args.k
       ∷ to_z w64 shifted.shift.result
       ∷ to_z w64 z.sweeps
@@ -72,7 +72,7 @@ module _ (c : tie.After-turns) where
   head-same =
       let e-fits : SFits w64 (pos shifted.shift.result) = search rules in
       λ i.
-      (to_z-of_z (n-fits begun) ∙ ap pos begun.channels.ensures) i
+      (to_z-of_z (n-fits begun) ∙ ap pos begun.channels-n.ensures) i
       ∷ to_z-of_z (k-fits begun) i
       ∷ (to_z-of_z e-fits ∙ ap pos shifted.shift.ensures) i
       ∷ to_z-of_z (sweeps-fit begun) i
@@ -80,64 +80,64 @@ module _ (c : tie.After-turns) where
       ∷ []
 
   -- the axes in their order
-  listed-is : listed.ordered.result ≡ ordered_rows z.last.solver.n (axes_numbers z.last)
-  listed-is = listed.ordered.ensures ∙ (λ i. ordered_rows (begun.channels.ensures i) (numbered.axes-numbers.ensures i))
+  listed-is : listed.ordered-listed.result ≡ ordered_rows z.last.solver.n (axes_numbers z.last)
+  listed-is = listed.ordered-listed.ensures ∙ (λ i. ordered_rows (begun.channels-n.ensures i) (numbered.axes_numbers-axes.ensures i))
 
-  report-text : text_of head z.outcome listed.ordered.result begun.channels.result ≡ run_report (start begun).args.k z
+  report-text : text_of head z.outcome listed.ordered-listed.result begun.channels-n.result ≡ run_report (start begun).args.k z
   report-text =
-      (λ i. text_of (head-same i) z.outcome (listed-is i) (begun.channels.ensures i))
-      ∙ text_same (start begun).args.k z (start begun).pre.keeps.solver.size
+      (λ i. text_of (head-same i) z.outcome (listed-is i) (begun.channels-n.ensures i))
+      ∙ text_same (start begun).args.k z (start begun).requires.keeps.solver.size
 
-  wide : Wide listed.ordered.result
-  wide = rw listed-is (ordered-wide z.last (start begun).pre.keeps.solver.size)
+  wide : Wide listed.ordered-listed.result
+  wide = rw listed-is (ordered-wide z.last (start begun).requires.keeps.solver.size)
 
-ordered-requires : tie.Need-ordered-requires
+ordered-requires : tie.Need-ordered-listed-requires
 ordered-requires c κs =
     let a = c.before in
-    (high a.before, rw a.axes-numbers.ensures (axes-wide (start a.before).args.run.last))
+    (high a.before, rw a.axes_numbers-axes.ensures (axes-wide (start a.before).args.run.last))
 
-text-length-requires : tie.Need-text-length-requires
+text-length-requires : tie.Need-text_length-length-requires
 text-length-requires c κs = let t = c.before.before in (refl, high (begun t), wide t)
 
-told : tie.After-text-length → tie.After-turns
+told : tie.After-text_length-length → tie.After-turns
 told c = c.before.before.before
 
-report-of : tie.After-text-length → List ℕ
+report-of : tie.After-text_length-length → List ℕ
 report-of c = let s = start (begun (told c)) in run_report s.args.k s.args.run
 
-sized : (c : tie.After-text-length) → Sized (report-of c) 2048 c.text-length.result
+sized : (c : tie.After-text_length-length) → Sized (report-of c) 2048 c.text_length-length.result
 unfolding told report-of
-sized c = rw (report-text (told c)) at c.text-length.ensures
+sized c = rw (report-text (told c)) at c.text_length-length.ensures
 
-is-short : (c : tie.After-text-length) → length (report-of c) ≤ 2048
+is-short : (c : tie.After-text_length-length) → length (report-of c) ≤ 2048
 is-short c = omega (arith, (sized c).exact, (sized c).bounded)
 
-returns : tie.Need-returns
+returns : tie.Need-returns-then-buf-length
 unfolding told report-of
 returns c =
     let l = c.before in
     let s = start (begun (told l)) in
-    record { writes = short 0 _ s.args.buf.now refl (omega (arith, c.if1.true, (sized l).exact)); short = is-short l }
+    record { writes = short 0 _ s.args.buf.now refl (omega (arith, c.if-buf-length.true, (sized l).exact)); short = is-short l }
 
-put-text-requires : tie.Need-put-text-requires
+put-text-requires : tie.Need-put_text-requires
 unfolding told
 put-text-requires c κs =
     let l = c.before.before.before.before in
     let t = told l in
-    (high (begun t), wide t, omega (arith, c.before.before.before.if1.false, l.text-length.ensures.exact))
+    (high (begun t), wide t, omega (arith, c.before.before.before.if-buf-length.false, l.text_length-length.ensures.exact))
 
-returns-2 : tie.Need-returns-2
+returns-2 : tie.Need-returns
 unfolding told report-of
 returns-2 c =
     let l = c.before.before.before.before.before.before.before in
     let t = told l in
     record {
-      writes = written 0 _ (start (begun t)).args.buf.now refl (rw (report-text t) at c.before.before.put-text.ensures);
+      writes = written 0 _ (start (begun t)).args.buf.now refl (rw (report-text t) at c.before.before.put_text.ensures);
       short = is-short l;
     }
 
-pub report-run-spec : {M : Type 1} → statement M
-report-run-spec =
+pub report_run_spec : {M : Type 1} → statement M
+report_run_spec =
     tie.close
     (tie.spec
     (λ c κs. search rules)

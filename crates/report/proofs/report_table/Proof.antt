@@ -19,13 +19,13 @@ size s = places _ (load-accepted 0 0 _ _ s.requires.allowed.matrix).high
 entries-within : (s : tie.Start) → s.args.n * s.args.n ≤ length s.args.table.entries
 entries-within s = rw s.requires.size (size s)
 
-report-run-requires : tie.Need-report-run-requires
+report-run-requires : tie.Need-report_run-requires
 report-run-requires c κs =
     let ran = c.before in
     let s = ran.before.before.before.before in
     record {
-      keeps = ran.run-table.ensures.keeps;
-      sweeps = rw ran.run-table.ensures.is (le_trans (table-ends _ _ _ _ _).within s.requires.allowed.sweeps);
+      keeps = ran.run_table-run.ensures.keeps;
+      sweeps = rw ran.run_table-run.ensures.is (le_trans (table-ends _ _ _ _ _).within s.requires.allowed.sweeps);
       samples = s.requires.samples;
     }
 
@@ -34,10 +34,10 @@ unfolding run_of_table
 returns c =
     let done = c.before.before in
     let ran = done.before.before in
-    rw ran.run-table.ensures.is at done.report-run.ensures
+    rw ran.run_table-run.ensures.is at done.report_run.ensures
 
-pub report-table-spec : {M : Type 1} → statement M
-report-table-spec =
+pub report_table_spec : {M : Type 1} → statement M
+report_table_spec =
     tie.close
     (tie.spec
     (λ c. record { fits = omega (arith, size c.before.before) })

@@ -9,23 +9,23 @@ use borrow.Author.Rules.{rules}
 use Rattle.report.proofs.lines.put_head.Statement.{statement}
 use Rattle.report.proofs.lines.put_head.Tie as tie
 
-whole : (c : tie.After-word-of) → c.word_of.result.length ≤ length c.word_of.result.bytes
-whole c = let w = c.word_of.ensures in omega (arith, w.short, w.bytes-held)
+whole : (c : tie.After-word_of-word) → c.word_of-word.result.length ≤ length c.word_of-word.result.bytes
+whole c = let w = c.word_of-word.ensures in omega (arith, w.short, w.bytes-held)
 
-put-word-line-requires : tie.Need-put-word-line-requires
+put-word-line-requires : tie.Need-put_word_line-requires
 put-word-line-requires c κs =
     let word = c.before.before.before in
     let s = word.before.before in
-    (le_refl _, rw (take-length s.args.head.now, word.word_of.ensures.is) s.requires)
+    (le_refl _, rw (take-length s.args.head.now, word.word_of-word.ensures.is) s.requires)
 
 returns : tie.Need-returns
 returns c =
     let put = c.before.before in
     let word = put.before.before.before.before in
-    rw (take-length word.before.before.args.head.now, word.word_of.ensures.is) at put.put-word-line.ensures
+    rw (take-length word.before.before.args.head.now, word.word_of-word.ensures.is) at put.put_word_line.ensures
 
-pub put-head-spec : {M : Type 1} → statement M
-put-head-spec =
+pub put_head_spec : {M : Type 1} → statement M
+put_head_spec =
     tie.close
     (tie.spec
     (λ c κs. search rules)

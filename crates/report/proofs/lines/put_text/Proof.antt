@@ -17,17 +17,17 @@ sized : (c : tie.Start) → length (word_line 82 c.args.head.now (outcome_word c
     (lines (row_line 65 (c.args.n + 3) c.args.axes.now) c.args.n) ≤ length c.args.buf.now
 sized c = rw (text-size c.args.head.now c.args.outcome c.args.axes.now c.args.n) at c.requires.2
 
-put-rows-requires : tie.Need-put-rows-requires
+put-rows-requires : tie.Need-put_rows-requires
 put-rows-requires c κs =
     let head = c.before.before.before in
     let s = head.before.before.before in
-    (s.requires.0, omega (arith, s.requires.0), s.requires.1, omega (arith, sized s, head.put-head.ensures.answer, head.put-head.auto))
+    (s.requires.0, omega (arith, s.requires.0), s.requires.1, omega (arith, sized s, head.put_head-at.ensures.answer, head.put_head-at.auto))
 
 returns : tie.Need-returns
 unfolding text_of
-returns c = let rows = c.before.before in put_then rows.before.before.before.before.put-head.ensures rows.put-rows.ensures
+returns c = let rows = c.before.before in put_then rows.before.before.before.before.put_head-at.ensures rows.put_rows.ensures
 
-pub put-text-spec : {M : Type 1} → statement M
-put-text-spec =
+pub put_text_spec : {M : Type 1} → statement M
+put_text_spec =
     tie.close
     (tie.spec (λ c κs. omega (arith, sized c.before.before)) (λ c. search rules) put-rows-requires (λ c. search rules) returns)

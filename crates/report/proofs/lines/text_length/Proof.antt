@@ -12,24 +12,24 @@ use Rattle.report.proofs.Written.{text-size}
 use Rattle.report.proofs.lines.text_length.Statement.{statement}
 use Rattle.report.proofs.lines.text_length.Tie as tie
 
-first : (c : tie.After-numbers-length) →
-    (let s = c.before.before in length (word_line 82 s.args.head.now (outcome_word s.args.outcome)) ≡ c.numbers-length.result +
-    c.before.word_of.result.length + 3)
+first : (c : tie.After-numbers_length) →
+    (let s = c.before.before in length (word_line 82 s.args.head.now (outcome_word s.args.outcome)) ≡ c.numbers_length.result +
+    c.before.word_of-word.result.length + 3)
 first c =
-    rw (length-word-line, c.before.word_of.ensures.size, c.numbers-length.ensures.exact, take-length c.before.before.args.head.now)
+    rw (length-word-line, c.before.word_of-word.ensures.size, c.numbers_length.ensures.exact, take-length c.before.before.args.head.now)
 
 returns : tie.Need-returns
 returns c =
     let s = c.before.before.before.before in
-    let rows = c.rows-length.ensures in
+    let rows = c.rows_length.ensures in
     record {
       exact = rw (text-size s.args.head.now s.args.outcome s.args.axes.now s.args.n, first c.before.before)
           (omega (arith, rows.exact 65));
       bounded = search rules;
     }
 
-pub text-length-spec : {M : Type 1} → statement M
-text-length-spec =
+pub text_length_spec : {M : Type 1} → statement M
+text_length_spec =
     tie.close
     (tie.spec
     (λ c κs. search rules)

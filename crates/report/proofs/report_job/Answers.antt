@@ -20,8 +20,7 @@ use Rattle.text.specs.declared.written.Written.{Written}
 use Rattle.report.specs.Done.{ReportsRun, TableReportable, run_of_table}
 use Rattle.report.specs.Report.{report_of}
 use Rattle.report.proofs.Bounds.{table-is-run}
-use Rattle.report.proofs.report_job.Statement.{statement}
-use Rattle.report.proofs.report_job.Tie as tie
+use Rattle.report.proofs.report_job.Goals as goal
 
 -- the report of the job's table is the job's
 table-answers : (j : Job) → Proper j → (t : Table) → t ≡ table_for j → (k : ℕ) → length j.dilutions ≡ k → {entry exit : List ℕ} {w : Written} →
@@ -51,38 +50,16 @@ module _ (a : arrays.Job) (h : Held a) (t : Table) (e : t ≡ table_for (job_in 
   unfolding job_in
   answers r = table-answers (job_in a) h.proper t e a.k (samples-held a h) r
 
-report-table-requires : tie.Need-report-table-requires
-report-table-requires c κs =
-    let t = c.before in
-    let s = t.before.before in
-    reportable s.args.job s.requires _ t.table_of.ensures
+pub report_table-done-requires : goal.report_table-done-requires
+report_table-done-requires c =
+    reportable c.args.job c.requires _ c.table_of-table.ensures
 
-returns : tie.Need-returns
+pub returns-in-Length : goal.returns-in-Length
 unfolding as_reply
-returns c =
-    let told = c.before in
-    let d = told.before.before.before.before in
-    let t = d.before.before in
-    let s = t.before.before in
-    rw told.done.given.1 at (answers s.args.job s.requires _ t.table_of.ensures d.report-table.ensures)
+returns-in-Length c =
+    rw c.in-Length.is at (answers c.args.job c.requires _ c.table_of-table.ensures c.report_table-done.ensures)
 
-returns-2 : tie.Need-returns-2
+pub returns-in-Refused : goal.returns-in-Refused
 unfolding as_reply
-returns-2 c =
-    let d = c.before.before.before.before in
-    let t = d.before.before in
-    let s = t.before.before in
-    rw c.enum_told.given.1 at (answers s.args.job s.requires _ t.table_of.ensures d.report-table.ensures)
-
-pub report-job-spec : {M : Type 1} → statement M
-report-job-spec =
-    tie.close
-    (tie.spec
-    (λ c κs. search rules)
-    report-table-requires
-    (λ c. search rules)
-    (λ c. search rules)
-    (λ c. search rules)
-    returns
-    (λ c. search rules)
-    returns-2)
+returns-in-Refused c =
+    rw c.in-Refused.is at (answers c.args.job c.requires _ c.table_of-table.ensures c.report_table-done.ensures)
