@@ -19,7 +19,6 @@ use Rattle.call_text.specs.inner.Read.{FieldsRead, counted, fields_by}
 use Rattle.call_text.specs.declared.field.Signed.{Signed}
 use Rattle.call_text.specs.declared.field.Signed.TheVariants.{Is, No}
 use Rattle.call_text.specs.declared.line.Fields.{Fields}
-use Rattle.call_text.specs.declared.line.Fields.TheVariants as Fields
 use Rattle.call_text.proofs.Splitting.{parts_after, parts-end, parts_more, split-front, take-front}
 
 -- numbers that follow others

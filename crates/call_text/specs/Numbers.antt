@@ -5,7 +5,6 @@ use Rattle.text.specs.Numeral.{leading_zero, value_from}
 use Rattle.text.specs.Parts.{before}
 use Rattle.integer.specs.Within.{all_within}
 use Rattle.call_text.specs.declared.field.Signed.{Signed}
-use Rattle.call_text.specs.declared.field.Signed.TheVariants as Signed
 
 -- README: 'decimal digits, no leading zero unless it is 0'
 unfoldable pub numeral : List ℕ → Bool

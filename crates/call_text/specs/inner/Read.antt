@@ -5,9 +5,7 @@ use Rattle.text.specs.Parts.{split}
 use Rattle.call_text.specs.Numbers.{each_number}
 use Rattle.call_text.specs.Requests.{left_in}
 use Rattle.call_text.specs.declared.line.Fields.{Fields}
-use Rattle.call_text.specs.declared.line.Fields.TheVariants as Fields
 use Rattle.call_text.specs.declared.field.Unsigned.{Unsigned}
-use Rattle.call_text.specs.declared.field.Unsigned.TheVariants as Unsigned
 
 unfoldable pub unsigned_is : Option ℕ → Unsigned
 unsigned_is none = Unsigned.No

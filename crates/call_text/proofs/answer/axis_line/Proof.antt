@@ -10,18 +10,18 @@ use Rattle.call_text.proofs.Printing.{axis-printed, element-size, numbers-bound}
 use Rattle.call_text.proofs.answer.axis_line.Statement.{statement}
 use Rattle.call_text.proofs.answer.axis_line.Tie as tie
 
-bound : (c : tie.Start) → length (numbers (take c.args.n c.args.t3)) ≤ 21 * c.args.n
-bound c = numbers-bound c.args.t3 (λ i. search (rules, element-size)) c.args.n
+bound : (c : tie.Start) → length (numbers (take c.args.n c.args.row)) ≤ 21 * c.args.n
+bound c = numbers-bound c.args.row (λ i. search (rules, element-size)) c.args.n
 
-put-numbers-requires : tie.Need-put-numbers-requires
+put-numbers-requires : tie.Need-put_numbers-end-requires
 put-numbers-requires c κs =
     let third = c.before.before.before in
     let second = third.before.before.before in
     let s = second.before.before.before.before.before in
-    let l : length s.args.t3 ≡ 8 = search rules in
-    (omega arith, omega (arith, bound s, s.requires, third.natural-field.ensures.bounded, third.natural-field.auto))
+    let l : length s.args.row ≡ 8 = search rules in
+    (omega arith, omega (arith, bound s, s.requires, third.natural_field-third.ensures.bounded, third.natural_field-third.auto))
 
-put-byte-requires-2 : tie.Need-put-byte-requires-2
+put-byte-requires-2 : tie.Need-put_byte-len-requires
 put-byte-requires-2 c κs =
     let row = c.before.before in
     let third = row.before.before.before.before in
@@ -31,10 +31,10 @@ put-byte-requires-2 c κs =
       arith,
       bound s,
       s.requires,
-      third.natural-field.ensures.bounded,
-      third.natural-field.auto,
-      row.put-numbers.ensures.answer,
-      row.put-numbers.auto,
+      third.natural_field-third.ensures.bounded,
+      third.natural_field-third.auto,
+      row.put_numbers-end.ensures.answer,
+      row.put_numbers-end.auto,
     )
 
 returns : tie.Need-returns
@@ -45,11 +45,11 @@ returns c =
     let second = third.before.before.before in
     let tag = second.before.before.before in
     let s = tag.before.before in
-    axis-printed (take s.args.n s.args.t3) tag.put_byte.ensures (rw (to_z-of_z s.ranges.entry) at second.number-field.ensures)
-    third.natural-field.ensures row.put-numbers.ensures feed.put-byte2.ensures
+    axis-printed (take s.args.n s.args.row) tag.put_byte-first.ensures (rw (to_z-of_z s.ranges.entry) at second.number_field-second.ensures)
+    third.natural_field-third.ensures row.put_numbers-end.ensures feed.put_byte-len.ensures
 
-pub axis-line-spec : {M : Type 1} → statement M
-axis-line-spec =
+pub axis_line_spec : {M : Type 1} → statement M
+axis_line_spec =
     tie.close
     (tie.spec
     (λ c. search rules)

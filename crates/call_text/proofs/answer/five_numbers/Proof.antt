@@ -13,11 +13,11 @@ returns c =
     let second = third.before.before.before in
     let first = second.before.before.before in
     let tag = first.before.before.before in
-    five-printed tag.put_byte.ensures first.natural-field.ensures second.natural-field2.ensures third.natural-field3.ensures
-    fourth.natural-field4.ensures fifth.natural-field5.ensures feed.put-byte2.ensures
+    five-printed tag.put_byte-first.ensures first.natural_field-second.ensures second.natural_field-third.ensures third.natural_field-fourth.ensures
+    fourth.natural_field-fifth.ensures fifth.natural_field-end.ensures feed.put_byte-len.ensures
 
-pub five-numbers-spec : {M : Type 1} → statement M
-five-numbers-spec =
+pub five_numbers_spec : {M : Type 1} → statement M
+five_numbers_spec =
     tie.close
     (tie.spec
     (λ c. search rules)

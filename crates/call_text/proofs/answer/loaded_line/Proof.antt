@@ -8,9 +8,9 @@ returns : tie.Need-returns
 returns c =
     let feed = c.before in
     let tag = feed.before.before.before in
-    bare-printed tag.put_byte.ensures feed.put-byte2.ensures
+    bare-printed tag.put_byte-end.ensures feed.put_byte-len.ensures
 
-pub loaded-line-spec : {M : Type 1} → statement M
-loaded-line-spec =
+pub loaded_line_spec : {M : Type 1} → statement M
+loaded_line_spec =
     tie.close
     (tie.spec (λ c. search rules) (λ c κs. search rules) (λ c. search rules) (λ c κs. search rules) returns)

@@ -6,18 +6,18 @@ use Rattle.call_text.proofs.Printing.{put-field}
 use Rattle.call_text.proofs.answer.natural_field.Statement.{statement}
 use Rattle.call_text.proofs.answer.natural_field.Tie as tie
 
-put-natural-requires : tie.Need-put-natural-requires
+put-natural-requires : tie.Need-put_natural-requires
 put-natural-requires c κs =
     let tab = c.before.before.before in
     let s = tab.before.before.before in
-    omega (arith, length-natural s.args.x s.ranges.x.fits, s.requires, tab.put_byte.ensures.answer, tab.put_byte.auto)
+    omega (arith, length-natural s.args.x s.ranges.x.fits, s.requires, tab.put_byte-start.ensures.answer, tab.put_byte-start.auto)
 
 returns : tie.Need-returns
 returns c =
     let field = c.before.before in
     let tab = field.before.before.before.before in
     let s = tab.before.before.before in
-    put-field tab.put_byte.ensures field.put-natural.ensures (length-natural s.args.x s.ranges.x.fits)
+    put-field tab.put_byte-start.ensures field.put_natural.ensures (length-natural s.args.x s.ranges.x.fits)
 
-pub natural-field-spec : {M : Type 1} → statement M
-natural-field-spec = tie.close (tie.spec (λ c κs. search rules) put-natural-requires (λ c. search rules) returns)
+pub natural_field_spec : {M : Type 1} → statement M
+natural_field_spec = tie.close (tie.spec (λ c κs. search rules) put-natural-requires (λ c. search rules) returns)

@@ -9,5 +9,5 @@ returns : tie.Need-returns
 unfolding line_printed
 returns c = record { is = refl; short = omega arith }
 
-pub nothing-spec : {M : Type 1} → statement M
-nothing-spec = tie.close (tie.spec returns)
+pub nothing_spec : {M : Type 1} → statement M
+nothing_spec = tie.close (tie.spec returns)

@@ -9,10 +9,10 @@ returns c =
     let feed = c.before in
     let field = feed.before.before.before in
     let tag = field.before.before.before in
-    one-printed tag.put_byte.ensures field.natural-field.ensures feed.put-byte2.ensures
+    one-printed tag.put_byte-first.ensures field.natural_field-end.ensures feed.put_byte-len.ensures
 
-pub one-number-spec : {M : Type 1} → statement M
-one-number-spec =
+pub one_number_spec : {M : Type 1} → statement M
+one_number_spec =
     tie.close
     (tie.spec
     (λ c. search rules)

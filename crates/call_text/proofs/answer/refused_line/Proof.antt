@@ -9,11 +9,11 @@ use Rattle.call_text.proofs.answer.refused_line.Tie as tie
 returns : tie.Need-returns
 returns c =
     let s = c.before in
-    let l : length s.args.t2 ≡ 4 = search rules in
-    rw (four s.args.t2 l) c.five-numbers.ensures
+    let l : length s.args.counts ≡ 4 = search rules in
+    rw (four s.args.counts l) c.five_numbers.ensures
 
-pub refused-line-spec : {M : Type 1} → statement M
-refused-line-spec =
+pub refused_line_spec : {M : Type 1} → statement M
+refused_line_spec =
     tie.close
     (tie.spec
     (λ c. search rules)

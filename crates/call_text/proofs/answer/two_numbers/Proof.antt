@@ -10,10 +10,10 @@ returns c =
     let second = feed.before.before.before in
     let first = second.before.before.before in
     let tag = first.before.before.before in
-    two-printed tag.put_byte.ensures first.natural-field.ensures second.natural-field2.ensures feed.put-byte2.ensures
+    two-printed tag.put_byte-first.ensures first.natural_field-second.ensures second.natural_field-end.ensures feed.put_byte-len.ensures
 
-pub two-numbers-spec : {M : Type 1} → statement M
-two-numbers-spec =
+pub two_numbers_spec : {M : Type 1} → statement M
+two_numbers_spec =
     tie.close
     (tie.spec
     (λ c. search rules)

@@ -8,26 +8,26 @@ use Rattle.call_text.proofs.Digits.{digits-end, digits_low, digits-high, digits_
 use Rattle.call_text.proofs.field.all_digits.Statement.{statement}
 use Rattle.call_text.proofs.field.all_digits.Tie as tie
 
-abbrev invariant-loop : tie.invariant-loop
+abbrev invariant-loop : tie.invariant-loop-i
 invariant-loop field i₀ i = (i ≤ length field) × (all_within 48 57 field ≡ all_within 48 57 (drop i field))
 
-abbrev decreases-loop : tie.decreases-loop
+abbrev decreases-loop : tie.decreases-loop-i
 decreases-loop field i₀ i = length field - i
 
-returns : tie.Need-returns invariant-loop decreases-loop
+returns : tie.Need-returns-then-b-lt48 invariant-loop decreases-loop
 returns c = search (rules, digits_low)
 
-returns-2 : tie.Need-returns-2 invariant-loop decreases-loop
+returns-2 : tie.Need-returns-then-b-gt57 invariant-loop decreases-loop
 returns-2 c = search (rules, digits-high)
 
-loop-again : tie.Need-loop-preserved invariant-loop decreases-loop
+loop-again : tie.Need-loop-i-preserved invariant-loop decreases-loop
 loop-again c = (search rules, search (rules, digits_more))
 
-returns-3 : tie.Need-returns-3 invariant-loop decreases-loop
+returns-3 : tie.Need-returns invariant-loop decreases-loop
 returns-3 c = search (rules, digits-end)
 
-pub all-digits-spec : {M : Type 1} → statement M
-all-digits-spec =
+pub all_digits_spec : {M : Type 1} → statement M
+all_digits_spec =
     tie.close
     (tie.spec
     invariant-loop

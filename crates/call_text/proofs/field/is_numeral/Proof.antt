@@ -4,8 +4,8 @@ use Rattle.call_text.proofs.Digits.{numeral-digits, numeral-empty, numeral-zero}
 use Rattle.call_text.proofs.field.is_numeral.Statement.{statement}
 use Rattle.call_text.proofs.field.is_numeral.Tie as tie
 
-pub is-numeral-spec : {M : Type 1} → statement M
-is-numeral-spec =
+pub is_numeral_spec : {M : Type 1} → statement M
+is_numeral_spec =
     tie.close
     (tie.spec
     (λ c. search (rules, numeral-empty))

@@ -4,8 +4,8 @@ use Rattle.call_text.proofs.Digits.{natural-long, natural-none, natural-short, o
 use Rattle.call_text.proofs.field.natural.Statement.{statement}
 use Rattle.call_text.proofs.field.natural.Tie as tie
 
-pub natural-spec : {M : Type 1} → statement M
-natural-spec =
+pub natural_spec : {M : Type 1} → statement M
+natural_spec =
     tie.close
     (tie.spec
     (λ c κs. search rules)

@@ -8,20 +8,20 @@ use Rattle.call_text.proofs.Splitting.{found-end, found_here, found-past}
 use Rattle.call_text.proofs.find.find.Statement.{statement}
 use Rattle.call_text.proofs.find.find.Tie as tie
 
-abbrev invariant-loop : tie.invariant-loop
+abbrev invariant-loop : tie.invariant-loop-at
 invariant-loop text from byte at₀ at =
     (from ≤ at) × (at ≤ length text) × (from + length (front byte (drop from text)) ≡ at + length (front byte (drop at text)))
 
-abbrev decreases-loop : tie.decreases-loop
+abbrev decreases-loop : tie.decreases-loop-at
 decreases-loop text from byte at₀ at = length text - at
 
-returns : tie.Need-returns invariant-loop decreases-loop
+returns : tie.Need-returns-then-text-at invariant-loop decreases-loop
 returns c = record { is = search (rules, found_here); low = search rules; high = search rules }
 
-loop-again : tie.Need-loop-preserved invariant-loop decreases-loop
+loop-again : tie.Need-loop-at-preserved invariant-loop decreases-loop
 loop-again c = (search rules, search rules, search (rules, found-past))
 
-returns-2 : tie.Need-returns-2 invariant-loop decreases-loop
+returns-2 : tie.Need-returns invariant-loop decreases-loop
 returns-2 c = record { is = search (rules, found-end); low = search rules; high = search rules }
 
 pub find_spec : {M : Type 1} → statement M

@@ -12,24 +12,24 @@ use Rattle.call_text.proofs.Asking.{a-bench, no-bench}
 use Rattle.call_text.proofs.request.by_bench.Statement.{statement}
 use Rattle.call_text.proofs.request.by_bench.Tie as tie
 
-returns : tie.Need-returns
-returns c = no-bench _ _ _ c.before.requires c.if1.true
+returns : tie.Need-returns-then-count-lt1
+returns c = no-bench _ _ _ c.before.requires c.if-count-lt1.true
 
-returns-2 : tie.Need-returns-2
+returns-2 : tie.Need-returns
 returns-2 c =
     let a = c.before.before in
     let s = a.before.before.before in
     let f : SFits w64 (get_or s.args.numbers.now 0 (pos 0)) = search rules in
-    c.by-tag.ensures ∙ rw (rest_all 1 s.args.numbers.now)
-    (a-bench _ _ _ s.requires a.before.before.if1.false _ (rw (to_z-of_z f) at a.argument.ensures))
+    c.by_tag.ensures ∙ rw (rest_all 1 s.args.numbers.now)
+    (a-bench _ _ _ s.requires a.before.before.if-count-lt1.false _ (rw (to_z-of_z f) at a.argument-bench.ensures))
 
-by-tag-requires : tie.Need-by-tag-requires
+by-tag-requires : tie.Need-by_tag-requires
 by-tag-requires c κs =
     let s = c.before.before.before.before in
     rw (rest_all 1 s.args.numbers.now, length-drop 1 s.args.numbers.now) (omega (arith, s.requires))
 
-pub by-bench-spec : {M : Type 1} → statement M
-by-bench-spec =
+pub by_bench_spec : {M : Type 1} → statement M
+by_bench_spec =
     tie.close
     (tie.spec
     returns

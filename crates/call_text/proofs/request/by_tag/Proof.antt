@@ -6,53 +6,53 @@ use Rattle.call_text.proofs.Asking.{of-axis, of-load, of_none, of_pair, of-sampl
 use Rattle.call_text.proofs.request.by_tag.Statement.{statement}
 use Rattle.call_text.proofs.request.by_tag.Tie as tie
 
-load : tie.Need-returns
+load : tie.Need-returns-then-tag-eq76
 load c =
     let t = c.before in
-    rw (of-load _ _ t.if1.true) c.load.ensures
+    rw (of-load _ _ t.if-tag-eq76.true) c.load.ensures
 
-samples : tie.Need-returns-2
+samples : tie.Need-returns-then-tag-eq77
 samples c =
     let t = c.before in
-    rw (of-samples _ _ t.before.if1.false t.if2.true) c.load-samples.ensures
+    rw (of-samples _ _ t.before.if-tag-eq76.false t.if-tag-eq77.true) c.load_samples.ensures
 
-turn : tie.Need-returns-3
+turn : tie.Need-returns-then-tag-eq84
 turn c =
     let t = c.before in
-    rw (of-turn _ _ t.before.before.if1.false t.before.if2.false t.if3.true) c.turn.ensures
+    rw (of-turn _ _ t.before.before.if-tag-eq76.false t.before.if-tag-eq77.false t.if-tag-eq84.true) c.turn.ensures
 
-sweep : tie.Need-returns-4
+sweep : tie.Need-returns-then-tag-eq87
 sweep c =
     let t = c.before in
-    rw (of-sweep _ _ t.before.before.before.if1.false t.before.before.if2.false t.before.if3.false t.if4.true) c.sweep.ensures
+    rw (of-sweep _ _ t.before.before.before.if-tag-eq76.false t.before.before.if-tag-eq77.false t.before.if-tag-eq84.false t.if-tag-eq87.true) c.sweep.ensures
 
-loose-pair : tie.Need-returns-5
+loose-pair : tie.Need-returns-then-tag-eq81
 loose-pair c =
     let t = c.before in
-    rw (of_pair _ _ t.before.before.before.before.if1.false t.before.before.before.if2.false t.before.before.if3.false
-    t.before.if4.false t.if5.true) c.loose-pair.ensures
+    rw (of_pair _ _ t.before.before.before.before.if-tag-eq76.false t.before.before.before.if-tag-eq77.false t.before.before.if-tag-eq84.false
+    t.before.if-tag-eq87.false t.if-tag-eq81.true) c.loose_pair.ensures
 
-axis : tie.Need-returns-6
+axis : tie.Need-returns-then-tag-eq65
 axis c =
     let t = c.before in
-    rw (of-axis _ _ t.before.before.before.before.before.if1.false t.before.before.before.before.if2.false
-    t.before.before.before.if3.false t.before.before.if4.false t.before.if5.false t.if6.true) c.axis.ensures
+    rw (of-axis _ _ t.before.before.before.before.before.if-tag-eq76.false t.before.before.before.before.if-tag-eq77.false
+    t.before.before.before.if-tag-eq84.false t.before.before.if-tag-eq87.false t.before.if-tag-eq81.false t.if-tag-eq65.true) c.axis.ensures
 
-tournament-sweep : tie.Need-returns-7
+tournament-sweep : tie.Need-returns-then-tag-eq79
 tournament-sweep c =
     let t = c.before in
-    rw (of-tournament-sweep _ _ t.before.before.before.before.before.before.if1.false
-    t.before.before.before.before.before.if2.false t.before.before.before.before.if3.false t.before.before.before.if4.false
-    t.before.before.if5.false t.before.if6.false t.if7.true) c.tournament-sweep.ensures
+    rw (of-tournament-sweep _ _ t.before.before.before.before.before.before.if-tag-eq76.false
+    t.before.before.before.before.before.if-tag-eq77.false t.before.before.before.before.if-tag-eq84.false t.before.before.before.if-tag-eq87.false
+    t.before.before.if-tag-eq81.false t.before.if-tag-eq65.false t.if-tag-eq79.true) c.tournament_sweep.ensures
 
-other : tie.Need-returns-8
+other : tie.Need-returns
 unfolding named asked_for
-other c = rw (of_none _ _ c.before.before.before.before.before.before.if1.false c.before.before.before.before.before.if2.false
-    c.before.before.before.before.if3.false c.before.before.before.if4.false c.before.before.if5.false c.before.if6.false
-    c.if7.false)
+other c = rw (of_none _ _ c.before.before.before.before.before.before.if-tag-eq76.false c.before.before.before.before.before.if-tag-eq77.false
+    c.before.before.before.before.if-tag-eq84.false c.before.before.before.if-tag-eq87.false c.before.before.if-tag-eq81.false c.before.if-tag-eq65.false
+    c.if-tag-eq79.false)
 
-pub by-tag-spec : {M : Type 1} → statement M
-by-tag-spec =
+pub by_tag_spec : {M : Type 1} → statement M
+by_tag_spec =
     tie.close
     (tie.spec
     (λ c κs. search rules)

@@ -9,25 +9,25 @@ use Rattle.call_text.proofs.Asking.{few-samples, minus-samples, short-samples, s
 use Rattle.call_text.proofs.request.load_samples.Statement.{statement}
 use Rattle.call_text.proofs.request.load_samples.Tie as tie
 
-returns : tie.Need-returns
-returns c = few-samples _ _ _ c.before.requires c.if1.true
+returns : tie.Need-returns-then-count-lt2
+returns c = few-samples _ _ _ c.before.requires c.if-count-lt2.true
 
-returns-2 : tie.Need-returns-2
+returns-2 : tie.Need-returns-then-numbers-lt0
 returns-2 c =
     let s = c.before.before.before in
     let f : SFits w64 (get_or s.args.numbers.now 1 (pos 0)) = search rules in
-    minus-samples _ _ _ s.requires c.before.before.if1.false (rw (to_z-of_z f) at c.if2.true)
+    minus-samples _ _ _ s.requires c.before.before.if-count-lt2.false (rw (to_z-of_z f) at c.if-numbers-lt0.true)
 
-returns-3 : tie.Need-returns-3
+returns-3 : tie.Need-returns-then-count-k
 returns-3 c =
     let a = c.before in
     let i = a.before.before in
     let s = i.before.before.before in
     let f : SFits w64 (get_or s.args.numbers.now 1 (pos 0)) = search rules in
-    short-samples _ _ _ s.requires i.before.before.if1.false _ (rw (to_z-of_z f) at i.if2.false) (rw (to_z-of_z f) at a.argument.ensures)
-    c.if3.true
+    short-samples _ _ _ s.requires i.before.before.if-count-lt2.false _ (rw (to_z-of_z f) at i.if-numbers-lt0.false) (rw (to_z-of_z f) at a.argument-k.ensures)
+    c.if-count-k.true
 
-returns-4 : tie.Need-returns-4
+returns-4 : tie.Need-returns
 returns-4 c =
     let t = c.before.before in
     let a = t.before in
@@ -35,11 +35,11 @@ returns-4 c =
     let s = i.before.before.before in
     let f : SFits w64 (get_or s.args.numbers.now 1 (pos 0)) = search rules in
     let g : SFits w64 (get_or s.args.numbers.now 0 (pos 0)) = search rules in
-    some-samples _ _ _ s.requires i.before.before.if1.false _ (rw (to_z-of_z f) at i.if2.false) (rw (to_z-of_z f) at a.argument.ensures)
-    t.if3.false _ (rw (to_z-of_z g) at c.argument2.ensures)
+    some-samples _ _ _ s.requires i.before.before.if-count-lt2.false _ (rw (to_z-of_z f) at i.if-numbers-lt0.false) (rw (to_z-of_z f) at a.argument-k.ensures)
+    t.if-count-k.false _ (rw (to_z-of_z g) at c.argument.ensures)
 
-pub load-samples-spec : {M : Type 1} → statement M
-load-samples-spec =
+pub load_samples_spec : {M : Type 1} → statement M
+load_samples_spec =
     tie.close
     (tie.spec
     returns

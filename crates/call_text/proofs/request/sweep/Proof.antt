@@ -4,11 +4,11 @@ use Rattle.call_text.proofs.Asking.{a-sweep, no-sweep}
 use Rattle.call_text.proofs.request.sweep.Statement.{statement}
 use Rattle.call_text.proofs.request.sweep.Tie as tie
 
-returns : tie.Need-returns
-returns c = no-sweep _ _ _ c.before.requires Cyclic c.if1.true
+returns : tie.Need-returns-then-count-ne0
+returns c = no-sweep _ _ _ c.before.requires Cyclic c.if-count-ne0.true
 
-returns-2 : tie.Need-returns-2
-returns-2 c = a-sweep _ _ _ c.before.requires c.if1.false
+returns-2 : tie.Need-returns
+returns-2 c = a-sweep _ _ _ c.before.requires c.if-count-ne0.false
 
-pub sweep-spec : {M : Type 1} → statement M
-sweep-spec = tie.close (tie.spec returns returns-2)
+pub sweep_spec : {M : Type 1} → statement M
+sweep_spec = tie.close (tie.spec returns returns-2)
