@@ -1,4 +1,4 @@
-// The functions of the static library, for Rust and C. bindings/ declares them; tests/ compares those declarations with these.
+// What the static library offers, as functions of Rattle; the crate `field_axes_c` exports them to Rust and C.
 #![tactic(auto)]
 
 mod solve;
@@ -24,8 +24,7 @@ fn refused(number: u32) -> i64
 
 // A run on n×n numbers, row after row, and its axes. Into `out`: the outcome (0 settled, 1 still, 2 spent), the sweeps run, m, then for
 // each axis a_ii, r_i and the n numbers of its row. The answer is how many numbers these are, or the refusal's number negated.
-#[unsafe(no_mangle)]
-pub extern "C" fn field_axes_solve(
+pub fn field_axes_solve(
     n: usize,
     numbers: &[i64],
     limit: u64,
@@ -43,13 +42,7 @@ pub extern "C" fn field_axes_solve(
 
 // The table of samples, a dilution each and n counts each, sample after sample. Into `out`: the shift e, the n×n exact S_ij, and the n×n
 // entries, row after row. The answer is how many numbers these are, or the refusal's number negated.
-#[unsafe(no_mangle)]
-pub extern "C" fn field_axes_table(
-    n: usize,
-    dilutions: &[u32],
-    counts: &[u32],
-    out: &mut [i64],
-) -> i64
+pub fn field_axes_table(n: usize, dilutions: &[u32], counts: &[u32], out: &mut [i64]) -> i64
     ensures { Tabulates n dilutions.now counts.now out.old out.new result }
 {
     let number = table::table_refusal(n, dilutions, counts, out.len());
@@ -61,8 +54,7 @@ pub extern "C" fn field_axes_table(
 
 // Job text of n, the sweep limit, the tolerance and samples, a dilution each and n counts each, sample after sample. Into `out`: the text. The
 // answer is its length, or the refusal's number negated.
-#[unsafe(no_mangle)]
-pub extern "C" fn field_axes_job(
+pub fn field_axes_job(
     n: usize,
     limit: u64,
     tolerance: u64,
@@ -81,8 +73,7 @@ pub extern "C" fn field_axes_job(
 
 // A job text to its report, document 01's `axes` as a function. Into `out`: the report. The answer is its length, or the refusal's number
 // negated; into `line` goes the refusal's line, or 0 where there is none.
-#[unsafe(no_mangle)]
-pub extern "C" fn field_axes_report(text: &[u8], out: &mut [u8], line: &mut usize) -> i64
+pub fn field_axes_report(text: &[u8], out: &mut [u8], line: &mut usize) -> i64
     ensures { ReportsText text.now out.old out.new line.new result }
 {
     let done = report::report(text, out);
@@ -100,8 +91,7 @@ pub extern "C" fn field_axes_report(text: &[u8], out: &mut [u8], line: &mut usiz
 
 // A text of calls, a line each, played on a fresh record. Into `out`: an answer a line. The answer is their length, or 12 negated where the
 // buffer is too short.
-#[unsafe(no_mangle)]
-pub extern "C" fn field_axes_calls(text: &[u8], out: &mut [u8]) -> i64
+pub fn field_axes_calls(text: &[u8], out: &mut [u8]) -> i64
     ensures { PlaysText text.now out.old out.new result }
 {
     let done = play::play(text, out);
@@ -113,8 +103,7 @@ pub extern "C" fn field_axes_calls(text: &[u8], out: &mut [u8]) -> i64
 
 // All panels of size b, each run with limit 16 and tolerance 0. Into `out`: a line each. The answer is their length, or the refusal's number
 // negated.
-#[unsafe(no_mangle)]
-pub extern "C" fn field_axes_panels(b: i64, out: &mut [u8]) -> i64
+pub fn field_axes_panels(b: i64, out: &mut [u8]) -> i64
     ensures { ListsPanels b out.old out.new result }
 {
     let done = panel::lines::write_panels(b, out);
@@ -125,8 +114,7 @@ pub extern "C" fn field_axes_panels(b: i64, out: &mut [u8]) -> i64
 }
 
 // The panel at a position of that list, from 1. Into `out`: a_11, a_12, a_22. The answer is 3, or the refusal's number negated.
-#[unsafe(no_mangle)]
-pub extern "C" fn field_axes_panel(b: i64, position: i64, out: &mut [i64]) -> i64
+pub fn field_axes_panel(b: i64, position: i64, out: &mut [i64]) -> i64
     ensures { GivesPanel b position out.old out.new result }
 {
     let found = panel::position::panel_at(b, position);
@@ -143,8 +131,7 @@ pub extern "C" fn field_axes_panel(b: i64, position: i64, out: &mut [i64]) -> i6
 }
 
 // The position in that list, from 1, of the panel of these entries, or the refusal's number negated.
-#[unsafe(no_mangle)]
-pub extern "C" fn field_axes_panel_position(b: i64, a11: i64, a12: i64, a22: i64) -> i64
+pub fn field_axes_panel_position(b: i64, a11: i64, a12: i64, a22: i64) -> i64
     ensures { result ≡ position_or_refusal (of_panel b (panel_of a11 a12 a22)) }
 {
     let found = panel::position::position_of(b, Panel { a11, a12, a22 });

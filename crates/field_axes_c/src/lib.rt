@@ -1,0 +1,96 @@
+// The functions of the static library, for Rust and C: those of `field_axes`, each with its contract. bindings/ declares them; tests/ compares those
+// declarations with these.
+#![tactic(auto)]
+
+ghost use Rattle.std.specs.Prelude.{◌≡◌};
+ghost use Rattle.panel.specs.Refusal.{of_panel};
+ghost use Rattle.field_axes.specs.Done.{GivesPanel, ListsPanels, PlaysText, ReportsText, Solves, Tabulates, WritesJob};
+ghost use Rattle.field_axes.specs.Panels.{panel_of, position_or_refusal};
+
+// A run on n×n numbers, row after row, and its axes. Into `out`: the outcome (0 settled, 1 still, 2 spent), the sweeps run, m, then for
+// each axis a_ii, r_i and the n numbers of its row. The answer is how many numbers these are, or the refusal's number negated.
+#[unsafe(no_mangle)]
+pub extern "C" fn field_axes_solve(
+    n: usize,
+    numbers: &[i64],
+    limit: u64,
+    tolerance: u64,
+    out: &mut [i64],
+) -> i64
+    ensures { Solves n numbers.now limit tolerance out.old out.new result }
+{
+    field_axes::field_axes_solve(n, numbers, limit, tolerance, out)
+}
+
+// The table of samples, a dilution each and n counts each, sample after sample. Into `out`: the shift e, the n×n exact S_ij, and the n×n
+// entries, row after row. The answer is how many numbers these are, or the refusal's number negated.
+#[unsafe(no_mangle)]
+pub extern "C" fn field_axes_table(
+    n: usize,
+    dilutions: &[u32],
+    counts: &[u32],
+    out: &mut [i64],
+) -> i64
+    ensures { Tabulates n dilutions.now counts.now out.old out.new result }
+{
+    field_axes::field_axes_table(n, dilutions, counts, out)
+}
+
+// Job text of n, the sweep limit, the tolerance and samples, a dilution each and n counts each, sample after sample. Into `out`: the text. The
+// answer is its length, or the refusal's number negated.
+#[unsafe(no_mangle)]
+pub extern "C" fn field_axes_job(
+    n: usize,
+    limit: u64,
+    tolerance: u64,
+    dilutions: &[u32],
+    counts: &[u32],
+    out: &mut [u8],
+) -> i64
+    ensures { WritesJob n limit tolerance dilutions.now counts.now out.old out.new result }
+{
+    field_axes::field_axes_job(n, limit, tolerance, dilutions, counts, out)
+}
+
+// A job text to its report, as the program `axes` does. Into `out`: the report. The answer is its length, or the refusal's number
+// negated; into `line` goes the refusal's line, or 0 where there is none.
+#[unsafe(no_mangle)]
+pub extern "C" fn field_axes_report(text: &[u8], out: &mut [u8], line: &mut usize) -> i64
+    ensures { ReportsText text.now out.old out.new line.new result }
+{
+    field_axes::field_axes_report(text, out, line)
+}
+
+// A text of calls, a line each, played on a fresh record. Into `out`: an answer a line. The answer is their length, or 12 negated where the
+// buffer is too short.
+#[unsafe(no_mangle)]
+pub extern "C" fn field_axes_calls(text: &[u8], out: &mut [u8]) -> i64
+    ensures { PlaysText text.now out.old out.new result }
+{
+    field_axes::field_axes_calls(text, out)
+}
+
+// All panels of size b, each run with limit 16 and tolerance 0. Into `out`: a line each. The answer is their length, or the refusal's number
+// negated.
+#[unsafe(no_mangle)]
+pub extern "C" fn field_axes_panels(b: i64, out: &mut [u8]) -> i64
+    ensures { ListsPanels b out.old out.new result }
+{
+    field_axes::field_axes_panels(b, out)
+}
+
+// The panel at a position of that list, from 1. Into `out`: a_11, a_12, a_22. The answer is 3, or the refusal's number negated.
+#[unsafe(no_mangle)]
+pub extern "C" fn field_axes_panel(b: i64, position: i64, out: &mut [i64]) -> i64
+    ensures { GivesPanel b position out.old out.new result }
+{
+    field_axes::field_axes_panel(b, position, out)
+}
+
+// The position in that list, from 1, of the panel of these entries, or the refusal's number negated.
+#[unsafe(no_mangle)]
+pub extern "C" fn field_axes_panel_position(b: i64, a11: i64, a12: i64, a22: i64) -> i64
+    ensures { result ≡ position_or_refusal (of_panel b (panel_of a11 a12 a22)) }
+{
+    field_axes::field_axes_panel_position(b, a11, a12, a22)
+}
