@@ -6,9 +6,7 @@ use Rattle.panel.specs.Panels.{count_of}
 use Rattle.panel.specs.Position.{panel_at, position_of}
 use Rattle.panel.specs.declared.Panel.{Panel}
 use Rattle.panel.specs.declared.position.AtPosition.{AtPosition}
-use Rattle.panel.specs.declared.position.AtPosition.TheVariants as AtPosition
 use Rattle.panel.specs.declared.position.OfPanel.{OfPanel}
-use Rattle.panel.specs.declared.position.OfPanel.TheVariants as OfPanel
 
 -- 'a size b from 0 to 8'
 abbrev pub most_size : ℕ

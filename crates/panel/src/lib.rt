@@ -13,7 +13,7 @@ use lines::{MOST_BYTES, write_panels};
 use text::Written;
 
 // a_12 is a_21 too.
-#[derive(Drop)]
+#[derive(Clone, Copy)]
 pub struct Panel {
     pub a11: i64,
     pub a12: i64,

@@ -10,7 +10,6 @@ use Rattle.std.proofs.Math.Dec.{leb}
 use Rattle.std.proofs.Math.ListN.{length}
 use Rattle.call_text.specs.Numbers.{signed_is, signed_of}
 use Rattle.call_text.specs.declared.field.Signed.{Signed}
-use Rattle.call_text.specs.declared.field.Signed.TheVariants as Signed
 use Rattle.text.specs.Line.{further, number_line, numbers}
 use Rattle.text.specs.Put.{Put}
 use Rattle.text.specs.Written.{Writes, lent_after, or_short, written_of}

@@ -16,26 +16,26 @@ use Rattle.panel.proofs.line.line_fields.Statement.{statement}
 use Rattle.panel.proofs.line.line_fields.Tie as tie
 
 -- what the run has counted is at most 16
-module _ (c : tie.After-run-panel) where
+module _ (c : tie.After-run_panel-run) where
   abbrev start : tie.Start
   start = c.before
 
-  swept : SFits w64 (pos c.run-panel.result.sweeps)
+  swept : SFits w64 (pos c.run_panel-run.result.sweeps)
   swept =
-      let e = ap (λ (z : Run). z.sweeps) c.run-panel.ensures in
-      record { sfits = omega (arith, e, sweeps-most start.args.x (small 8 start.args.x start.pre)) }
+      let e = ap (λ (z : Run). z.sweeps) c.run_panel-run.ensures in
+      record { sfits = omega (arith, e, sweeps-most start.args.x (small 8 start.args.x start.requires)) }
 
-  turned : (m : ℕ) → m ≡ c.run-panel.result.last.solver.m → SFits w64 (pos m)
+  turned : (m : ℕ) → m ≡ c.run_panel-run.result.last.solver.m → SFits w64 (pos m)
   turned m made =
-      let e = ap (λ (z : Run). z.last.solver.m) c.run-panel.ensures in
-      record { sfits = omega (arith, e, turns-most start.args.x (small 8 start.args.x start.pre)) }
+      let e = ap (λ (z : Run). z.last.solver.m) c.run_panel-run.ensures in
+      record { sfits = omega (arith, e, turns-most start.args.x (small 8 start.args.x start.requires)) }
 
 returns : tie.Need-returns
 unfolding line_numbers
 returns c =
     let turns = c.before.turns in
     let ran = c.before.before.before.before in
-    let run = ran.run-panel.ensures in
+    let run = ran.run_panel-run.ensures in
     let x = (start ran).args.x in
     let f : SFits w64 x.a11 = search rules in
     let g : SFits w64 x.a12 = search rules in
@@ -51,8 +51,8 @@ returns c =
       outcome = ap (λ (z : Run). z.outcome) run;
     }
 
-pub line-fields-spec : {M : Type 1} → statement M
-line-fields-spec =
+pub line_fields_spec : {M : Type 1} → statement M
+line_fields_spec =
     tie.close
     (tie.spec
     (λ c κs. search rules)

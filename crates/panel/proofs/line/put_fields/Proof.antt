@@ -22,9 +22,9 @@ sized : (s : tie.Start) →
     length (number (get_or zs 0 (pos 0))) + length (numbers (drop 1 zs)) + length s.args.word.now + 2 ≤ length s.args.buf.now)
 sized s = rw (first-and-further-length s.args.numbers.now s.args.word.now s.requires.0) at s.requires.1
 
-put-number-requires : tie.Need-put-number-requires
+put-number-requires : tie.Need-put_number-at-requires
 put-number-requires c κs =
-    rw (to_z-of_z {w = w64} (record { sfits = c.put-number-arg2.given })) (omega (arith, sized c.before.before.before.before))
+    rw (to_z-of_z {w = w64} (record { sfits = c.put_number-arg-2-1.given })) (omega (arith, sized c.before.before.before.before))
 
 -- the numbers after the first
 module _ (zs : List ℤ) where
@@ -34,61 +34,61 @@ module _ (zs : List ℤ) where
   further-count : length (take (length zs - 1) (drop 1 zs)) ≡ length zs - 1
   further-count = rw (rest_all 1 zs) (length-drop 1 zs)
 
-first : (c : tie.After-put-number) →
+first : (c : tie.After-put_number-at) →
     Put (number (get_or c.before.before.before.before.before.args.numbers.now 0 (pos 0))) 0
-    c.before.before.before.before.before.args.buf.now c.put-number.new.0 c.put-number.result
-first c = rw (to_z-of_z {w = w64} (record { sfits = c.before.put-number-arg2.given })) at c.put-number.ensures
+    c.before.before.before.before.before.args.buf.now c.put_number-at.new.buf c.put_number-at.result
+first c = rw (to_z-of_z {w = w64} (record { sfits = c.before.put_number-arg-2-1.given })) at c.put_number-at.ensures
 
-put-numbers-requires : tie.Need-put-numbers-requires
+put-numbers-requires : tie.Need-put_numbers-at-requires
 put-numbers-requires c κs =
     let f = c.before.before.before.before in
     let s = f.before.before.before.before.before in
     let zs = s.args.numbers.now in (
       omega (arith, further-count zs),
-      rw (further-all zs) (omega (arith, sized s, (first f).answer, f.put-number.auto)),
+      rw (further-all zs) (omega (arith, sized s, (first f).answer, f.put_number-at.auto)),
     )
 
-others : (c : tie.After-put-numbers) →
+others : (c : tie.After-put_numbers-at) →
     Put (numbers (drop 1 c.before.before.before.before.before.before.before.before.before.before.args.numbers.now))
-    c.before.before.before.before.before.put-number.result c.before.before.before.before.before.put-number.new.0
-    c.put-numbers.new.0 c.put-numbers.result
+    c.before.before.before.before.before.put_number-at.result c.before.before.before.before.before.put_number-at.new.buf
+    c.put_numbers-at.new.buf c.put_numbers-at.result
 others c =
     rw (further-all c.before.before.before.before.before.before.before.before.before.before.args.numbers.now) at
-    c.put-numbers.ensures
+    c.put_numbers-at.ensures
 
 -- the room that is left after the numbers
-after-numbers : (c : tie.After-put-numbers) → c.put-numbers.result +
-    length c.before.before.before.before.before.before.before.before.before.before.args.word.now + 2 ≤ length c.put-numbers.new.0
+after-numbers : (c : tie.After-put_numbers-at) → c.put_numbers-at.result +
+    length c.before.before.before.before.before.before.before.before.before.before.args.word.now + 2 ≤ length c.put_numbers-at.new.buf
 after-numbers c =
     let f = c.before.before.before.before.before in
     omega (
       arith,
       sized f.before.before.before.before.before,
       (first f).answer,
-      f.put-number.auto,
+      f.put_number-at.auto,
       (others c).answer,
-      c.put-numbers.auto,
+      c.put_numbers-at.auto,
     )
 
-put-byte-requires : tie.Need-put-byte-requires
+put-byte-requires : tie.Need-put_byte-at-requires
 put-byte-requires c κs = omega (arith, after-numbers c.before.before.before)
 
-put-bytes-requires : tie.Need-put-bytes-requires
+put-bytes-requires : tie.Need-put_bytes-at-requires
 put-bytes-requires c κs =
     let tab = c.before.before.before in
-    omega (arith, after-numbers tab.before.before.before.before, tab.put_byte.ensures.answer, tab.put_byte.auto)
+    omega (arith, after-numbers tab.before.before.before.before, tab.put_byte-at.ensures.answer, tab.put_byte-at.auto)
 
-put-byte-requires-2 : tie.Need-put-byte-requires-2
+put-byte-requires-2 : tie.Need-put_byte-requires
 put-byte-requires-2 c κs =
     let word = c.before.before.before in
     let tab = word.before.before.before.before in
     omega (
       arith,
       after-numbers tab.before.before.before.before,
-      tab.put_byte.ensures.answer,
-      tab.put_byte.auto,
-      word.put-bytes.ensures.answer,
-      word.put-bytes.auto,
+      tab.put_byte-at.ensures.answer,
+      tab.put_byte-at.auto,
+      word.put_bytes-at.ensures.answer,
+      word.put_bytes-at.auto,
     )
 
 returns : tie.Need-returns
@@ -101,11 +101,11 @@ returns c =
     let s = f.before.before.before.before.before in
     rw (first-and-further s.args.numbers.now s.args.word.now s.requires.0)
     (put_then
-    (put_then (put_then (first f) (others values)) (put_then tab.put_byte.ensures word.put-bytes.ensures))
-    feed.put-byte2.ensures)
+    (put_then (put_then (first f) (others values)) (put_then tab.put_byte-at.ensures word.put_bytes-at.ensures))
+    feed.put_byte.ensures)
 
-pub put-fields-spec : {M : Type 1} → statement M
-put-fields-spec =
+pub put_fields_spec : {M : Type 1} → statement M
+put_fields_spec =
     tie.close
     (tie.spec
     (λ c. search rules)

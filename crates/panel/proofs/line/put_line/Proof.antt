@@ -11,32 +11,32 @@ use Rattle.panel.proofs.line.put_line.Statement.{statement}
 use Rattle.panel.proofs.line.put_line.Tie as tie
 
 -- the word
-whole : (c : tie.After-word-of) → c.word_of.result.length ≤ length c.word_of.result.bytes
-whole c = let w = c.word_of.ensures in omega (arith, w.short, w.bytes-held)
+whole : (c : tie.After-word_of-word) → c.word_of-word.result.length ≤ length c.word_of-word.result.bytes
+whole c = let w = c.word_of-word.ensures in omega (arith, w.short, w.bytes-held)
 
 -- the text that is written
-text : (c : tie.After-word-of) →
+text : (c : tie.After-word_of-word) →
     (let fields = c.before.before in
-    fields_line fields.line-fields.result.numbers (take c.word_of.result.length c.word_of.result.bytes) ≡
+    fields_line fields.line_fields-fields.result.numbers (take c.word_of-word.result.length c.word_of-word.result.bytes) ≡
     panel_line fields.before.before.args.x)
 unfolding panel_line
 text c =
     let fields = c.before.before in
-    λ i. fields_line (fields.line-fields.ensures.numbers i) ((c.word_of.ensures.is ∙ ap outcome_word fields.line-fields.ensures.outcome) i)
+    λ i. fields_line (fields.line_fields-fields.ensures.numbers i) ((c.word_of-word.ensures.is ∙ ap outcome_word fields.line_fields-fields.ensures.outcome) i)
 
-put-fields-requires : tie.Need-put-fields-requires
+put-fields-requires : tie.Need-put_fields-requires
 put-fields-requires c κs =
     let w = c.before.before.before.before in
     let s = w.before.before.before.before in
-    (rw w.before.before.line-fields.ensures.numbers (unfold line_numbers in omega arith), rw (text w) s.requires.1)
+    (rw w.before.before.line_fields-fields.ensures.numbers (unfold line_numbers in omega arith), rw (text w) s.requires.1)
 
 returns : tie.Need-returns
 returns c =
     let put = c.before.before in
-    rw (text put.before.before.before.before.before) at put.put-fields.ensures
+    rw (text put.before.before.before.before.before) at put.put_fields.ensures
 
-pub put-line-spec : {M : Type 1} → statement M
-put-line-spec =
+pub put_line_spec : {M : Type 1} → statement M
+put_line_spec =
     tie.close
     (tie.spec
     (λ c κs. search rules)

@@ -36,5 +36,5 @@ returns : tie.Need-returns
 unfolding read panel_run
 returns c = c.run.ensures.is ∙ ap (λ l. run_of 2 l 16 0) (entries c.before.before.before)
 
-pub run-panel-spec : {M : Type 1} → statement M
-run-panel-spec = tie.close (tie.spec (λ c. search rules) run-requires returns)
+pub run_panel_spec : {M : Type 1} → statement M
+run_panel_spec = tie.close (tie.spec (λ c. search rules) run-requires returns)

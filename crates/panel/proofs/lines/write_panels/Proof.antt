@@ -6,7 +6,6 @@ use native.Mathlib.Omega.{arith}
 use lib.IntN.{nat_abs}
 use lib.ListN.{length}
 use borrow.Author.Rules.{rules}
-use borrow.Author.Tests.{not-false, not-true}
 use Rattle.text.specs.laws.Written.{refused, short, written}
 use Rattle.panel.specs.Refusal.{most_size, size_within}
 use Rattle.panel.specs.Text.{panels_text}
@@ -15,48 +14,48 @@ use Rattle.panel.proofs.Ranges.{in-range, sized, told}
 use Rattle.panel.proofs.lines.write_panels.Statement.{statement}
 use Rattle.panel.proofs.lines.write_panels.Tie as tie
 
-returns : tie.Need-returns
+returns : tie.Need-returns-then-not-is_size
 returns c =
     let s = c.before.before.before in
-    let e = text-refused s.args.b (told size_within s.ranges.b c.before.is-size.ensures (not-true _ c.if1.true)) in
+    let e = text-refused s.args.b (told size_within s.ranges.b c.before.is_size.ensures c.if-not-is_size.true) in
     refused _ _ _ 2 (sym e) (λ (z : 2 ≡ 0). omega arith)
 
 -- b is a size, and this is its natural
-module _ (c : tie.After-magnitude) where
+module _ (c : tie.After-magnitude-size) where
   abbrev start : tie.Start
   start = c.before.before.before.before
 
   size : size_within start.args.b ≡ true
-  size = told size_within start.fits.b c.before.before.is-size.ensures (not-false _ c.before.if1.false)
+  size = told size_within start.ranges.b c.before.before.is_size.ensures c.before.if-not-is_size.false
 
-  natural : c.magnitude.result ≡ nat_abs start.args.b
-  natural = sized start.fits.b c.magnitude.ensures
+  natural : c.magnitude-size.result ≡ nat_abs start.args.b
+  natural = sized start.ranges.b c.magnitude-size.ensures
 
-  text : panels_text c.magnitude.result ≡ panels_text (nat_abs start.args.b)
+  text : panels_text c.magnitude-size.result ≡ panels_text (nat_abs start.args.b)
   text = ap panels_text natural
 
-  small : c.magnitude.result ≤ most_size
+  small : c.magnitude-size.result ≤ most_size
   small = rw natural (in-range 0 most_size _ size).1
 
-returns-2 : tie.Need-returns-2
+returns-2 : tie.Need-returns-then-out-text_length
 returns-2 c =
     let l = c.before in
     let m = l.before in
-    short _ _ _ (text-taken _ (size m)) (omega (arith, c.if2.true, l.text-length.ensures.exact, ap length (text m)))
+    short _ _ _ (text-taken _ (size m)) (omega (arith, c.if-out-text_length.true, l.text_length.ensures.exact, ap length (text m)))
 
-put-text-requires : tie.Need-put-text-requires
+put-text-requires : tie.Need-put_text-requires
 put-text-requires c κs =
     let l = c.before.before in
-    (small l.before, omega (arith, c.before.if2.false, l.text-length.ensures.exact))
+    (small l.before, omega (arith, c.before.if-out-text_length.false, l.text_length.ensures.exact))
 
-returns-3 : tie.Need-returns-3
+returns-3 : tie.Need-returns
 returns-3 c =
     let put = c.before.before in
     let m = put.before.before.before.before in
-    written _ _ _ (text-taken _ (size m)) (rw (text m) at put.put-text.ensures)
+    written _ _ _ (text-taken _ (size m)) (rw (text m) at put.put_text.ensures)
 
-pub write-panels-spec : {M : Type 1} → statement M
-write-panels-spec =
+pub write_panels_spec : {M : Type 1} → statement M
+write_panels_spec =
     tie.close
     (tie.spec
     (λ c κs. search rules)

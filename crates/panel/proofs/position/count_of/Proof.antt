@@ -8,8 +8,8 @@ use Rattle.panel.proofs.Small.{cube-small, square-small}
 use Rattle.panel.proofs.position.count_of.Statement.{statement}
 use Rattle.panel.proofs.position.count_of.Tie as tie
 
-pub count-of-spec : {M : Type 1} → statement M
-count-of-spec =
+pub count_of_spec : {M : Type 1} → statement M
+count_of_spec =
     tie.close
     (tie.spec
     (λ c. search rules)

@@ -8,11 +8,11 @@ use Rattle.integer.specs.laws.Word.{difference-held}
 use Rattle.panel.proofs.position.entry_at.Statement.{statement}
 use Rattle.panel.proofs.position.entry_at.Tie as tie
 
-sub-result : tie.Need-overflow-sub-result
+sub-result : tie.Need-overflow_sub-result
 sub-result c = rw (to_z_pos w64 c.requires.1, to_z_pos w64 c.requires.0) (difference-held _ _ c.requires.1 c.requires.0)
 
 returns : tie.Need-returns
 returns c = to_z-of_z (sub-result c) ∙ (λ i. to_z_pos w64 c.requires.1 i -ℤ to_z_pos w64 c.requires.0 i)
 
-pub entry-at-spec : {M : Type 1} → statement M
-entry-at-spec = tie.close (tie.spec (λ c. search rules) (λ c. search rules) sub-result returns)
+pub entry_at_spec : {M : Type 1} → statement M
+entry_at_spec = tie.close (tie.spec (λ c. search rules) (λ c. search rules) sub-result returns)

@@ -5,7 +5,7 @@ use Rattle.panel.proofs.position.is_size.Statement.{statement}
 use Rattle.panel.proofs.position.is_size.Tie as tie
 
 returns : tie.Need-returns
-returns c = rw (to_z-of_z c.before.ranges.b) at c.natural-within.ensures
+returns c = rw (to_z-of_z c.before.ranges.b) at c.natural_within.ensures
 
-pub is-size-spec : {M : Type 1} → statement M
-is-size-spec = tie.close (tie.spec (λ c κs. search rules) returns)
+pub is_size_spec : {M : Type 1} → statement M
+is_size_spec = tie.close (tie.spec (λ c κs. search rules) returns)

@@ -13,20 +13,20 @@ use Rattle.panel.proofs.Small.{count_small}
 use Rattle.panel.proofs.position.panel_after.Statement.{statement}
 use Rattle.panel.proofs.position.panel_after.Tie as tie
 
-entry-at-requires : tie.Need-entry-at-requires
+entry-at-requires : tie.Need-entry_at-requires
 entry-at-requires c κs =
     let i = c.args.i in
     let w = width c.args.b in
     (omega (arith, c.requires.0), omega (arith, div-le_self (i / w) w, div-le_self i w, c.requires.1, count_small c.args.b c.requires.0))
 
-entry-at-requires-2 : tie.Need-entry-at-requires-2
+entry-at-requires-2 : tie.Need-entry_at-requires-2
 entry-at-requires-2 c κs =
     let s = c.before in
     let i = s.args.i in
     let w = width s.args.b in
     (omega (arith, s.requires.0), omega (arith, mod-le (i / w) w, div-le_self i w, s.requires.1, count_small s.args.b s.requires.0))
 
-entry-at-requires-3 : tie.Need-entry-at-requires-3
+entry-at-requires-3 : tie.Need-entry_at-requires-3
 entry-at-requires-3 c κs =
     let s = c.before.before in
     (omega (arith, s.requires.0), omega (arith, mod-le s.args.i (width s.args.b), s.requires.1, count_small s.args.b s.requires.0))
@@ -35,8 +35,8 @@ returns : tie.Need-returns
 unfolding panel_after
 returns c =
     let first = c.before.before.entry_at in
-    let second = c.before.entry-at2 in
-    let third = c.entry-at3 in
+    let second = c.before.entry_at-2 in
+    let third = c.entry_at-3 in
     let f : SFits w64 first.result = search rules in
     let g : SFits w64 second.result = search rules in
     let h : SFits w64 third.result = search rules in
@@ -46,8 +46,8 @@ returns c =
       a22 = (to_z-of_z h ∙ third.ensures) i;
     }
 
-pub panel-after-spec : {M : Type 1} → statement M
-panel-after-spec =
+pub panel_after_spec : {M : Type 1} → statement M
+panel_after_spec =
     tie.close
     (tie.spec
     (λ c. search rules)

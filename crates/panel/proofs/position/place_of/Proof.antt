@@ -20,7 +20,7 @@ module _ (c : tie.Start) where
   sum-held : SFits w64 (c.args.z +ℤ pos c.args.b)
   sum-held = held (c.args.z +ℤ pos c.args.b) (omega (arith, nat_abs-+ℤ c.args.z (pos c.args.b), c.requires.1, c.requires.0))
 
-add-magnitude : tie.Need-overflow-add-magnitude
+add-magnitude : tie.Need-overflow_add-z
 add-magnitude c = rw (to_z-of_z c.ranges.z, to_z_pos w64 (natural c)) (sum-held c)
 
 returns : tie.Need-returns
@@ -29,5 +29,5 @@ returns c =
     let e = sized (sum-held s) (rw (to_z-of_z s.ranges.z, to_z_pos w64 (natural s)) at c.magnitude.ensures) in
     (e, omega (arith, e, place-below s.args.b s.args.z s.requires.1, s.requires.0))
 
-pub place-of-spec : {M : Type 1} → statement M
-place-of-spec = tie.close (tie.spec (λ c. search rules) add-magnitude (λ c κs. search rules) returns)
+pub place_of_spec : {M : Type 1} → statement M
+place_of_spec = tie.close (tie.spec (λ c. search rules) add-magnitude (λ c κs. search rules) returns)
