@@ -10,7 +10,7 @@ use crate::line::{Fields, read_fields};
 
 // A call with its bench and its arguments, or no call. Of a load's list it has the places among the line's numbers: from `from` to before `to`; of
 // samples the dilutions stand before `middle` and the counts from there on.
-#[derive(Drop)]
+#[derive(Clone, Copy)]
 pub enum Request {
     Load {
         bench: usize,

@@ -8,16 +8,6 @@ use borrow.Author.Tests.{le-leb, lt-leb, leb-true, leb-false}
 use lib.Dec.{leb}
 use lib.ListN.{length, take, length-append, length-map}
 use lib.Seq.{length-take-le}
-use denote.Laws.{Is}
-use denote.Struct.Laws as LL
-use mir.Val.{Val}
-use Rattle.call_text.specs.contracts.answer.Printed as Line
-use Rattle.call_text.proofs.answer.Printed.TheLaws as Line'
-use Rattle.play.specs.contracts.passes.OwnStep as Own
-use Rattle.play.proofs.passes.OwnStep.TheLaws as Own'
-use Rattle.play.specs.contracts.step.Stepped as Done
-use Rattle.play.proofs.step.Stepped.TheLaws as Done'
-use Rattle.play.specs.declared.passes.OwnStep.{OwnStep}
 use Rattle.record.specs.declared.Record.{Record}
 use Rattle.text.specs.Put.{Put, fitted}
 use Rattle.text.specs.laws.Put.{front_length, put-nothing, put_then, same_size}
@@ -56,14 +46,6 @@ wrote_nothing text entry e h = record {
   lines = record { before = []; is = starts text e h };
   puts = put-nothing 0 _ (omega arith);
 }
-
--- the line of a step is in an array of 256 bytes
-pub line-full : (z : OwnStep) (vs : List Val) → Is Own.the_row z vs → length z.done.line.bytes ≡ 256
-line-full z vs is =
-    let own = LL.owed Own.the_type Own'.the_laws z vs is in
-    let done = LL.owed Done.the_type Done'.the_laws z.done _ own.0 in
-    let line = LL.owed Line.the_type Line'.the_laws z.done.line _ done.1.1.0 in
-    sym (length-map z.done.line.bytes (λ v. v)) ∙ line.0.1.0.1
 
 module _ (text : List ℕ) (here : Cursor) (r : Record) (z : Stepped) (after : Record) (s : Steps text false here r z after)
     (full : length z.line.bytes ≡ 256) where

@@ -1,9 +1,8 @@
 -- What a line says, by whether there is one and whether it is a call.
 use Prim.Native.Nat.{ℕ}
 use mathlib.Core.Path.{◌≡◌}
-use mathlib.Core.Bool.{Bool, true, false, not}
+use mathlib.Core.Bool.{Bool, true, false}
 use mathlib.Core.List.{[]}
-use borrow.Author.Tests.{not-false, not-true}
 use Rattle.record.specs.declared.AxisAnswer.{AxisAnswer}
 use Rattle.record.specs.declared.Record.{Record}
 use Rattle.call_text.specs.Answers.{shown}
@@ -20,11 +19,11 @@ module _ (line : NextLine) (answer : AxisAnswer) (r : Record) (p : Printed) wher
   says_nothing e h = record { is = rw (e, h.is); short = h.short }
 
   module _ (e : line.ended ≡ false) (b : Bool) (q : b ≡ is_call line.request) where
-    pub says-unknown : not b ≡ true → (k : ℕ) → k ≡ line.here.line → Prints (unknown_line k) p →
+    pub says-unknown : b ≡ false → (k : ℕ) → k ≡ line.here.line → Prints (unknown_line k) p →
         Says line answer r (record { more = false; next = line.here; line = p })
     unfolding said_by stopped_at
-    says-unknown n k l h = record { is = rw (e, ← q, not-true b n, h.is, l); short = h.short }
+    says-unknown n k l h = record { is = rw (e, ← q, n, h.is, l); short = h.short }
 
-    pub says-answer : not b ≡ false → Prints (shown (told_with answer r)) p → Says line answer r (record { more = true; next = line.next; line = p })
+    pub says-answer : b ≡ true → Prints (shown (told_with answer r)) p → Says line answer r (record { more = true; next = line.next; line = p })
     unfolding said_by
-    says-answer n h = record { is = rw (e, ← q, not-false b n, h.is); short = h.short }
+    says-answer n h = record { is = rw (e, ← q, n, h.is); short = h.short }

@@ -9,7 +9,7 @@ use call_text::reading::put_readings;
 use call_text::request::{Request, read_line};
 
 // Only the text's start and a line that was played give one.
-#[derive(Drop)]
+#[derive(Clone, Copy)]
 pub struct Cursor {
     at: usize,
     line: u64,
@@ -31,7 +31,7 @@ impl Cursor {
 }
 
 // What the line at a cursor asks for, and the cursor after it; `ended` says that there is no line.
-#[derive(Drop)]
+#[derive(Clone, Copy)]
 pub struct NextLine {
     pub request: Request,
     pub ended: bool,

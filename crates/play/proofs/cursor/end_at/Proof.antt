@@ -8,5 +8,5 @@ returns : tie.Need-returns
 unfolding end_at
 returns c = refl
 
-pub end-at-spec : {M : Type 1} → statement M
-end-at-spec = tie.close (tie.spec returns)
+pub end_at_spec : {M : Type 1} → statement M
+end_at_spec = tie.close (tie.spec returns)

@@ -4,40 +4,40 @@ use Rattle.play.specs.inner.Lines.{samples_end}
 use Rattle.play.proofs.cursor.samples_end.Statement.{statement}
 use Rattle.play.proofs.cursor.samples_end.Tie as tie
 
-load : tie.Need-returns
+load : tie.Need-returns-in-Load
 unfolding samples_end
-load c = rw c.enum_told.given.1
+load c = rw c.in-Load.is
 
-samples : tie.Need-returns-2
+samples : tie.Need-returns-in-LoadSamples
 unfolding samples_end
-samples c = rw c.before.request.given.1
+samples c = rw c.in-LoadSamples.is
 
-turn : tie.Need-returns-3
+turn : tie.Need-returns-in-Turn
 unfolding samples_end
-turn c = rw c.enum-told2.given.1
+turn c = rw c.in-Turn.is
 
-sweep : tie.Need-returns-4
+sweep : tie.Need-returns-in-Sweep
 unfolding samples_end
-sweep c = rw c.enum-told3.given.1
+sweep c = rw c.in-Sweep.is
 
-loose-pair : tie.Need-returns-5
+loose-pair : tie.Need-returns-in-LoosePair
 unfolding samples_end
-loose-pair c = rw c.enum-told4.given.1
+loose-pair c = rw c.in-LoosePair.is
 
-axis : tie.Need-returns-6
+axis : tie.Need-returns-in-Axis
 unfolding samples_end
-axis c = rw c.enum-told5.given.1
+axis c = rw c.in-Axis.is
 
-none : tie.Need-returns-7
+none : tie.Need-returns-in-NoCall
 unfolding samples_end
-none c = rw c.enum-told6.given.1
+none c = rw c.in-NoCall.is
 
-tournament-sweep : tie.Need-returns-8
+tournament-sweep : tie.Need-returns-in-TournamentSweep
 unfolding samples_end
-tournament-sweep c = rw c.enum-told7.given.1
+tournament-sweep c = rw c.in-TournamentSweep.is
 
-pub samples-end-spec : {M : Type 1} → statement M
-samples-end-spec =
+pub samples_end_spec : {M : Type 1} → statement M
+samples_end_spec =
     tie.close
     (tie.spec
     (λ c. search rules)

@@ -4,40 +4,40 @@ use Rattle.play.specs.inner.Lines.{is_call}
 use Rattle.play.proofs.step.is_call.Statement.{statement}
 use Rattle.play.proofs.step.is_call.Tie as tie
 
-load : tie.Need-returns
+load : tie.Need-returns-in-Load
 unfolding is_call
-load c = rw c.enum_told.given.1
+load c = rw c.in-Load.is
 
-samples : tie.Need-returns-2
+samples : tie.Need-returns-in-LoadSamples
 unfolding is_call
-samples c = rw c.enum-told2.given.1
+samples c = rw c.in-LoadSamples.is
 
-turn : tie.Need-returns-3
+turn : tie.Need-returns-in-Turn
 unfolding is_call
-turn c = rw c.enum-told3.given.1
+turn c = rw c.in-Turn.is
 
-sweep : tie.Need-returns-4
+sweep : tie.Need-returns-in-Sweep
 unfolding is_call
-sweep c = rw c.enum-told4.given.1
+sweep c = rw c.in-Sweep.is
 
-loose-pair : tie.Need-returns-5
+loose-pair : tie.Need-returns-in-LoosePair
 unfolding is_call
-loose-pair c = rw c.enum-told5.given.1
+loose-pair c = rw c.in-LoosePair.is
 
-axis : tie.Need-returns-6
+axis : tie.Need-returns-in-Axis
 unfolding is_call
-axis c = rw c.enum-told6.given.1
+axis c = rw c.in-Axis.is
 
-none : tie.Need-returns-7
+none : tie.Need-returns-in-NoCall
 unfolding is_call
-none c = rw c.enum-told7.given.1
+none c = rw c.in-NoCall.is
 
-tournament-sweep : tie.Need-returns-8
+tournament-sweep : tie.Need-returns-in-TournamentSweep
 unfolding is_call
-tournament-sweep c = rw c.enum-told8.given.1
+tournament-sweep c = rw c.in-TournamentSweep.is
 
-pub is-call-spec : {M : Type 1} → statement M
-is-call-spec =
+pub is_call_spec : {M : Type 1} → statement M
+is_call_spec =
     tie.close
     (tie.spec
     (λ c. search rules)

@@ -4,22 +4,22 @@ use Rattle.play.proofs.Saying.{says-answer, says_nothing, says-unknown}
 use Rattle.play.proofs.step.said.Statement.{statement}
 use Rattle.play.proofs.step.said.Tie as tie
 
-returns : tie.Need-returns
-returns c = says_nothing _ _ _ _ c.before.if1.true c.nothing.ensures
+returns : tie.Need-returns-then-line
+returns c = says_nothing _ _ _ _ c.if-line.true c.nothing.ensures
 
-returns-2 : tie.Need-returns-2
+returns-2 : tie.Need-returns-then-not-is_call
 returns-2 c =
-    let i = c.before.before.before in
-    says-unknown _ _ _ _ i.before.if1.false _ i.is-call.ensures c.before.before.if2.true _ c.before.number.ensures
-    c.unknown-line.ensures
+    let i = c in
+    says-unknown _ _ _ _ i.if-line.false _ i.is_call.ensures c.if-not-is_call.true _ c.number.ensures
+    c.unknown_line.ensures
 
-returns-3 : tie.Need-returns-3
+returns-3 : tie.Need-returns
 returns-3 c =
-    let i = c.before.before in
-    says-answer _ _ _ _ i.before.if1.false _ i.is-call.ensures c.before.if2.false c.answered-line.ensures
+    let i = c in
+    says-answer _ _ _ _ i.if-line.false _ i.is_call.ensures c.if-not-is_call.false c.answered_line.ensures
 
-pub said-spec : {M : Type 1} → statement M
-said-spec =
+pub said_spec : {M : Type 1} → statement M
+said_spec =
     tie.close
     (tie.spec
     (λ c κs. search rules)

@@ -8,5 +8,5 @@ returns : tie.Need-returns
 unfolding unknown_line
 returns c = c.one_number.ensures
 
-pub unknown-line-spec : {M : Type 1} → statement M
-unknown-line-spec = tie.close (tie.spec (λ c κs. search rules) returns)
+pub unknown_line_spec : {M : Type 1} → statement M
+unknown_line_spec = tie.close (tie.spec (λ c κs. search rules) returns)
