@@ -1,5 +1,5 @@
 -- The sizes of S and of the shift, for sums of readings within the ranges: no number needs more than 63 bits.
-use Rattle.std.specs.Prelude.{List, ℤ, pos, ◌-ℤ◌, length, get_or}
+use Rattle.std.specs.Prelude.{◌≡◌, List, ℤ, pos, ◌-ℤ◌, length, get_or}
 use Prim.Native.Nat.{ℕ, ◌+◌, ◌*◌, ◌-◌, ◌^◌, ◌<◌, ◌≤◌, min, max}
 use Rattle.std.proofs.Common.{mul-le-mul, le_trans, le_refl}
 use native.Mathlib.Omega.{arith}
@@ -10,13 +10,14 @@ use Rattle.integer.specs.laws.Padded.{length-padded, padded-at}
 use Rattle.integer.specs.laws.RowMajor.{row_major-all}
 use Rattle.readings.specs.Ranges.{Readings}
 use Rattle.readings.specs.Samples.{samples}
+use Rattle.sums.specs.Sums.{sums_of}
 use Rattle.sums.specs.declared.Sums.{Sums}
 use Rattle.sums.specs.inner.Ranges.{z_limit, Bounded}
 use Rattle.sums.specs.laws.Bounds.{readings-bounded}
-use Rattle.scatter.specs.Table.{largest, shift, shift_under, table_from_under, table_of, table_under}
+use Rattle.scatter.specs.Table.{S, scatter, largest, shift, shift_under, table_from_under, table_of, table_under}
 use Rattle.scatter.specs.inner.BySums.{SBySums, scatter_by_sums}
 use Rattle.scatter.specs.inner.Ranges.{Roundable}
-use Rattle.scatter.specs.laws.BySums.{scatter-by-sums}
+use Rattle.scatter.specs.laws.BySums.{all-by-sums, by_totals}
 use Rattle.scatter.specs.laws.Shift.{largest-least, smallest-found, shift_small}
 use Rattle.limits.specs.Limits.{most_samples}
 use Rattle.limits.specs.laws.Values.{former-below, some-entry}
@@ -63,7 +64,9 @@ module _ (us : List ℤ) (h : (p : ℕ) → nat_abs (get_or us p (pos 0)) < 2 ^ 
       )
 
 pub readings-shift : (n : ℕ) (dilutions counts : List ℕ) → Readings n dilutions counts → (table_of n (samples n dilutions counts)).e < 62
-unfolding table_under table_from_under
+unfolding table_under table_from_under scatter S by_totals
 readings-shift n dilutions counts r =
-    rw (← scatter-by-sums (samples n dilutions counts) n r.channels)
-    (shift-bound _ (scatter-small _ (readings-bounded n dilutions counts r) n))
+    let same : scatter_by_sums n (sums_of (samples n dilutions counts)) ≡ scatter n (samples n dilutions counts) =
+        all-by-sums (samples n dilutions counts) n r.channels
+    in
+    rw (← same) (shift-bound _ (scatter-small _ (readings-bounded n dilutions counts r) n))

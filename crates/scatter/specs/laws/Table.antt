@@ -1,8 +1,8 @@
 -- What the table of samples is in document 01's words, under any limit: `table_under` gives it, and nothing else is it.
-use Rattle.std.specs.Prelude.{◌≡◌, refl, List, ℕ, ◌*◌, ◌^◌, ◌<◌, ◌≤◌, ℤ, pos, length, get_or}
+use Rattle.std.specs.Prelude.{◌≡◌, refl, List, ℕ, ◌*◌, ◌^◌, ◌<◌, ◌≤◌, ℤ, pos, length, get_or, map}
 use Rattle.std.proofs.Common.{ap, sym, ◌∙◌, arith}
 use Rattle.std.proofs.Math.IntN.{nat_abs}
-use Rattle.std.proofs.Math.ListN.{get_or-eq_default}
+use Rattle.std.proofs.Math.ListN.{get_or-eq_default, length-map}
 use Rattle.integer.specs.Matrix.{Matrix, Same, matrix_of}
 use Rattle.integer.specs.Padded.{padded}
 use Rattle.integer.specs.laws.Padded.{length-padded, padded-at}
@@ -11,8 +11,8 @@ use Rattle.limits.specs.laws.Channels.{places}
 use Rattle.rounding.specs.Rounding.{rnd}
 use Rattle.readings.specs.Samples.{Sample}
 use Rattle.scatter.specs.declared.table.Table.{Table}
-use Rattle.scatter.specs.Table.{S, scatter, entries_under, table_from_under, table_under}
-use Rattle.scatter.specs.laws.Entries.{entries_at, length-entries, length-scatter, scatter-at}
+use Rattle.scatter.specs.Table.{S, scatter, shift_under, entries_under, table_from_under, table_under}
+use Rattle.scatter.specs.laws.Entries.{rounded-at, length-scatter, scatter-at}
 use Rattle.scatter.specs.laws.Shift.{shift-smallest}
 
 -- the n × n numbers of a matrix row after row in 64 places, zeros after them
@@ -53,24 +53,38 @@ module _ (n : ℕ) (h : n ≤ 8) where
     unfolding scatter
     everywhere e w = row_major-all n (S ss) (λ u. nat_abs u ≤ limit * 2 ^ e) (omega arith) w
 
+    shift-within : Enough limit n ss (shift_under limit (scatter n ss))
+    unfolding matrix_of
+    shift-within i j g f = rw (← scatter-at n ss i j g f) ((shift-smallest some (scatter n ss)).within _)
+
+    shift-least : (e : ℕ) → Enough limit n ss e → shift_under limit (scatter n ss) ≤ e
+    shift-least e w = (shift-smallest some (scatter n ss)).least e (everywhere e w)
+
+    rounded-in-array : (e : ℕ) → InArray n (λ i j. rnd (S ss i j) (2 ^ e)) (padded 64 (pos 0) (map (λ u. rnd u (2 ^ e)) (scatter n ss)))
+    rounded-in-array e = padded-in-array (map (λ u. rnd u (2 ^ e)) (scatter n ss)) (length-map (scatter n ss) _ ∙ length-scatter n ss) (rounded-at n ss e)
+
+    scatter-in-array : InArray n (S ss) (padded 64 (pos 0) (scatter n ss))
+    scatter-in-array = padded-in-array (scatter n ss) (length-scatter n ss) (scatter-at n ss)
+
     pub table_is : IsTable limit n ss (table_under limit n ss)
-    unfolding table_under table_from_under matrix_of
+    unfolding table_under table_from_under entries_under
     table_is =
         record {
-          within = λ i j g f. rw (← scatter-at n ss i j g f) ((shift-smallest some (scatter n ss)).within _);
-          least = λ e w. (shift-smallest some (scatter n ss)).least e (everywhere e w);
-          entries = padded-in-array (entries_under limit (scatter n ss)) (length-entries limit (scatter n ss) ∙ length-scatter n ss)
-              (entries_at n ss limit);
-          scatter = padded-in-array (scatter n ss) (length-scatter n ss) (scatter-at n ss);
+          within = shift-within;
+          least = shift-least;
+          entries = rounded-in-array (shift_under limit (scatter n ss));
+          scatter = scatter-in-array;
         }
 
     pub table-unique : (t : Table) → IsTable limit n ss t → t ≡ table_under limit n ss
+    unfolding table_under table_from_under entries_under
     table-unique t is =
         λ i. record {
           e = same-e i;
-          entries = in-array-unique (λ k j g f. ap (λ e. rnd (S ss k j) (2 ^ e)) same-e) is.entries table_is.entries i;
-          scatter = in-array-unique (λ k j g f. refl) is.scatter table_is.scatter i;
+          entries = in-array-unique (λ k j g f. ap (λ e. rnd (S ss k j) (2 ^ e)) same-e) is.entries
+              (rounded-in-array (shift_under limit (scatter n ss))) i;
+          scatter = in-array-unique (λ k j g f. refl) is.scatter scatter-in-array i;
         }
       where
-        same-e : t.e ≡ (table_under limit n ss).e
-        same-e = omega (arith, is.least (table_under limit n ss).e table_is.within, table_is.least t.e is.within)
+        same-e : t.e ≡ shift_under limit (scatter n ss)
+        same-e = omega (arith, is.least (shift_under limit (scatter n ss)) shift-within, shift-least t.e is.within)
