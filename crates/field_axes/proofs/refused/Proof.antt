@@ -12,11 +12,11 @@ use Rattle.field_axes.proofs.refused.Tie as tie
 small : (c : tie.Start) → c.args.number < 2 ^ 63
 small c = omega arith
 
-sub-result : tie.Need-overflow-sub-result
+sub-result : tie.Need-overflow_sub-result
 sub-result c = rw (to_z_pos w64 (small c)) (negated-held (pos c.args.number) (small c))
 
 returns : tie.Need-returns
 returns c = rw (to_z_pos w64 (small c), negated (pos c.args.number) (small c))
 
-pub refused-spec : {M : Type 1} → statement M
-refused-spec = tie.close (tie.spec (λ c. search rules) sub-result returns)
+pub refused_spec : {M : Type 1} → statement M
+refused_spec = tie.close (tie.spec (λ c. search rules) sub-result returns)

@@ -14,22 +14,22 @@ use Rattle.field_axes.proofs.table.put_table.Statement.{statement}
 use Rattle.field_axes.proofs.table.put_table.Tie as tie
 
 -- the sums and the entries in use
-module _ (c : tie.After-table-of-readings) where
-  sums : (let n = c.before.before.before.args.n in length (take (n * n) c.table-of-readings.result.scatter) ≡ n * n)
-  sums = rw c.table-of-readings.ensures (scatter-used _ c.before.before.before.requires.readings.channels _)
+module _ (c : tie.After-table_of_readings-table) where
+  sums : (let n = c.before.before.before.args.n in length (take (n * n) c.table_of_readings-table.result.scatter) ≡ n * n)
+  sums = rw c.table_of_readings-table.ensures (scatter-used _ c.before.before.before.requires.readings.channels _)
 
-  entries : (let n = c.before.before.before.args.n in length (take (n * n) c.table-of-readings.result.entries) ≡ n * n)
-  entries = rw c.table-of-readings.ensures (entries-used _ c.before.before.before.requires.readings.channels _)
+  entries : (let n = c.before.before.before.args.n in length (take (n * n) c.table_of_readings-table.result.entries) ≡ n * n)
+  entries = rw c.table_of_readings-table.ensures (entries-used _ c.before.before.before.requires.readings.channels _)
 
-  sums-within : (let n = c.before.before.before.args.n in n * n ≤ length c.table-of-readings.result.scatter)
-  sums-within = let h = c.before.before.before.requires.readings.channels in rw (c.table-of-readings.ensures, length-scatter _ h) (places _ h)
+  sums-within : (let n = c.before.before.before.args.n in n * n ≤ length c.table_of_readings-table.result.scatter)
+  sums-within = let h = c.before.before.before.requires.readings.channels in rw (c.table_of_readings-table.ensures, length-scatter _ h) (places _ h)
 
-  entries-within : (let n = c.before.before.before.args.n in n * n ≤ length c.table-of-readings.result.entries)
-  entries-within = let h = c.before.before.before.requires.readings.channels in rw (c.table-of-readings.ensures, length-entries _ h) (places _ h)
+  entries-within : (let n = c.before.before.before.args.n in n * n ≤ length c.table_of_readings-table.result.entries)
+  entries-within = let h = c.before.before.before.requires.readings.channels in rw (c.table_of_readings-table.ensures, length-entries _ h) (places _ h)
 
-put-requires-2 : tie.Need-put-requires-2
+put-requires-2 : tie.Need-put-at-requires-2
 put-requires-2 c κs =
-    let head = c.before.before.before.put.ensures in
+    let head = c.before.before.before.put-at.ensures in
     rw (sums c.before.before.before.before.before.before.before.before.before)
     (omega (
       arith,
@@ -38,10 +38,10 @@ put-requires-2 c κs =
       c.before.before.before.before.before.before.before.before.before.before.before.before.requires.room,
     ))
 
-put-requires-3 : tie.Need-put-requires-3
+put-requires-3 : tie.Need-put-requires
 put-requires-3 c κs =
-    let head = c.before.before.before.before.before.before.before.put.ensures in
-    let put = c.before.before.before.put2.ensures in
+    let head = c.before.before.before.before.before.before.before.put-at.ensures in
+    let put = c.before.before.before.put-at-2.ensures in
     rw (entries c.before.before.before.before.before.before.before.before.before.before.before.before.before)
     (omega (
       arith,
@@ -56,14 +56,14 @@ put-requires-3 c κs =
 returns : tie.Need-returns
 unfolding table_numbers_of table_numbers
 returns c =
-    let table = c.before.before.before.before.before.before.before.before.before.before.before.before.before.before.before.table-of-readings in
+    let table = c.before.before.before.before.before.before.before.before.before.before.before.before.before.before.before.table_of_readings-table in
     let small : table.result.e < 2 ^ 63 = omega arith in
     rw (← table.ensures)
-    (put_then (rw (to_z_pos w64 small) at c.before.before.before.before.before.before.before.before.before.put.ensures)
-    (put_then c.before.before.before.before.before.put2.ensures c.before.put3.ensures))
+    (put_then (rw (to_z_pos w64 small) at c.before.before.before.before.before.before.before.before.before.put-at.ensures)
+    (put_then c.before.before.before.before.before.put-at-2.ensures c.before.put.ensures))
 
-pub put-table-spec : {M : Type 1} → statement M
-put-table-spec =
+pub put_table_spec : {M : Type 1} → statement M
+put_table_spec =
     tie.close
     (tie.spec
     (λ c κs. c.before.before.requires.readings)
