@@ -1,5 +1,5 @@
 //! The proved functions against the same method in plain Rust, on the same inputs in one process. At the repository's root:
-//! `rt staticlib field_axes && cargo run --release --offline --manifest-path bench/Cargo.toml`
+//! `.ci/staticlib && cargo run --release --offline --manifest-path bench/Cargo.toml`
 
 mod jobs;
 mod measure;

@@ -1,6 +1,6 @@
 """Field Axes for Python programs: the functions of the proved static library, by ctypes, with the standard library alone.
 
-At the repository's root the shared library is built from the static one, which `rt staticlib field_axes` writes, by
+At the repository's root the shared library is built from the static one, which `.ci/staticlib` writes, by
 
     cc -shared -o target/libfield_axes.so -Wl,--whole-archive target/staticlib/libfield_axes.a -Wl,--no-whole-archive
 

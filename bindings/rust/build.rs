@@ -1,4 +1,4 @@
-//! Links target/staticlib/libfield_axes.a of the repository, which `rt staticlib field_axes` writes.
+//! Links target/staticlib/libfield_axes.a of the repository, which `.ci/staticlib` writes.
 
 use std::path::Path;
 
@@ -8,7 +8,7 @@ fn main() {
     let archive = folder.join("libfield_axes.a");
     assert!(
         archive.exists(),
-        "target/staticlib/libfield_axes.a is missing: run `rt staticlib field_axes` at the repository's root"
+        "target/staticlib/libfield_axes.a is missing: run `.ci/staticlib` at the repository's root"
     );
     println!("cargo:rerun-if-changed={}", archive.display());
     println!("cargo:rustc-link-search=native={}", folder.display());

@@ -1,7 +1,7 @@
 //! The declarations of the exported functions: those of both bindings against the library's own, parameter for parameter; and the sizes
 //! of the buffers.
 
-const LIBRARY: &str = include_str!("../../crates/field_axes/src/lib.rt");
+const LIBRARY: &str = include_str!("../../crates/field_axes_c/src/lib.rt");
 const RUST: &str = include_str!("../../bindings/rust/src/lib.rs");
 const C: &str = include_str!("../../bindings/c/field_axes.h");
 

@@ -1,6 +1,6 @@
 //! The static library through its bindings: their declarations against its own, then its functions against the reference on seeded random
 //! inputs, number for number and byte for byte. At the repository's root:
-//! `rt staticlib field_axes && cargo run --release --offline --manifest-path tests/Cargo.toml`
+//! `.ci/staticlib && cargo run --release --offline --manifest-path tests/Cargo.toml`
 
 mod calling;
 mod declarations;

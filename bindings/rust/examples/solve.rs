@@ -1,7 +1,7 @@
 //! Three samples of two channels: their table and its axes, then their job text and its report, samples that are no job, and a job that is
 //! refused; then some calls, and a load of strong samples; last, all panels of size 1, the first and the last of them, and one that is none.
 //! It prints what solve.out has. At the repository's root:
-//! `rt staticlib field_axes && cargo run --release --offline --manifest-path bindings/rust/Cargo.toml --example solve`
+//! `.ci/staticlib && cargo run --release --offline --manifest-path bindings/rust/Cargo.toml --example solve`
 
 use field_axes::{
     calls, job, panel, panel_position, panels, report, solve, table, JobRefused, Refused,

@@ -2,7 +2,7 @@
 //!
 //! A refusal is the number that the customer's documents 01 and 02 give it.
 
-/// The declarations of `crates/field_axes/src/lib.rt`, where a `&[T]` is a pointer and a length. `tests/` holds them to it, and
+/// The declarations of `crates/field_axes_c/src/lib.rt`, where a `&[T]` is a pointer and a length. `tests/` holds them to it, and
 /// those of `bindings/c/field_axes.h`.
 mod raw {
     extern "C" {
