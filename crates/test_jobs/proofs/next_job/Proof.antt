@@ -9,11 +9,11 @@ returns c =
     let size = c.before.before in
     let length = size.before in
     let start = length.before.before in
-    let after = length.number_at.ensures.2 start.requires in
-    (omega (arith, after, size.number-at2.ensures), search rules, omega (arith, c.least2.ensures.1, size.number-at2.ensures.1), search rules)
+    let after = length.number_at-length.ensures.2 start.requires in
+    (omega (arith, after, size.number_at-size.ensures), search rules, omega (arith, c.least-2.ensures.1, size.number_at-size.ensures.1), search rules)
 
-pub next-job-spec : {M : Type 1} → statement M
-next-job-spec =
+pub next_job_spec : {M : Type 1} → statement M
+next_job_spec =
     tie.close
     (tie.spec
     (λ c κs. search rules)

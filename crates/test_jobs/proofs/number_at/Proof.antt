@@ -5,14 +5,14 @@ use lib.ListN.{length}
 use Rattle.test_jobs.proofs.number_at.Statement.{statement}
 use Rattle.test_jobs.proofs.number_at.Tie as tie
 
-abbrev invariant-loop : tie.invariant-loop
+abbrev invariant-loop : tie.invariant-loop-at
 invariant-loop jobs from value₀ at₀ value at = (from ≤ at) × (at ≤ length jobs) × (value ≤ 65_536)
 
-abbrev decreases-loop : tie.decreases-loop
+abbrev decreases-loop : tie.decreases-loop-at
 decreases-loop jobs from value₀ at₀ value at = length jobs - at
 
-pub number-at-spec : {M : Type 1} → statement M
-number-at-spec =
+pub number_at_spec : {M : Type 1} → statement M
+number_at_spec =
     tie.close
     (tie.spec
     invariant-loop
