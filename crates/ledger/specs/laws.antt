@@ -8,9 +8,7 @@ pub mod Near
 pub mod Sound
 pub mod Loaded
 pub mod Turned
-pub mod Rows
 pub mod Invariant
 pub mod Gain
-pub mod GainExample
 pub mod NearExample
 pub mod Refusals

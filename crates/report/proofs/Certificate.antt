@@ -24,7 +24,8 @@ use Rattle.ledger.specs.Axis.{error_of}
 use Rattle.ledger.specs.Bench.{NamedCall, is_bench}
 use Rattle.ledger.specs.Call.{axis, load_samples, loose_pair, sweep}
 use Rattle.ledger.specs.laws.Accepted.{axis-taken, samples-alone}
-use Rattle.ledger.specs.laws.Invariant.{SoundLedger, sound, turn_pairs-continues}
+use Rattle.ledger.specs.laws.Invariant.{SoundLedger, turn_pairs-continues}
+use Rattle.ledger.proofs.Invariant.{sound}
 use Rattle.ledger.specs.laws.Sound.{Sound}
 use Rattle.ledger.specs.Ledger as book
 use Rattle.ledger.specs.Ledger.{Ledger, State, empty, loaded, ledger, ledger_from, ledger_from_under, ledger_step, ledger_step_under, loaded_state}

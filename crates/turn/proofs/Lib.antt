@@ -1,6 +1,10 @@
+mod Combination
+mod GainExamples
+mod Power
 pub mod Back
 pub mod Columns
-mod Combination
+pub mod Error
+pub mod Gain
+pub mod Norm
 pub mod Pass
-mod Power
 pub mod Whole

@@ -8,9 +8,7 @@ pub mod Exact
 pub mod Symmetry
 pub mod Rounded
 pub mod Error
-pub mod Norm
 pub mod Congruence
 pub mod Half
 pub mod OffDiagonal
-pub mod Gain
 pub mod GainExamples

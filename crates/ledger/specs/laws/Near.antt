@@ -7,7 +7,8 @@ use Rattle.integer.specs.laws.Square.{sq_pos}
 use Rattle.integer.specs.Matrix.{Matrix, product, conjugate, squares}
 use Rattle.integer.specs.laws.Matrix.{product-difference, conjugate-product, conjugate-difference, squares-cong, squares-*, squares-+}
 use Rattle.integer.specs.Matrix.{Symmetric}
-use Rattle.turn.specs.laws.Error.{matrix_error, axes_error, matrix-error, axes-error}
+use Rattle.turn.specs.laws.Error.{matrix_error, axes_error}
+use Rattle.turn.proofs.Error.{matrix-error, axes-error}
 use Rattle.turn.specs.Exact.{exact}
 use Rattle.turn.specs.laws.Exact.{Whole, exact-squares, conjugate-squares}
 use Rattle.turn.specs.Turn.{turned, turned_axes}

@@ -55,7 +55,7 @@ once_test-once n pairs t = record { ordered = each_in n pairs both.0; once = pai
     rest = and_yes (each_once n pairs) (rightly-many n pairs) both.1
 
 -- One test of an order settles every n up to 8; 0 and 1, which have no pairs, pass it too.
-once-to-8 : (order : ℕ → List Pair) → T (all (λ n. once_test n (order n)) 9) → (n : ℕ) → n ≤ 8 → ExactlyOnce n (order n)
+pub once-to-8 : (order : ℕ → List Pair) → T (all (λ n. once_test n (order n)) 9) → (n : ℕ) → n ≤ 8 → ExactlyOnce n (order n)
 once-to-8 order t n h = once_test-once n (order n) (below (λ n. once_test n (order n)) 9 t n (omega arith))
 
 -- 'Each pair comes exactly once in a sweep.'

@@ -5,7 +5,7 @@ use Rattle.integer.specs.Square.{sq}
 use Rattle.integer.specs.Sum.{sumℕ}
 use Rattle.integer.specs.Matrix.{diagonal}
 use Rattle.turn.specs.laws.Exact.{Whole, rotation_of-whole, exact-keeps-orthogonal, exact-dot-squares}
-use Rattle.turn.specs.laws.Norm.{turned-squares, axes-column}
+use Rattle.turn.proofs.Norm.{turned-squares, axes-column}
 use Rattle.turn.specs.Rotation.{rotation_of}
 use Rattle.turn.specs.laws.Symmetry.{turned-symmetric}
 use Rattle.turn.specs.declared.pair.Rotation.{Rotation}

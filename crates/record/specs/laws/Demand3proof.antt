@@ -8,13 +8,14 @@ use Rattle.ledger.specs.Axis.{error_of}
 use Rattle.ledger.specs.laws.Axis.{same-error}
 use Rattle.ledger.specs.Bench.{NamedCall, is_bench}
 use Rattle.ledger.specs.Call.{axis}
-use Rattle.ledger.specs.laws.Invariant.{SoundLedger, sound-named}
+use Rattle.ledger.specs.laws.Invariant.{SoundLedger}
+use Rattle.ledger.proofs.Invariant.{sound-named}
 use Rattle.ledger.specs.Ledger.{Ledger, State, empty, loaded, ledger, ledger_from_under, ledger_step_under, named_step_under}
 use Rattle.limits.specs.Limits.{entry_limit, units, whole}
 use Rattle.limits.specs.laws.Values.{some-entry}
 use Rattle.ledger.specs.Near.{matrix_difference, axes_difference}
 use Rattle.ledger.specs.Refusal.{refusal_of, refusal_under}
-use Rattle.ledger.specs.laws.Rows.{row_near}
+use Rattle.ledger.proofs.Rows.{row_near}
 use Rattle.ledger.specs.laws.Sound.{Sound}
 use Rattle.record.specs.laws.Named.{fresh_kept, named-kept-under}
 use Rattle.record.specs.laws.Agree.{Agree, Agrees, agree-step}

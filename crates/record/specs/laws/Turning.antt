@@ -14,7 +14,7 @@ use Rattle.integer.specs.laws.Sum.{sumℕ-cong, sumℕ-const, term-≤-sumℕ}
 use Rattle.ledger.specs.Pairs.{Pair, Each}
 use Rattle.ledger.specs.Sound.{matrix_bound, axes_bound}
 use Rattle.turn.specs.laws.Exact.{rotation_of-whole}
-use Rattle.turn.specs.laws.Norm.{turned-squares, axes-column}
+use Rattle.turn.proofs.Norm.{turned-squares, axes-column}
 use Rattle.turn.specs.Rotation.{rotation_of}
 use Rattle.turn.specs.Size.{Small}
 use Rattle.turn.specs.inner.Size.{SymmetricRows}

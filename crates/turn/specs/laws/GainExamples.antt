@@ -1,6 +1,6 @@
 -- Blocks of two channels: a turn that gains, and turns that `half` and `kept` of `Gains` each rule out.
 use Rattle.std.specs.Prelude.{◌≡◌, refl, true, false, cond, ℕ, ◌+◌, ◌≤◌, eqb, pos}
-use Rattle.std.proofs.Common.{add_comm, arith, lit≤}
+use Rattle.std.proofs.Common.{arith}
 use Rattle.integer.specs.Dot.{dot}
 use Rattle.integer.specs.Matrix.{Matrix, conjugate, diagonal, product}
 use Rattle.integer.specs.RoundedUp.{rounded_up}
@@ -14,7 +14,6 @@ use Rattle.turn.specs.Exact.{exact}
 use Rattle.turn.specs.Gain.{Gains}
 use Rattle.turn.specs.Rotation.{first, rotation_of, second}
 use Rattle.turn.specs.Turn.{at_pair, hpp, hpq, newp, newpq, turned}
-use Rattle.turn.specs.laws.Gain.{gains}
 
 -- a_pp = 0, a_pq = a_qp = x and a_qq = y
 abbrev pub block : ℕ → ℕ → Matrix
@@ -34,10 +33,3 @@ not-six-quarters g = let above : 8 ≤ 7 = g.kept in omega (arith, above)
 pub picked : choose (block 1 1 0 0) (block 1 1 1 1) (block 1 1 0 1) ≡ Turn 2 true
 unfolding choose smallest_fit fits threshold rounded_up u w minus_sign negative
 picked = refl
-
-pub gained : Gains 2 (rotation_of 2 true) 0 1 (block 1 1)
-gained = gains 2 0 1 (lit≤ tt) (lit≤ tt) (block 1 1) (λ i j h k. rw (add_comm i j) refl) 2 true picked
-
-pub left : 82 ≤ 289
-unfolding conjugate product dot sum exact at_pair rotation_of signed diagonal
-left = gained.half

@@ -14,7 +14,8 @@ use Rattle.integer.specs.Matrix.{Symmetric}
 use Rattle.turn.specs.Turn.{turned, turned_axes}
 use Rattle.turn.specs.Exact.{exact}
 use Rattle.turn.specs.laws.Exact.{Whole, exact-column-squares, conjugate-squares}
-use Rattle.turn.specs.laws.Error.{matrix_error, axes_error, matrix-error, axes-column-error}
+use Rattle.turn.specs.laws.Error.{matrix_error, axes_error}
+use Rattle.turn.proofs.Error.{matrix-error, axes-column-error}
 use Rattle.turn.specs.declared.pair.Rotation.{Rotation}
 
 -- what is bounded after multiplying by K is bounded

@@ -7,7 +7,7 @@ use Rattle.integer.specs.laws.Laws.{nat_abs-+ℤ, nat_abs-*ℤ}
 use Rattle.integer.specs.Matrix.{Matrix}
 use Rattle.integer.specs.Square.{sq}
 use Rattle.integer.specs.laws.Square.{le-of-squares}
-use Rattle.turn.specs.laws.Error.{pair-error}
+use Rattle.turn.proofs.Error.{pair-error}
 use Rattle.turn.specs.laws.Exact.{Whole, rotation_of-whole}
 use Rattle.turn.specs.Gain.{exactly_turned, Turns-gain}
 use Rattle.turn.specs.Rotation.{rotation_of}

@@ -10,7 +10,7 @@ use Rattle.ledger.specs.Ledger.{ledger, named_step_under}
 use Rattle.ledger.specs.Order.{pairs_in}
 use Rattle.ledger.specs.declared.Order.{Order}
 use Rattle.ledger.specs.Refusal.{equal, entries_within, refusal_under, symmetric}
-use Rattle.ledger.specs.laws.Gain.{gains-always}
+use Rattle.ledger.proofs.Gain.{gains-always}
 
 -- card 7's block
 abbrev numbers : List ℤ
