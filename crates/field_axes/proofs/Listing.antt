@@ -14,7 +14,6 @@ use Rattle.panel.specs.Refusal.{panel_at_position, size_refusal}
 use Rattle.panel.specs.Text.{panels_text}
 use Rattle.panel.specs.declared.Panel.{Panel}
 use Rattle.panel.specs.declared.position.AtPosition.{AtPosition}
-use Rattle.panel.specs.declared.position.AtPosition.TheVariants as AtPosition
 use Rattle.panel.proofs.Bounds.{position-refused, text-short}
 use Rattle.field_axes.specs.Done.{GivesPanel, ListsPanels}
 use Rattle.field_axes.specs.Panels.{panel_numbers, refusal_at}

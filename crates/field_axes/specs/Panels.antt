@@ -5,9 +5,7 @@ use Rattle.panel.specs.Refusal.{panel_at_position, size_refusal}
 use Rattle.panel.specs.Text.{panels_text}
 use Rattle.panel.specs.declared.Panel.{Panel}
 use Rattle.panel.specs.declared.position.AtPosition.{AtPosition}
-use Rattle.panel.specs.declared.position.AtPosition.TheVariants as AtPosition
 use Rattle.panel.specs.declared.position.OfPanel.{OfPanel}
-use Rattle.panel.specs.declared.position.OfPanel.TheVariants as OfPanel
 
 abbrev pub panel_of : ℤ → ℤ → ℤ → Panel
 panel_of a11 a12 a22 = record { a11 = a11; a12 = a12; a22 = a22 }

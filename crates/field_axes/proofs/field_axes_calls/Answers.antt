@@ -1,11 +1,8 @@
 -- `field_axes::field_axes_calls` meets its contract.
 use Prim.Native.Nat.{◌<◌, ◌^◌}
 use native.Mathlib.Omega.{arith}
-use lib.IntN.{pos}
 use mir.Syntax.{w64}
 use mir.Facts.{to_z_pos}
-use borrow.Author.Rules.{rules}
-use Rattle.integer.specs.laws.Word.{held}
 use Rattle.field_axes.specs.Calls.{length_or_short}
 use Rattle.field_axes.proofs.Playing.{as_number, fits}
 use Rattle.field_axes.proofs.field_axes_calls.Goals as goal

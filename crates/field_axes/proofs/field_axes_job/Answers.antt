@@ -1,13 +1,9 @@
 -- `field_axes::field_axes_job` meets its contract.
-use Prim.Native.Nat.{◌≤◌}
 use native.Mathlib.Omega.{arith}
-use lib.IntN.{pos}
 use mir.Syntax.{w64}
 use mir.Val.{SFits}
 use mir.Facts.{to_z-of_z, to_z_pos}
 use borrow.Author.Rules.{rules}
-use Rattle.integer.specs.laws.Word.{held}
-use Rattle.job_text.specs.JobText.{longest}
 use Rattle.field_axes.proofs.Writing.{as-length, as-refusal, short}
 use Rattle.field_axes.proofs.field_axes_job.Goals as goal
 

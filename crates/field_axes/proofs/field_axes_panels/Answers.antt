@@ -1,15 +1,9 @@
 -- `field_axes::field_axes_panels` meets its contract.
-use Prim.Native.Nat.{◌≤◌}
 use native.Mathlib.Omega.{arith}
-use lib.IntN.{nat_abs, pos}
 use mir.Syntax.{w64}
 use mir.Val.{SFits}
 use mir.Facts.{to_z-of_z, to_z_pos}
 use borrow.Author.Rules.{rules}
-use Rattle.integer.specs.laws.Word.{held}
-use Rattle.panel.specs.Refusal.{size_refusal}
-use Rattle.panel.specs.Text.{panels_text}
-use Rattle.text.specs.Written.{Writes}
 use Rattle.field_axes.proofs.Listing.{as-length, as-refusal, short}
 use Rattle.field_axes.proofs.field_axes_panels.Goals as goal
 

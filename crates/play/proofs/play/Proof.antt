@@ -1,6 +1,5 @@
 -- `play` meets its contract: whether what the text prints fits picks the branch.
 use borrow.Author.Rules.{rules}
-use borrow.Author.Tests.{not-false, not-true}
 use Rattle.play.proofs.Passing.{all-fits, all-written, too_short}
 use Rattle.play.proofs.play.Statement.{statement}
 use Rattle.play.proofs.play.Tie as tie

@@ -67,6 +67,6 @@ pub readings-shift : (n : ℕ) (dilutions counts : List ℕ) → Readings n dilu
 unfolding table_under table_from_under scatter S by_totals
 readings-shift n dilutions counts r =
     let same : scatter_by_sums n (sums_of (samples n dilutions counts)) ≡ scatter n (samples n dilutions counts) =
-        all-by-sums (samples n dilutions counts) n r.channels
+    all-by-sums (samples n dilutions counts) n r.channels
     in
     rw (← same) (shift-bound _ (scatter-small _ (readings-bounded n dilutions counts r) n))

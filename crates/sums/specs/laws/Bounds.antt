@@ -89,4 +89,4 @@ module _ (n : ℕ) (dilutions counts : List ℕ) (r : Readings n dilutions count
   readings-bounded =
       sums-most _ (rw length-tabulate r.number)
       (λ s i. tabulate-all (λ t. z t i ≤ z_limit) (length dilutions) (sample_at n dilutions counts) no_sample (omega arith)
-          (λ q. mul-le-mul (count-most q i) (r.dilution q)) s)
+      (λ q. mul-le-mul (count-most q i) (r.dilution q)) s)

@@ -1,11 +1,9 @@
 -- `solution::put_axes` meets its contract: the rows before i stand from the place on.
-use Prim.Native.Nat.{ℕ, ◌+◌, ◌-◌, ◌≤◌}
+use Prim.Native.Nat.{ℕ, ◌+◌, ◌-◌}
 use mathlib.Core.Path.{◌≡◌}
 use native.Mathlib.Numerals.{add-one}
 use native.Mathlib.Omega.{arith}
-use borrow.Author.Rules.{rules}
-use Rattle.text.specs.Put.{Put}
-use Rattle.text.specs.laws.Put.{put-nothing, put_then, same_size}
+use Rattle.text.specs.laws.Put.{put-nothing, put_then}
 use Rattle.field_axes.specs.inner.Solution.{used}
 use Rattle.field_axes.proofs.Following.{length-row-used, room}
 use Rattle.field_axes.proofs.solve.put_axes.Goals as goal

@@ -1,16 +1,10 @@
 -- `passes::fits` meets its contract. The invariant: what the text prints is within the limit if what the lines from here on print is within
 -- what is left of it.
-use Prim.Native.Nat.{◌-◌}
 use mathlib.Core.Path.{◌≡◌}
-use mathlib.Core.Bool.{false}
-use lib.Dec.{leb}
 use lib.ListN.{length}
 use borrow.Author.Rules.{rules}
 use borrow.Author.Tests.{not-false, not-true}
 use native.Mathlib.Omega.{arith}
-use Rattle.play.specs.Steps.{Reached}
-use Rattle.play.specs.laws.Steps.{rest}
-use Rattle.play.specs.Text.{played}
 use Rattle.play.proofs.Passing.{started, starts, fits_not, fits_all, fits_on}
 use Rattle.play.proofs.passes.fits.Goals as goal
 

@@ -5,13 +5,9 @@ use mathlib.Core.Path.{◌≡◌}
 use mathlib.Core.Bool.{false}
 use lib.Dec.{leb}
 use lib.ListN.{length}
-use borrow.Author.Rules.{rules}
-use borrow.Author.Tests.{not-false, not-true}
-use native.Mathlib.Omega.{arith}
 use Rattle.play.specs.Steps.{Reached}
 use Rattle.play.specs.laws.Steps.{rest}
 use Rattle.play.specs.Text.{played}
-use Rattle.play.proofs.Passing.{started, starts, fits_not, fits_all, fits_on}
 use Rattle.play.proofs.passes.fits.Given as goal
 
 abbrev pub invariant-loop-left : goal.invariant-loop-left

@@ -1,6 +1,5 @@
 -- `passes::put_played` meets its contract. The invariant: what the lines so far print is written, and the next one is to be played on the
 -- record that they left.
-use Prim.Native.Nat.{◌-◌, ◌≤◌}
 use mathlib.Core.Path.{◌≡◌, sym}
 use lib.ListN.{length}
 use lib.Seq.{length-take-le}
@@ -8,7 +7,7 @@ use borrow.Author.Rules.{rules}
 use borrow.Author.Tests.{not-false, not-true}
 use native.Mathlib.Omega.{arith}
 use Rattle.text.specs.laws.Put.{same_size}
-use Rattle.play.proofs.Passing.{Wrote, room, written_last, written-more, wrote_nothing}
+use Rattle.play.proofs.Passing.{room, written_last, written-more, wrote_nothing}
 use Rattle.play.proofs.passes.put_played.Goals as goal
 
 pub loop-own-init : goal.loop-own-init

@@ -30,7 +30,7 @@ loop-p-preserved c =
     let b : nat_abs (get_or s p (pos 0)) ≤ largest s = largest-bounds s p in
     -- where the arms meet m is at least what it was and the size that was read, and at most the greatest
     let met : (c.loop-p.m ≤ c.if-m-a.m) × (nat_abs (get_or s p (pos 0)) ≤ c.if-m-a.m) × (c.if-m-a.m ≤ largest s) =
-        elim c.if-m-a.branch [ then-m-a w ↦ (omega arith, omega arith, omega arith) | else-m-a w ↦ (omega arith, omega arith, omega arith) ] in
+    elim c.if-m-a.branch [ then-m-a w ↦ (omega arith, omega arith, omega arith) | else-m-a w ↦ (omega arith, omega arith, omega arith) ] in
     (search rules, met.2, below_more _ _ (λ q h. le_trans (c.loop-p.invariant.2 q h) met.0) met.1)
 
 -- From `size` on there are zeros, and they are above nothing.

@@ -1,5 +1,4 @@
 -- No size so far is above m, and m is none above the greatest.
-use mathlib.Core.Path.{◌≡◌}
 use Prim.Native.Nat.{ℕ, ◌-◌, ◌<◌, ◌≤◌}
 use lib.IntN.{pos, nat_abs}
 use lib.ListN.{get_or}
