@@ -3,4 +3,3 @@ pub mod Former
 pub mod Limit
 pub mod Runs
 pub mod Printed
-pub mod Cards

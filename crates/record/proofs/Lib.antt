@@ -11,3 +11,5 @@ pub mod Sweeping
 mod Worked
 mod Going
 pub mod Told
+pub mod Demand3proof
+pub mod Named

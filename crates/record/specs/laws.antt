@@ -8,7 +8,6 @@ pub mod Accepted
 pub mod After
 pub mod Named
 pub mod Agree
-pub mod Demand3proof
 pub mod Turning
 pub mod Running
 pub mod Counting

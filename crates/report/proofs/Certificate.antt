@@ -40,7 +40,7 @@ use Rattle.record.specs.Record.{answer_to, row_to}
 use Rattle.record.specs.Run.{own}
 use Rattle.record.specs.declared.Record.{Record}
 use Rattle.record.specs.Solver.{axis_of}
-use Rattle.record.specs.laws.Demand3proof.{demand-3}
+use Rattle.record.proofs.Demand3proof.{demand-3}
 use Rattle.record.specs.laws.Named.{own_row}
 use Rattle.rounding.specs.Rounding.{rnd}
 use Rattle.run.specs.Calls.{calls_of, rounds}
@@ -58,7 +58,7 @@ use Rattle.report.specs.Certificate.{Certificate, JobCertificate}
 use Rattle.report.specs.Report.{diagonal_of, head_of, line_a, line_r, load_for, report_of, run_report, run_for}
 use Rattle.run.specs.Word.{outcome_word}
 use Rattle.report.specs.laws.AxisNumbers.{axis-answer}
-use Rattle.report.specs.laws.AxisOrder.{the-order}
+use Rattle.report.proofs.AxisOrder.{the-order}
 use Rattle.report.proofs.Bounds.{as-calls, run-channels}
 
 -- a ledger whose state has these n, A, S and e

@@ -3,3 +3,4 @@ mod Same
 pub mod Certificate
 mod Written
 mod Ordering
+pub mod AxisOrder

@@ -15,7 +15,8 @@ use Rattle.report.specs.AxisNumbers.{axis_values}
 use Rattle.report.specs.AxisOrder.{axis_at}
 use Rattle.report.specs.inner.AxisOrder.{entry_in, ordered_rows}
 use Rattle.report.specs.laws.AxisNumbers.{axes-row, axis-answer, length-axes-row, length-numbers, two-before}
-use Rattle.report.specs.laws.AxisOrder.{axis-found, same-axis}
+use Rattle.report.specs.laws.AxisOrder.{same-axis}
+use Rattle.report.proofs.AxisOrder.{axis-found}
 use Rattle.turn.specs.laws.Eight.{get_d-eight}
 use Rattle.record.specs.Record.{answer_to, row_to}
 use Rattle.record.specs.Run.{own}

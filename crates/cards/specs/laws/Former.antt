@@ -15,7 +15,7 @@ use Rattle.limits.specs.laws.Values.{former-below}
 use Rattle.record.specs.Demand3.{Certifies}
 use Rattle.record.specs.Record.{after_from, after_from_under, called_under, fresh, record_after_under}
 use Rattle.record.specs.Solver.{accepted_of_under, after_of_under, loaded_solver, samples_solver, unloaded}
-use Rattle.record.specs.laws.Demand3proof.{goes_on}
+use Rattle.record.proofs.Demand3proof.{goes_on}
 use Rattle.rounding.specs.Rounding.{rnd}
 use Rattle.scatter.specs.Table.{S, scatter, largest, smallest_shift, shift_under, entries_under, table_from_under, table_under}
 use Rattle.integer.specs.Within.{all_within, within}
