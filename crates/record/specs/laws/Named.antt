@@ -1,16 +1,11 @@
 -- Calls that name a bench: what they leave is kept, an answer is a refusal exactly when a refusal applies, and what holds of every list of them.
-use Rattle.std.specs.Prelude.{◌≡◌, Bool, ◌&&◌, eqb, ltb, nat_abs, length}
-use Rattle.std.proofs.Math.Path.{refl, sym}
-use Rattle.std.proofs.Common.{ap, ◌∙◌, true≢false, add-zero, le_refl, zero-add, arith, length-set, get_or-set_same, eq-eqb, le-ltb, lt-ltb, ne_eqb}
+use Rattle.std.specs.Prelude.{◌≡◌, Bool, eqb, ltb, nat_abs, length}
+use Rattle.std.proofs.Math.Path.{refl}
+use Rattle.std.proofs.Common.{◌∙◌, le_refl, length-set, eq-eqb}
 use Rattle.std.proofs.Math.Bool.{true, false, cond, not}
-use mathlib.Core.List.{List, [], ◌∷◌, map}
-use Prim.Native.Nat.{ℕ, suc, ◌+◌, ◌-◌, ◌≤◌, ◌<◌, min}
-use Rattle.std.proofs.Math.Decide.{ℕ_discrete, dec_lt}
-use Rattle.std.proofs.Math.Nat.{min-eq_left, min-eq_right}
-use Rattle.std.proofs.Math.ListN.{get_or}
-use Rattle.std.proofs.Math.Seq.{get_or-set_other}
+use mathlib.Core.List.{List, [], ◌∷◌}
+use Prim.Native.Nat.{ℕ, suc, ◌-◌, ◌≤◌}
 use Rattle.integer.specs.Matrix.{Matrix}
-use Rattle.integer.specs.laws.Tabulate.{get_d-repeated}
 use Rattle.integer.specs.Within.{within}
 use Rattle.integer.specs.laws.Within.{is_within}
 use Rattle.ledger.specs.Bench.{NamedCall, is_bench}
@@ -18,17 +13,16 @@ use Rattle.ledger.specs.Call.{Call, load, load_samples, turn, sweep_in, loose_pa
 use Rattle.ledger.specs.Pairs.{Pair}
 use Rattle.ledger.specs.Refusal.{refusal_of, refusal_under}
 use Rattle.ledger.specs.declared.Order.TheVariants.{Cyclic, Tournament}
-use Rattle.limits.specs.Limits.{benches, entry_limit, refused_limit}
+use Rattle.limits.specs.Limits.{benches, entry_limit}
 use Rattle.limits.specs.laws.Values.{some-entry}
-use Rattle.record.specs.Benches.{Benches-alike, Counts, Outside-benches, answers_from, refusals, renamed}
+use Rattle.record.specs.Benches.{Outside-benches}
 use Rattle.record.specs.Flat.{kept_entry}
 use Rattle.record.specs.Kept.{Kept}
 use Rattle.record.specs.Loose.{loose_of}
-use Rattle.record.specs.Record.{after, after_from, after_from_under, answer_to, called_under, counted, fresh, is_refused}
-use Rattle.record.specs.Record.{raised, record_after, record_after_under, refused_by, row_to}
+use Rattle.record.specs.Record.{answer_to, called_under, fresh, is_refused}
+use Rattle.record.specs.Record.{raised, record_after, record_after_under, row_to}
 use Rattle.record.specs.Run.{own}
 use Rattle.record.specs.Solver.{accepted_of, after_of, after_of_under, answer_of, axis_of, row_of, value_of}
-use Rattle.record.specs.declared.AxisAnswer.{AxisAnswer}
 use Rattle.record.specs.declared.Record.{Record}
 use Rattle.record.specs.declared.query.Answer.TheVariants.{Pair as PairIs, Refused}
 use Rattle.record.specs.declared.solver.Solver.{Solver}

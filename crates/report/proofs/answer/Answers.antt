@@ -1,6 +1,5 @@
 -- `report::answer` meets its contract: 2,048 bytes are room for every report, and for the line of a refusal.
 use Prim.Native.Nat.{◌≤◌}
-use mathlib.Core.Path.{◌≡◌}
 use native.Mathlib.Omega.{arith}
 use borrow.Author.Rules.{rules}
 use lib.ListN.{length}

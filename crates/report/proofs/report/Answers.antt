@@ -10,11 +10,11 @@ returns-in-Refused c = replies-refused _ _ _ _ _ (rw c.read-reading.ensures at c
 pub report_job-requires : goal.report_job-requires
 report_job-requires c =
     let read : Read c.args.text.now c.read-reading.result.job =
-        rw c.read-reading.ensures (accepted-read _ (rw c.read-reading.ensures at c.in_default.is)) in
+    rw c.read-reading.ensures (accepted-read _ (rw c.read-reading.ensures at c.in_default.is)) in
     read.held
 
 pub returns : goal.returns
 returns c =
     let read : Read c.args.text.now c.read-reading.result.job =
-        rw c.read-reading.ensures (accepted-read _ (rw c.read-reading.ensures at c.in_default.is)) in
+    rw c.read-reading.ensures (accepted-read _ (rw c.read-reading.ensures at c.in_default.is)) in
     replies-answered _ _ _ _ _ _ read.is c.report_job.ensures

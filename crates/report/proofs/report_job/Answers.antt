@@ -3,7 +3,6 @@ use Prim.Native.Nat.{ℕ}
 use mathlib.Core.Path.{◌≡◌}
 use mathlib.Core.List.{List}
 use lib.ListN.{length}
-use borrow.Author.Rules.{rules}
 use Rattle.job.specs.Job.{Job, accepted}
 use Rattle.job.specs.Reply.{Answers}
 use Rattle.job.specs.Values.{Proper}

@@ -1,7 +1,6 @@
 -- `record::Record::axis` meets its contract.
 use mathlib.Core.Path.{refl, sym, ◌∙◌}
 use borrow.Author.Rules.{rules}
-use borrow.Author.Tests.{not-false, not-true}
 use Rattle.ledger.specs.Call.{axis}
 use Rattle.record.specs.Record.{row_to}
 use Rattle.record.specs.Solver.{accepted_of_under, row_of}

@@ -1,7 +1,6 @@
 -- `record::Record::load` meets its contract.
 use mathlib.Core.Path.{sym, ◌∙◌}
 use borrow.Author.Rules.{rules}
-use borrow.Author.Tests.{not-false, not-true}
 use Rattle.ledger.specs.Call.{load}
 use Rattle.record.proofs.Benches.{no-bench, of-bench}
 use Rattle.record.proofs.Record.load.Statement.{statement}

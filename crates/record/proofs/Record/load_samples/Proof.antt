@@ -1,7 +1,6 @@
 -- `record::Record::load_samples` meets its contract.
 use mathlib.Core.Path.{sym, ◌∙◌}
 use borrow.Author.Rules.{rules}
-use borrow.Author.Tests.{not-false, not-true}
 use Rattle.ledger.specs.Call.{load_samples}
 use Rattle.record.proofs.Benches.{no-bench, of-bench}
 use Rattle.record.proofs.Record.load_samples.Statement.{statement}

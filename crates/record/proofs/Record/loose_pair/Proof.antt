@@ -1,7 +1,6 @@
 -- `record::Record::loose_pair` meets its contract.
 use mathlib.Core.Path.{refl, sym, ◌∙◌}
 use borrow.Author.Rules.{rules}
-use borrow.Author.Tests.{not-false, not-true}
 use Rattle.ledger.specs.Call.{loose_pair}
 use Rattle.record.proofs.Benches.{no-bench, of-bench}
 use Rattle.record.specs.Solver.{accepted_of_under}

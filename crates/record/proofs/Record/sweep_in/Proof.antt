@@ -1,7 +1,6 @@
 -- `record::Record::sweep_in` meets its contract.
 use mathlib.Core.Path.{sym, ◌∙◌}
 use borrow.Author.Rules.{rules}
-use borrow.Author.Tests.{not-false, not-true}
 use Rattle.ledger.specs.Call.{sweep_in}
 use Rattle.record.proofs.Benches.{no-bench, of-bench}
 use Rattle.record.proofs.Record.sweep_in.Statement.{statement}

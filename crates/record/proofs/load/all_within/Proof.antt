@@ -9,7 +9,6 @@ use mir.Syntax.{w64}
 use mir.Val.{SFits}
 use mir.Facts.{to_z-of_z}
 use borrow.Author.Rules.{rules}
-use borrow.Author.Tests.{not-true, not-false}
 use Rattle.limits.specs.Limits.{entry_limit}
 use Rattle.ledger.specs.Refusal.{entries_within}
 use Rattle.record.proofs.Checks.{within-fails, within_more}

@@ -3,7 +3,6 @@ use mathlib.Core.Path.{◌≡◌, refl, sym, ◌∙◌}
 use mathlib.Core.Bool.{Bool, true}
 use Prim.Native.Nat.{ℕ, ◌-◌, ◌≤◌}
 use native.Mathlib.Omega.{arith}
-use borrow.Author.Tests.{not-true, not-false}
 use Rattle.integer.specs.Range.{all}
 use Rattle.integer.specs.Matrix.{matrix_of}
 use Rattle.record.proofs.Checks.{all_more, all-fails, mirrored, symmetric-left}

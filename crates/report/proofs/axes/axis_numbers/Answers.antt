@@ -14,7 +14,6 @@ use borrow.Author.Rules.{rules}
 use Rattle.ledger.specs.Axis.{error_of}
 use Rattle.ledger.specs.Call.{axis}
 use Rattle.record.specs.Record.{answer_to}
-use Rattle.report.specs.inner.AxisNumbers.{axis_numbers}
 use Rattle.record.specs.Flat.{kept_entry}
 use Rattle.record.specs.declared.query.Answer.TheVariants.{Axis}
 use Rattle.report.specs.laws.AxisNumbers.{axis-answer, error-small, numbers-by}
@@ -45,7 +44,7 @@ overflow_cast-error c =
 pub returns : goal.returns
 returns c =
     let f : SFits w64 (pos c.in-Axis.error) =
-        record { sfits = small c.args.r c.args.i c.requires.0 c.requires.1 c.requires.2 _ c.axis-step.ensures.answers _ _ c.in-Axis.is } in
+    record { sfits = small c.args.r c.args.i c.requires.0 c.requires.1 c.requires.2 _ c.axis-step.ensures.answers _ _ c.in-Axis.is } in
     let h : SFits w64 c.in-Axis.entry = search rules in
     let g : SFits w64 (pos c.args.i) = record { sfits = omega (arith, c.requires.2, c.requires.0.solver.size) } in
     c.numbers_of-2.ensures ∙ rw (to_z-of_z g, to_z-of_z h, to_z-of_z f)
