@@ -1,1 +1,2 @@
 mod Sign
+pub mod Natural

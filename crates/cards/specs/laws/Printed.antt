@@ -63,6 +63,10 @@ axis-2 : line_a three_run.last 2 ≡ ascii "A\t2\t75776\t7172\t858993459\t644245
 unfolding ascii line_a axis_values number_line line further number digits digits_by
 axis-2 = rw (spends.channels, spends.axis-2, spends.row-2)
 
+report : report_of job ≡ report_text
+unfolding ascii report_of run_report lines
+report = rw (ran, first, spends.channels, spends.first-line, spends.second-line, axis-2, axis-1)
+
 pub prints-the-report : printed_of report_of job_text ≡ report_text
 unfolding printed_of printed_by ascii report_of run_report lines
 prints-the-report =
