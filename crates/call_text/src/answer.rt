@@ -14,7 +14,7 @@ const TAB: u8 = b'\t';
 const LINE_FEED: u8 = b'\n';
 
 // A call's answer, and what its line says beside it: row i of v of an axis call, else 0; the record's channels and its counts of refused calls.
-#[derive(Drop)]
+#[derive(Clone, Copy)]
 pub struct Told {
     pub answer: Answer,
     pub row: [i64; 8],
@@ -23,7 +23,7 @@ pub struct Told {
 }
 
 // A line, and 0 after it.
-#[derive(Drop)]
+#[derive(Clone, Copy)]
 pub struct Printed {
     pub bytes: [u8; 256],
     pub len: usize,

@@ -12,13 +12,13 @@ const DIGITS: usize = 10;
 
 pub(crate) const BEYOND: u64 = 9_999_999_999;
 
-#[derive(Drop)]
+#[derive(Clone, Copy)]
 pub enum Unsigned {
     Is(u64),
     No,
 }
 
-#[derive(Drop)]
+#[derive(Clone, Copy)]
 pub enum Signed {
     Is(i64),
     No,

@@ -4,7 +4,7 @@ ghost use Rattle.call_text.specs.inner.Read.{FieldsRead};
 use crate::field::{Signed, number};
 use crate::find::find;
 
-#[derive(Drop)]
+#[derive(Clone, Copy)]
 pub enum Fields {
     Are { tag: u8, count: usize },
     No,

@@ -7,7 +7,7 @@ ghost use Rattle.choice.specs.Choice.{choose, smallest_fit};
 ghost use Rattle.choice.specs.Widest.{widest};
 
 // What the choice rule gives a pair: no turn, or the l and whether the sign f is −1.
-#[derive(Drop)]
+#[derive(Clone, Copy)]
 pub enum Choice {
     NoTurn,
     Turn { l: u32, minus: bool },

@@ -27,7 +27,7 @@ pub(crate) fn tagged(text: &[u8], at: usize, tag: u8) -> bool
     }
 }
 
-#[derive(Drop)]
+#[derive(Clone, Copy)]
 pub enum Field {
     // The number, and the place after the tab that parts it from the next field.
     Inner(u32, usize),

@@ -4,7 +4,7 @@ ghost use Rattle.job.specs.inner.LineScan.{parameters_at};
 
 use crate::field::{Field, number, tagged};
 
-#[derive(Drop)]
+#[derive(Clone, Copy)]
 pub enum Parameters {
     // The refusal's number.
     Refused(u8),

@@ -4,7 +4,7 @@ ghost use Rattle.job.specs.inner.LineScan.{ending_at};
 
 use crate::field::{Field, number, tagged};
 
-#[derive(Drop)]
+#[derive(Clone, Copy)]
 pub enum Ending {
     Accepted,
     // The refusal's number.

@@ -18,7 +18,7 @@ use crate::first::{Parameters, first_line};
 use samples::samples;
 
 // A job: the first k dilutions and the first k × n counts, n to a sample, are those of its samples, and the others are 0.
-#[derive(Drop)]
+#[derive(Clone, Copy)]
 pub struct Job {
     pub n: usize,
     pub limit: u64,
@@ -28,7 +28,7 @@ pub struct Job {
     pub counts: [u32; 2048],
 }
 
-#[derive(Drop)]
+#[derive(Clone, Copy)]
 pub enum Outcome {
     Accepted,
     // The refusal's number, and the line.
@@ -36,7 +36,7 @@ pub enum Outcome {
 }
 
 // What reading a text gives. The job of a refused text is all zeros.
-#[derive(Drop)]
+#[derive(Clone, Copy)]
 pub struct Reading {
     pub outcome: Outcome,
     pub job: Job,

@@ -4,7 +4,7 @@ ghost use Rattle.job.specs.inner.LineScan.{malformed_line, numbers_at, line_at};
 
 use crate::field::{Field, number, tagged};
 
-#[derive(Drop)]
+#[derive(Clone, Copy)]
 pub enum Extent {
     // The place after the line feed that ends the line.
     To(usize),
@@ -13,7 +13,7 @@ pub enum Extent {
 }
 
 // The dilution and the counts, and 0 past the last of them. A malformed line has none.
-#[derive(Drop)]
+#[derive(Clone, Copy)]
 pub struct Line {
     pub extent: Extent,
     pub numbers: [u32; 9],

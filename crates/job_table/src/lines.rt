@@ -33,10 +33,9 @@ fn table_job(job: Job, buf: &mut [u8]) -> Reply
     ensures { Answers table_text (accepted (job_in job)) buf.old buf.new result }
 {
     let n = job.n;
-    let k = job.k;
     let table = crate::table_of(job);
     let sums = table.scatter;
-    let head = [n as i64, k as i64, table.e as i64];
+    let head = [n as i64, job.k as i64, table.e as i64];
     let rows = rows::rows_of(n, &sums);
     let length = text_length(&head, n, &rows);
     if buf.len() < length {

@@ -1,4 +1,4 @@
 pub mod Gain
-mod GainExample
+pub mod GainExample
 pub mod Invariant
 pub mod Rows

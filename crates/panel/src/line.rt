@@ -21,7 +21,7 @@ const TAB: u8 = b'\t';
 const LINE_FEED: u8 = b'\n';
 
 // The numbers of the line, and the outcome.
-#[derive(Drop)]
+#[derive(Clone, Copy)]
 struct LineFields {
     numbers: [i64; 5],
     outcome: Outcome,

@@ -9,14 +9,14 @@ use crate::{MOST_SIZE, Panel};
 use integer::magnitude;
 
 // The panel, or the refusal's number.
-#[derive(Drop)]
+#[derive(Clone, Copy)]
 pub enum AtPosition {
     Panel(Panel),
     Refused(u32),
 }
 
 // The position, from 1, or the refusal's number.
-#[derive(Drop)]
+#[derive(Clone, Copy)]
 pub enum OfPanel {
     Position(u64),
     Refused(u32),

@@ -14,7 +14,7 @@ use passes::{fits, put_played};
 pub const INPUT_LIMIT: usize = 65_536;
 
 // The length of what was written, or that the buffer is too short.
-#[derive(Drop)]
+#[derive(Clone, Copy)]
 pub enum Output {
     Written(usize),
     TooShort,

@@ -10,7 +10,7 @@ use record::Record;
 use text::put_bytes;
 
 // A step on a record of one's own.
-#[derive(Drop)]
+#[derive(Clone, Copy)]
 pub struct OwnStep {
     pub done: Stepped,
     pub record_after: Record,

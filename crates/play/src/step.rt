@@ -13,7 +13,7 @@ use call_text::request::{NUMBERS, Request};
 use record::{AxisAnswer, Record};
 
 // Whether the next line is to be played, where that one starts, and what this one prints.
-#[derive(Drop)]
+#[derive(Clone, Copy)]
 pub struct Stepped {
     pub more: bool,
     pub next: Cursor,

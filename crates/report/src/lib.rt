@@ -65,12 +65,8 @@ fn report_job(job: Job, buf: &mut [u8]) -> Reply
     requires { Held job }
     ensures { Answers report_of (accepted (job_in job)) buf.old buf.new result }
 {
-    let n = job.n;
-    let k = job.k;
-    let limit = job.limit;
-    let tolerance = job.tolerance;
     let table = job_table::table_of(job);
-    let done = report_table(n, k, limit, tolerance, table, buf);
+    let done = report_table(job.n, job.k, job.limit, job.tolerance, table, buf);
     match done {
         Written::Length(length) => Reply::Written(length),
         Written::Refused(_) => Reply::Refused(12, 0),

@@ -4,7 +4,7 @@ ghost use Rattle.run.specs.Word.{Spells};
 use record::Outcome;
 
 // The word is the first `length` bytes.
-#[derive(Drop)]
+#[derive(Clone, Copy)]
 pub struct Word {
     pub bytes: [u8; 7],
     pub length: usize,

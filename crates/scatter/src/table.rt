@@ -15,7 +15,7 @@ ghost use Rattle.scatter.specs.inner.Shift.{LeastShift};
 use sums::Sums;
 
 // n × n numbers, row after row, and zeros after them: the entries, and the exact S_ij that they are rounded from.
-#[derive(Drop)]
+#[derive(Clone, Copy)]
 pub struct Table {
     pub e: u32,
     pub entries: [i64; 64],

@@ -10,7 +10,7 @@ ghost use Rattle.sums.specs.inner.Ranges.{InRange, Room, z_limit};
 ghost use Rattle.limits.specs.Limits.{most_samples};
 
 // A cross sum of the channels i ≤ j, counted from 0, stands at 8 × i + j; any other place is 0.
-#[derive(Drop)]
+#[derive(Clone, Copy)]
 pub struct Sums {
     pub k: u64,
     pub channel: [u64; 8],

@@ -30,7 +30,7 @@ fn least(a: usize, b: usize) -> usize
 }
 
 // A number of the file, at most 65,536, and the place after the byte that ends it.
-#[derive(Drop)]
+#[derive(Clone, Copy)]
 struct Number {
     value: usize,
     next: usize,
@@ -54,7 +54,7 @@ fn number_at(jobs: &[u8], from: usize) -> Number
 }
 
 // A job: its bytes stand from `start` to before `end`, and its report has a buffer of `size` bytes.
-#[derive(Drop)]
+#[derive(Clone, Copy)]
 struct Stored {
     size: usize,
     start: usize,

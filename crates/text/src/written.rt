@@ -1,7 +1,7 @@
 // The answer of a writer into a lent buffer.
 
 // 'The answer is the length', or the refusal's number.
-#[derive(Drop)]
+#[derive(Clone, Copy)]
 pub enum Written {
     Length(usize),
     Refused(u32),

@@ -1,5 +1,5 @@
 mod Combination
-mod GainExamples
+pub mod GainExamples
 mod Power
 pub mod Back
 pub mod Columns
