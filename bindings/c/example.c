@@ -1,7 +1,7 @@
 /* Three samples of two channels: their table and its axes, then their job text and its report, samples that are no job, and a job that is
    refused; then some calls, and a load of strong samples; last, all panels of size 1, the first and the last of them, and one that is none. It
    prints what example.out has. At the repository's root:
-   rt staticlib field_axes && cc -o target/example bindings/c/example.c target/staticlib/libfield_axes.a && target/example */
+   .ci/staticlib && cc -o target/example bindings/c/example.c target/staticlib/libfield_axes.a && target/example */
 #include "field_axes.h"
 #include <stdio.h>
 #include <string.h>

@@ -1,5 +1,5 @@
 /* Field Axes for C programs: the functions of target/staticlib/libfield_axes.a.
-   These are the declarations of crates/field_axes/src/lib.rt, where a slice is a pointer and a length; tests/ holds them, and those of
+   These are the declarations of crates/field_axes_c/src/lib.rt, where a slice is a pointer and a length; tests/ holds them, and those of
    bindings/rust/src/lib.rs, to it. That the compiler of your program passes them as declared is assumed.
 
    Of every pointer: it is not null, also where its length is 0; it is aligned for its type; as many elements as its length says are there to be read,
