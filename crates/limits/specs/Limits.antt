@@ -64,6 +64,10 @@ units = 1024
 abbrev pub half_entry : ℕ
 half_entry = 512
 
+-- the greatest shift e: 256 samples at dilution 100, half of them 0 and half 65,535, have 40 under the former entry limit
+abbrev pub most_shift : ℕ
+most_shift = 40
+
 -- v is 2^30 on the diagonal
 abbrev pub whole : ℕ
 whole = 2 ^ 30

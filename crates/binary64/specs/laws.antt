@@ -1,0 +1,5 @@
+pub mod Bytes
+pub mod Exact
+pub mod Operations
+pub mod Unique
+pub mod Examples
