@@ -1,3 +1,4 @@
 pub mod Samples
 pub mod Refusal
 pub mod Examples
+pub mod Joined

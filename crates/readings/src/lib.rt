@@ -9,7 +9,7 @@ ghost use Rattle.integer.specs.Within.{all_within, within};
 ghost use Rattle.readings.specs.Ranges.{job_within, parameters_in_range, samples_within, values_within};
 ghost use Rattle.readings.specs.Refusal.{are_counted, are_so_many, job_refusal, samples_refusal};
 
-fn is_within(low: u64, high: u64, x: u64) -> bool
+pub fn is_within(low: u64, high: u64, x: u64) -> bool
     ensures { result ≡ within low high x }
 {
     if x < low { false } else { x <= high }
@@ -32,7 +32,7 @@ pub fn all_within(low: u32, high: u32, values: &[u32]) -> bool
     true
 }
 
-fn channels_within(n: usize) -> bool
+pub fn channels_within(n: usize) -> bool
     ensures { result ≡ within least_channels most_channels n }
 {
     is_within(
@@ -60,7 +60,7 @@ fn samples_within(dilutions: &[u32], counts: &[u32]) -> bool
 }
 
 // Whether there are n counts to a sample. No product is made: n and the lengths may be any.
-fn are_counted(n: usize, dilutions: &[u32], counts: &[u32]) -> bool
+pub fn are_counted(n: usize, dilutions: &[u32], counts: &[u32]) -> bool
     ensures { result ≡ are_counted n dilutions.now counts.now }
 {
     if n == 0 {
@@ -82,7 +82,7 @@ fn are_so_many(dilutions: &[u32]) -> bool
     )
 }
 
-fn values_within(n: usize, dilutions: &[u32], counts: &[u32]) -> bool
+pub fn values_within(n: usize, dilutions: &[u32], counts: &[u32]) -> bool
     ensures { result ≡ values_within n dilutions.now counts.now }
 {
     channels_within(n) & samples_within(dilutions, counts)
@@ -95,14 +95,14 @@ fn job_within(n: usize, limit: u64, tolerance: u64, dilutions: &[u32], counts: &
 }
 
 // The number of a test that failed, or what the later tests say.
-fn refused_unless(test: bool, number: u32, later: u32) -> u32
+pub fn refused_unless(test: bool, number: u32, later: u32) -> u32
     ensures { result ≡ unless test number later }
 {
     if test { later } else { number }
 }
 
 // The number of the first test that failed, or 0.
-fn first_failed(within: bool, counted: bool, enough: bool) -> u32
+pub fn first_failed(within: bool, counted: bool, enough: bool) -> u32
     ensures { result ≡ unless within 2 (unless counted 6 (unless enough 3 0)) }
 {
     let last = refused_unless(enough, 3, 0);

@@ -1,8 +1,8 @@
 -- Laws of this subject: The list of a function's values at 0, 1, .., and its laws; and what stands in a list of one value repeated.
 use Rattle.std.specs.Prelude.{◌≡◌, List, [], ◌∷◌, ◌++◌, length, get_or, replicate, take}
 use Rattle.std.proofs.Math.Path.{refl, ap}
-use Prim.Native.Nat.{ℕ, zero, suc, ◌≤◌, ◌<◌}
-use Rattle.std.proofs.Common.{arith}
+use Rattle.std.proofs.Common.{sym, ◌∙◌, suc-add, zero-add, arith}
+use Prim.Native.Nat.{ℕ, zero, suc, ◌+◌, ◌≤◌, ◌<◌}
 use Rattle.integer.specs.Tabulate.{tabulate}
 
 module _ {A : Type 0} where
@@ -27,6 +27,16 @@ module _ {A : Type 0} where
   unfolding tabulate
   tabulate-ext zero f g e = refl
   tabulate-ext (suc m) f g e = rw (e zero (omega arith), tabulate-ext m (λ i. f (suc i)) (λ i. g (suc i)) (λ i h. e (suc i) (omega arith)))
+
+  -- two lists of values, one after the other
+  pub tabulate-append : (m n : ℕ) (f : ℕ → A) → tabulate (m + n) f ≡ tabulate m f ++ tabulate n (λ i. f (m + i))
+  unfolding tabulate
+  tabulate-append zero n f = rw (zero-add n) (tabulate-ext n f (λ i. f (0 + i)) (λ i h. ap f (sym (zero-add i))))
+  tabulate-append (suc m) n f =
+      ap (λ k. tabulate k f) (suc-add m n)
+      ∙ ap (λ l. f zero ∷ l)
+      (tabulate-append m n (λ i. f (suc i))
+      ∙ ap (λ l. tabulate m (λ i. f (suc i)) ++ l) (tabulate-ext n (λ i. f (suc (m + i))) (λ i. f (suc m + i)) (λ i h. ap f (sym (suc-add m i)))))
 
   -- the first n of more values
   pub take-tabulate : (n m : ℕ) (f : ℕ → A) (xs : List A) → n ≤ m → take n (tabulate m f ++ xs) ≡ tabulate n f

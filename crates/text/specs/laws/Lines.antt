@@ -1,9 +1,9 @@
--- Laws of lines one after another: one line more, the room that a line has among the others, and how long they are at most.
+-- Laws of lines one after another: one line more and several more, the room that a line has among the others, and how long they are at most.
 use Prim.Native.Nat.{ℕ, zero, suc, ◌+◌, ◌*◌, ◌<◌, ◌≤◌}
 use Rattle.std.specs.Prelude.{◌≡◌, List, [], ◌++◌}
 use Rattle.std.proofs.Math.Path.{refl}
+use Rattle.std.proofs.Common.{sym, append_assoc, append-nil, add-suc, add-zero, add-one}
 use Rattle.std.proofs.Math.Decide.{dec_lt}
-use Rattle.std.proofs.Common.{add-one}
 use native.Mathlib.Omega.{arith}
 use Rattle.std.proofs.Math.ListN.{length, length-append}
 use Rattle.text.specs.Lines.{lines}
@@ -41,3 +41,9 @@ pub lines_same : (k : ℕ) (f g : ℕ → List ℕ) → ((i : ℕ) → i < k →
 unfolding lines
 lines_same zero f g h = refl
 lines_same (suc k) f g h = rw (lines_same k f g (λ i l. h i (omega arith)), h k (omega arith))
+
+-- The first m, and then k more.
+pub lines-append : (m k : ℕ) (f : ℕ → List ℕ) → lines f (m + k) ≡ lines f m ++ lines (λ i. f (m + i)) k
+unfolding lines
+lines-append m zero f = rw add-zero (sym (append-nil (lines f m)))
+lines-append m (suc k) f = rw (add-suc m k, lines-append m k f) (append_assoc (lines f m) (lines (λ i. f (m + i)) k) (f (m + k)))

@@ -3,7 +3,7 @@ use Rattle.std.specs.Prelude.{ℕ, ◌<◌, ◌≤◌, Bool, List, [], ◌∷◌
 use Rattle.std.proofs.Math.Path.{◌≡◌, refl}
 use Rattle.std.proofs.Common.{sym, ap, ◌∙◌, arith}
 use Rattle.std.proofs.Math.Bool.{true, false, cond}
-use borrow.Author.Tests.{eq-eqb, ne_eqb, eqb-true, le-leb, lt-leb}
+use borrow.Author.Tests.{eq-eqb, ne_eqb, eqb-false, eqb-true, le-leb, lt-leb}
 use Rattle.std.proofs.Math.Dec.{eqb, leb→le}
 use Rattle.std.proofs.Math.ListN.{length}
 use Rattle.limits.specs.Unless.{unless}
@@ -98,6 +98,23 @@ module _ (refusal : ℕ) (text entry : List ℕ) where
   room-tells w e h =
       let none = none_left refusal (length text) (length entry) e h in
       (w.answer ∙ rw none, w.buffer ∙ rw none)
+
+  -- a refusal where the buffer has room: it is the one before the buffer's, and the buffer is as it was
+  pub refusal-tells : {exit : List ℕ} {r : Written} → Writes refusal text entry exit r → (refusal ≡ 0 → length text ≤ length entry) → (k : ℕ)
+      → r ≡ Refused k → (k ≡ refusal) × (refusal ≡ 0 → ⊥) × (exit ≡ entry)
+  unfolding written_of lent_after
+  refusal-tells {exit} {r} w room k e = by (eqb refusal 0) refl
+    where
+      by : (test : Bool) → eqb refusal 0 ≡ test → (k ≡ refusal) × (refusal ≡ 0 → ⊥) × (exit ≡ entry)
+      by true q =
+          let none = eqb-true refusal 0 q in
+          let told = (room-tells w none (room none)).0 in
+          absurd (let z : ◌≡◌ {A = ℕ} 0 1 = cc in omega arith)
+      by false q =
+          let some = eqb-false refusal 0 q in
+          let first = refused-first refusal (length text) (length entry) some in
+          let told = rw (first, q) at w.answer in
+          (cc, some, w.buffer ∙ rw (first, q))
 
 -- ---- worked examples: 12 last, for a buffer that is a byte too short; the bytes past the text stay, and all of them at a refusal
 examples : (or_short 0 5 4 ≡ 12) × (or_short 0 5 5 ≡ 0) × (or_short 3 5 4 ≡ 3) ×
