@@ -1,3 +1,4 @@
 pub mod Table
+pub mod BySums
 pub mod inner
 pub mod laws

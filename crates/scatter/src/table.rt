@@ -105,8 +105,8 @@ fn entries_of(s: &[i64; 64], size: usize, e: u32) -> [i64; 64]
     entries
 }
 
-// The table of samples, by their sums.
-fn table_of(n: usize, t: Sums) -> Table
+// The table of samples, by their sums alone: of `sums_of ss` it is `table_of n ss` (specs/laws/BySums).
+pub fn table_of(n: usize, t: Sums) -> Table
     requires { (n ≤ 8) × Bounded t }
     ensures { result ≡ table_from (scatter_by_sums n t) }
 {

@@ -1,3 +1,5 @@
 pub mod Sums
+pub mod Ranges
+pub mod Combined
 pub mod inner
 pub mod laws

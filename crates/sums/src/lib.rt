@@ -1,12 +1,14 @@
 // The sums of samples: their number, channel sums and cross sums, in one pass over the samples.
 #![tactic(auto)]
 
-ghost use Rattle.std.specs.Prelude.{◌≡◌, ◌*◌};
+ghost use Rattle.std.specs.Prelude.{◌≡◌, ◌+◌, ◌-◌, ◌*◌, ◌≤◌, length};
 ghost use Rattle.readings.specs.Samples.{sample, samples, z};
 ghost use Rattle.sums.specs.Sums.{products, sums_of};
 ghost use Rattle.readings.specs.Ranges.{Readings};
 ghost use Rattle.sums.specs.inner.Raised.{raised};
-ghost use Rattle.sums.specs.inner.Ranges.{InRange, Room, z_limit};
+ghost use Rattle.sums.specs.Combined.{placewise, plus_of, minus_of};
+ghost use Rattle.sums.specs.Ranges.{Bounded, Included, InRange, z_limit};
+ghost use Rattle.sums.specs.inner.Ranges.{NoneAbove, Room, SumsFit};
 ghost use Rattle.limits.specs.Limits.{most_samples};
 
 // A cross sum of the channels i ≤ j, counted from 0, stands at 8 × i + j; any other place is 0.
@@ -72,6 +74,66 @@ pub fn sums_of(n: usize, dilutions: &[u32], counts: &[u32]) -> Sums
     }
     Sums {
         k: dilutions.len() as u64,
+        channel,
+        cross,
+    }
+}
+
+// Each number of `more`, added at its place.
+fn add_each(sums: &mut [u64], more: &[u64])
+    requires { SumsFit sums.old more.now }
+    ensures { sums.new ≡ placewise (length sums.old) ◌+◌ sums.old more.now }
+{
+    let mut p = 0;
+    while p < sums.len() {
+        sums[p] += more[p];
+        p += 1;
+    }
+}
+
+// Each number of `part`, taken away at its place.
+fn subtract_each(sums: &mut [u64], part: &[u64])
+    requires { NoneAbove sums.old part.now }
+    ensures { sums.new ≡ placewise (length sums.old) ◌-◌ sums.old part.now }
+{
+    let mut p = 0;
+    while p < sums.len() {
+        sums[p] -= part[p];
+        p += 1;
+    }
+}
+
+// The sums of two lists of samples together.
+pub fn plus(a: Sums, b: Sums) -> Sums
+    requires { Bounded a × Bounded b × (a.k + b.k ≤ most_samples) }
+    ensures { result ≡ plus_of a b }
+{
+    let mut channel = a.channel;
+    let mut cross = a.cross;
+    let more_channel = b.channel;
+    let more_cross = b.cross;
+    add_each(&mut channel, &more_channel);
+    add_each(&mut cross, &more_cross);
+    Sums {
+        k: a.k + b.k,
+        channel,
+        cross,
+    }
+}
+
+// The sums of a list without the samples that `b` has the sums of.
+pub fn minus(a: Sums, b: Sums) -> Sums
+    requires { Included b a }
+    ensures { result ≡ minus_of a b }
+{
+    let mut channel = a.channel;
+    let mut cross = a.cross;
+    let part_channel = b.channel;
+    let part_cross = b.cross;
+    subtract_each(&mut channel, &part_channel);
+    subtract_each(&mut cross, &part_cross);
+    Sums {
+        k: a.k - b.k,
         channel,
         cross,
     }

@@ -46,7 +46,8 @@ module _ (ss : List Sample) where
   unfolding sums_of totals
   channel-of i h = get_d_tabulate 8 (λ p. total (λ s. z s p) ss) i 0 h
 
-  cross_at : (p : ℕ) → p < 64 → get_or (sums_of ss).cross p 0 ≡ total (λ s. products s p) ss
+  -- at any place of the cross sums
+  pub cross_at : (p : ℕ) → p < 64 → get_or (sums_of ss).cross p 0 ≡ total (λ s. products s p) ss
   unfolding sums_of totals
   cross_at p h = get_d_tabulate 64 (λ p. total (λ s. products s p) ss) p 0 h
 
