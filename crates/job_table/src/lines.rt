@@ -6,11 +6,13 @@ ghost use Rattle.job_table.specs.Held.{Held, job_in};
 ghost use Rattle.text.specs.Put.{Put, Sized};
 ghost use Rattle.text.specs.Rows.{Wide};
 ghost use Rattle.job_table.specs.inner.Done.{text_of_rows};
-ghost use Rattle.job_table.specs.Table.{table_text};
+ghost use Rattle.job_table.specs.Table.{PutsTable, table_text};
+ghost use Rattle.limits.specs.Limits.{most_samples};
 
 use crate::rows;
 use job::Job;
 use job::reply::Reply;
+use scatter::table::Table;
 
 fn text_length(head: &[i64; 3], n: usize, rows: &[[i64; 11]; 8]) -> usize
     requires { (n ≤ 8) × Wide rows.now }
@@ -42,6 +44,19 @@ fn table_job(job: Job, buf: &mut [u8]) -> Reply
         return Reply::Refused(12, 0);
     }
     Reply::Written(put_text(buf, &head, n, &rows))
+}
+
+// The text of a table of k samples of n channels.
+pub fn put_table(buf: &mut [u8; 2048], n: usize, k: usize, table: Table) -> usize
+    requires { (n ≤ 8) × (k ≤ most_samples) }
+    ensures { PutsTable n k table buf.old buf.new result }
+{
+    let exact = table.scatter;
+    let head = [n as i64, k as i64, table.e as i64];
+    let rows = rows::rows_of(n, &exact);
+    let length = text_length(&head, n, &rows);
+    put_text(buf, &head, n, &rows);
+    length
 }
 
 pub(crate) fn table_text(text: &[u8], buf: &mut [u8]) -> Reply

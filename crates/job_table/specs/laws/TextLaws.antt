@@ -1,5 +1,5 @@
 -- The text that is written is that of the table.
-use Rattle.std.specs.Prelude.{◌+◌, ◌*◌, ◌≤◌, ◌≡◌, List, [], ◌∷◌, ◌++◌, map, ℤ, pos, length}
+use Rattle.std.specs.Prelude.{◌+◌, ◌*◌, ◌≤◌, ◌≡◌, refl, ℕ, List, [], ◌∷◌, ◌++◌, map, ℤ, pos, length}
 use Rattle.std.proofs.Common.{sym, ap, ◌∙◌, arith}
 use Rattle.integer.specs.Matrix.{matrix_of}
 use Rattle.integer.specs.laws.Padded.{padded-at}
@@ -9,14 +9,15 @@ use Rattle.job.specs.declared.Job as arrays
 use Rattle.job_table.specs.Held.{Held, job_in, samples_of, table_for}
 use Rattle.job_table.specs.laws.Laws.{channels-held, samples-held}
 use Rattle.scatter.specs.laws.Entries.{scatter-at}
-use Rattle.scatter.specs.Table.{scatter, table_from_under, table_under}
+use Rattle.readings.specs.Samples.{Sample}
+use Rattle.scatter.specs.Table.{scatter, table_from_under, table_of, table_under}
 use Rattle.scatter.specs.declared.table.Table.{Table}
 use Rattle.text.specs.Line.{number_line}
 use Rattle.text.specs.laws.Lines.{lines_same}
 use Rattle.job_table.specs.inner.Done.{text_of_rows}
 use Rattle.job_table.specs.inner.Rows.{table_rows}
 use Rattle.job_table.specs.laws.Rows.{row-line}
-use Rattle.job_table.specs.Table.{line_t, table_text}
+use Rattle.job_table.specs.Table.{line_t, samples_text, table_text}
 
 -- The numbers of the first line
 unfoldable pub table_head : Job → List ℤ
@@ -41,3 +42,19 @@ text-of-arrays a h t e =
     (ap (λ k. text_of_rows (pos a.n ∷ pos k ∷ pos (table_for (job_in a)).e ∷ []) a.n (table_rows a.n (table_for (job_in a)).scatter))
     (sym (samples-held a h))
     ∙ text-of-table (job_in a) (channels-held a h))
+
+-- A job's text is that of its samples.
+pub job-samples-text : (j : Job) → samples_text j.n (length j.dilutions) (samples_of j) ≡ table_text j
+unfolding samples_text table_text
+job-samples-text j = refl
+
+-- The text that is written of a table of samples is theirs.
+pub text-of-samples : (n k : ℕ) (ss : List Sample) → n ≤ 8 →
+    text_of_rows (pos n ∷ pos k ∷ pos (table_of n ss).e ∷ []) n (table_rows n (table_of n ss).scatter) ≡ samples_text n k ss
+unfolding text_of_rows table_under table_from_under samples_text line_t matrix_of
+text-of-samples n k ss h =
+    ap (λ lines. line_t n k (table_of n ss).e ++ lines)
+    (lines_same n _ _
+    (λ i a. row-line n (table_of n ss).scatter h i (omega arith)
+    ∙ ap (λ (numbers : List ℤ). number_line 83 (pos (i + 1) ∷ numbers))
+    (tabulate-ext n _ _ (λ q b. padded-at 64 (pos 0) (scatter n ss) (i * n + q) ∙ scatter-at n ss i q a b))))

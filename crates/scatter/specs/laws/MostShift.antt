@@ -18,6 +18,7 @@ use Rattle.readings.specs.Samples.{Sample, z, sample_at, samples, total}
 use Rattle.sums.specs.Ranges.{z_limit}
 use Rattle.sums.specs.laws.Bounds.{AllInRange, z-bound, all-in-range}
 use Rattle.scatter.specs.Table.{S, scatter, largest, smallest_shift, shift_under, table_from_under, table_under, table_of}
+use Rattle.scatter.specs.laws.BySums.{by_totals}
 use Rattle.scatter.specs.laws.Shift.{shift-smallest}
 
 -- 4xy ≤ (x + y)²
@@ -122,32 +123,46 @@ module _ (i j : ℕ) where
         by_both = omega (arith, t.by_both, complements z_limit (z s i) (z s j) u v);
       }
 
+  -- the same of S written out
+  totals-quarter : (ss : List Sample) → AllInRange ss → 4 * nat_abs (by_totals ss i j) ≤ (length ss * z_limit) * (length ss * z_limit)
+  unfolding by_totals
+  totals-quarter ss h = quarter (related (totals ss h))
+
+  totals-most : (ss : List Sample) → length ss ≤ most_samples → AllInRange ss → nat_abs (by_totals ss i j) ≤ former_entry_limit * 2 ^ most_shift
+  totals-most ss k h =
+      let most : length ss * z_limit ≤ most_samples * z_limit = mul-le-mul_right z_limit k in
+      omega (arith, totals-quarter ss h, mul-le-mul most most)
+
   -- 4 × |S_ij| ≤ (k × M)²
   pub S-quarter : (ss : List Sample) → AllInRange ss → 4 * nat_abs (S ss i j) ≤ (length ss * z_limit) * (length ss * z_limit)
-  unfolding S
-  S-quarter ss h = quarter (related (totals ss h))
+  unfolding S by_totals
+  S-quarter ss h = totals-quarter ss h
 
   pub S-most : (ss : List Sample) → length ss ≤ most_samples → AllInRange ss → nat_abs (S ss i j) ≤ former_entry_limit * 2 ^ most_shift
-  S-most ss k h =
-      let most : length ss * z_limit ≤ most_samples * z_limit = mul-le-mul_right z_limit k in
-      omega (arith, S-quarter ss h, mul-le-mul most most)
+  unfolding S by_totals
+  S-most ss k h = totals-most ss k h
+
+totals-shift : (limit n : ℕ) (dilutions counts : List ℕ) → former_entry_limit ≤ limit → Readings n dilutions counts →
+    shift_under limit (row_major n (by_totals (samples n dilutions counts))) ≤ most_shift
+unfolding samples
+totals-shift limit n dilutions counts old r =
+    (shift-smallest {limit = limit} (omega arith) _).least most_shift
+    (row_major-all n _ (λ u. nat_abs u ≤ limit * 2 ^ most_shift) (omega arith) every)
+  where
+    every : (i j : ℕ) → i < n → j < n → nat_abs (by_totals (samples n dilutions counts) i j) ≤ limit * 2 ^ most_shift
+    every i j g f =
+        le_trans (totals-most i j _ (rw length-tabulate r.number) (all-in-range n dilutions counts r (length dilutions)))
+        (mul-le-mul_right (2 ^ most_shift) old)
 
 -- Under every limit that is not below the former one
 pub most-shift : (limit n : ℕ) (dilutions counts : List ℕ) → former_entry_limit ≤ limit → Readings n dilutions counts →
     shift_under limit (scatter n (samples n dilutions counts)) ≤ most_shift
-unfolding scatter samples
-most-shift limit n dilutions counts old r =
-    (shift-smallest {limit = limit} (omega arith) _).least most_shift
-    (row_major-all n _ (λ u. nat_abs u ≤ limit * 2 ^ most_shift) (omega arith) every)
-  where
-    every : (i j : ℕ) → i < n → j < n → nat_abs (S (samples n dilutions counts) i j) ≤ limit * 2 ^ most_shift
-    every i j g f =
-        le_trans (S-most i j _ (rw length-tabulate r.number) (all-in-range n dilutions counts r (length dilutions)))
-        (mul-le-mul_right (2 ^ most_shift) old)
+unfolding scatter S by_totals
+most-shift limit n dilutions counts old r = totals-shift limit n dilutions counts old r
 
 pub readings-shift : (n : ℕ) (dilutions counts : List ℕ) → Readings n dilutions counts → (table_of n (samples n dilutions counts)).e ≤ most_shift
-unfolding table_under table_from_under
-readings-shift n dilutions counts = most-shift entry_limit n dilutions counts former-below
+unfolding table_under table_from_under scatter S by_totals
+readings-shift n dilutions counts r = totals-shift entry_limit n dilutions counts former-below r
 
 -- 40 is reached under the former limit: 256 samples at dilution 100, half of them 0 and half 65,535.
 reached : shift_under former_entry_limit (scatter 2 (samples 2 (replicate 256 100) (replicate 256 0 ++ replicate 256 65_535))) ≡ most_shift
