@@ -32,7 +32,7 @@ pub products_bound : (s : Sample) → InRange s → (p : ℕ) → products s p �
 unfolding z
 products_bound s r p = products_most z_limit s (λ i. mul-le-mul (r.count i) r.dilution) p
 
-total-bound : (f : Sample → ℕ) (b : ℕ) (ss : List Sample) → ((s : ℕ) → f (get_or ss s no_sample) ≤ b) → total f ss ≤ length ss * b
+pub total-bound : (f : Sample → ℕ) (b : ℕ) (ss : List Sample) → ((s : ℕ) → f (get_or ss s no_sample) ≤ b) → total f ss ≤ length ss * b
 unfolding total
 total-bound f b [] h = omega arith
 total-bound f b (s ∷ ss) h = rw suc-mul (omega (arith, h zero, total-bound f b ss (λ q. h (suc q))))

@@ -1,0 +1,6 @@
+pub mod Closing
+pub mod Rebuilding
+pub mod Changing
+pub mod Answering
+pub mod After
+pub mod Fed

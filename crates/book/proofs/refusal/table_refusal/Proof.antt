@@ -1,0 +1,18 @@
+-- `book::refusal::table_refusal` meets its contract.
+use borrow.Author.Rules.{rules}
+use Rattle.book.specs.Calls.{book_refusal}
+use Rattle.book.proofs.refusal.table_refusal.Statement.{statement}
+use Rattle.book.proofs.refusal.table_refusal.Tie as tie
+
+refused-unless-requires : tie.Need-refused_unless-requires
+refused-unless-requires c κs = search rules
+
+channels-refusal-requires : tie.Need-channels_refusal-requires
+channels-refusal-requires c κs = search rules
+
+returns : tie.Need-returns
+unfolding book_refusal
+returns c = cc
+
+pub table_refusal_spec : {M : Type 1} → statement M
+table_refusal_spec = tie.close (tie.spec refused-unless-requires channels-refusal-requires returns)
