@@ -79,3 +79,7 @@ most_bytes = 16_384
 -- 'A number is 1 to 7 decimal digits'
 abbrev pub most_digits : ℕ
 most_digits = 7
+
+-- document 02, W14: 'up to 10,000 jobs'
+abbrev pub most_jobs : ℕ
+most_jobs = 10_000

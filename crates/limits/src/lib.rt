@@ -52,3 +52,6 @@ pub const MOST_NUMBER: u32 = 9_999_999;
 
 // The bytes of job text that a program reads.
 pub const MOST_BYTES: usize = 16_384;
+
+// The jobs of a season.
+pub const MOST_JOBS: u64 = 10_000;

@@ -4,13 +4,17 @@ use Prim.Native.Nat.{◌≤◌}
 use native.Mathlib.Nat.{le_trans}
 use Rattle.job.specs.Job.{Job}
 use Rattle.job.specs.Values.{Proper}
-use Rattle.job.specs.laws.Proper.{limit-most, samples-taken, tolerance-most}
+use Rattle.job.specs.laws.Proper.{channels, limit-most, samples-taken, tolerance-most}
 use Rattle.job_table.specs.Held.{samples_of, table_for}
 use Rattle.limits.specs.Limits.{most_sweeps}
+use Rattle.limits.specs.laws.Values.{some-entry}
 use Rattle.run.specs.laws.Calls.{AsCalls, run-calls, samples-begin, table-run-is}
 use Rattle.run.specs.laws.Course.{run_ends, run-kept}
+use Rattle.run.specs.laws.Table.{table-allowed}
 use Rattle.record.specs.Kept.{Kept}
-use Rattle.report.specs.Done.{run_of_table}
+use Rattle.scatter.specs.declared.table.Table.{Table}
+use Rattle.scatter.specs.laws.Table.{table_is}
+use Rattle.report.specs.Done.{TableRunnable, run_of_table}
 use Rattle.report.specs.Report.{load_for, run_for}
 
 pub run-last-kept : (j : Job) → Kept (run_for j).last
@@ -35,3 +39,13 @@ module _ (j : Job) (p : Proper j) where
   pub table-is-run : run_of_table j.n j.limit j.tolerance (table_for j) ≡ run_for j
   unfolding run_of_table run_for table_for samples_of
   table-is-run = table-run-is j.n j.dilutions j.counts j.limit j.tolerance (samples-taken j p)
+
+  -- a table that is made from the job's samples
+  pub table-runnable : (t : Table) → t ≡ table_for j → TableRunnable j.n j.limit j.tolerance t
+  unfolding table_for
+  table-runnable t e =
+      let c = channels j p in
+      record {
+        allowed = rw e (table-allowed j.n (samples_of j) c.0 c.1 j.limit j.tolerance (limit-most j p) (tolerance-most j p));
+        size = rw e (table_is j.n c.1 some-entry (samples_of j)).entries.size;
+      }

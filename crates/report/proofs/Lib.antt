@@ -1,4 +1,4 @@
-mod Bounds
+pub mod Bounds
 mod Same
 pub mod Certificate
 mod Written

@@ -1,4 +1,4 @@
--- What the reports of a run and of a table require, and what they ensure.
+-- What the reports of a run and of a table require, and what they ensure; and what runs do.
 use Rattle.std.specs.Prelude.{ℕ, ◌*◌, ◌≤◌, ◌≡◌, List, length, take}
 use Rattle.limits.specs.Limits.{most_samples, most_sweeps}
 use Rattle.record.specs.Kept.{Kept}
@@ -29,3 +29,14 @@ pub record TableReportable (n k limit tolerance : ℕ) (t : Table) : Type 0 wher
   pub allowed : Allowed n (take (n * n) t.entries) limit tolerance
   pub size : length t.entries ≡ 64
   pub samples : k ≤ most_samples
+
+-- a table that a run may load
+pub record TableRunnable (n limit tolerance : ℕ) (t : Table) : Type 0 where
+  pub allowed : Allowed n (take (n * n) t.entries) limit tolerance
+  pub size : length t.entries ≡ 64
+
+-- a run that is over is the one that is meant; its record is kept, and its sweeps are at most 16
+pub record Ran (meant z : Run) : Type 0 where
+  pub is : z ≡ meant
+  pub keeps : Kept z.last
+  pub sweeps : z.sweeps ≤ most_sweeps

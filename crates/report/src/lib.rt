@@ -9,8 +9,8 @@ ghost use Rattle.job.specs.Job.{accepted};
 ghost use Rattle.job.specs.Reply.{Answers, Replies, printed_of};
 ghost use Rattle.job_table.specs.Held.{Held, job_in};
 ghost use Rattle.text.specs.Put.{Put};
-ghost use Rattle.report.specs.Done.{Reportable, ReportsRun, TableReportable, run_of_table};
-ghost use Rattle.report.specs.Report.{report_of};
+ghost use Rattle.report.specs.Done.{Ran, Reportable, ReportsRun, TableReportable, TableRunnable, run_of_table};
+ghost use Rattle.report.specs.Report.{report_of, run_for};
 
 use job::Job;
 use job::reply::Reply;
@@ -43,6 +43,16 @@ pub fn report_run(run: Run, k: usize, buf: &mut [u8]) -> Written
     Written::Length(lines::put_text(buf, &head, outcome, &listed, n))
 }
 
+// The run on a table's first n × n entries and its e.
+fn run_of_table(n: usize, limit: u64, tolerance: u64, table: Table) -> Run
+    requires { TableRunnable n limit tolerance table }
+    ensures { Ran (run_of_table n limit tolerance table) result }
+{
+    let entries = table.entries;
+    let size = n * n;
+    run::run_table(n, &entries[..size], table.e, limit, tolerance)
+}
+
 // The report of a table of k samples of n channels, by the run on its entries.
 pub fn report_table(
     n: usize,
@@ -55,10 +65,20 @@ pub fn report_table(
     requires { TableReportable n k limit tolerance table }
     ensures { ReportsRun (run_of_table n limit tolerance table) k buf.old buf.new result }
 {
-    let entries = table.entries;
-    let size = n * n;
-    let run = run::run_table(n, &entries[..size], table.e, limit, tolerance);
+    let run = run_of_table(n, limit, tolerance, table);
     report_run(run, k, buf)
+}
+
+// The run of a job, on its table.
+pub fn run_of_job(job: Job) -> Run
+    requires { Held job }
+    ensures { Ran (run_for (job_in job)) result }
+{
+    let n = job.n;
+    let limit = job.limit;
+    let tolerance = job.tolerance;
+    let table = job_table::table_of(job);
+    run_of_table(n, limit, tolerance, table)
 }
 
 fn report_job(job: Job, buf: &mut [u8]) -> Reply

@@ -6,19 +6,15 @@ use lib.ListN.{length}
 use Rattle.job.specs.Job.{Job, accepted}
 use Rattle.job.specs.Reply.{Answers}
 use Rattle.job.specs.Values.{Proper}
-use Rattle.job.specs.laws.Proper.{channels, limit-most, tolerance-most}
 use Rattle.job.specs.laws.Replying.{as_reply, written-answers}
-use Rattle.job_table.specs.Held.{Held, job_in, samples_of, table_for}
+use Rattle.job_table.specs.Held.{Held, job_in, table_for}
 use Rattle.job_table.specs.laws.Laws.{samples-few, samples-held}
 use Rattle.job.specs.declared.Job as arrays
-use Rattle.limits.specs.laws.Values.{some-entry}
-use Rattle.run.specs.laws.Table.{table-allowed}
 use Rattle.scatter.specs.declared.table.Table.{Table}
-use Rattle.scatter.specs.laws.Table.{table_is}
 use Rattle.text.specs.declared.written.Written.{Written}
 use Rattle.report.specs.Done.{ReportsRun, TableReportable, run_of_table}
 use Rattle.report.specs.Report.{report_of}
-use Rattle.report.proofs.Bounds.{table-is-run}
+use Rattle.report.proofs.Bounds.{table-is-run, table-runnable}
 use Rattle.report.proofs.report_job.Goals as goal
 
 -- the report of the job's table is the job's
@@ -32,17 +28,10 @@ table-answers j p t e k many {entry} r =
 -- arrays that hold a job, and the job's table
 module _ (a : arrays.Job) (h : Held a) (t : Table) (e : t ≡ table_for (job_in a)) where
   reportable : TableReportable a.n a.k a.limit a.tolerance t
-  unfolding job_in table_for
+  unfolding job_in
   reportable =
-      let j = job_in a in
-      let c = channels j h.proper in
-      record {
-        allowed =
-            rw e
-            (table-allowed j.n (samples_of j) c.0 c.1 j.limit j.tolerance (limit-most j h.proper) (tolerance-most j h.proper));
-        size = rw e (table_is j.n c.1 some-entry (samples_of j)).entries.size;
-        samples = samples-few a h;
-      }
+      let r = table-runnable (job_in a) h.proper t e in
+      record { allowed = r.allowed; size = r.size; samples = samples-few a h }
 
   answers : {entry exit : List ℕ} {w : Written} → ReportsRun (run_of_table a.n a.limit a.tolerance t) a.k entry exit w →
       Answers report_of (accepted (job_in a)) entry exit (as_reply w)
