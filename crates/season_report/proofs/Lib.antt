@@ -1,0 +1,7 @@
+mod Added
+mod Axes
+mod Ends
+mod Figures
+pub mod Largest
+pub mod Reported
+mod Taking

@@ -1,0 +1,16 @@
+-- `season_report::job_end::is_settled` meets its contract.
+use mathlib.Core.Path.{sym, ap}
+use Rattle.season_report.specs.Job.{is_settled}
+use Rattle.season_report.proofs.job_end.is_settled.Goals as goal
+
+pub returns-in-Settled : goal.returns-in-Settled
+unfolding is_settled
+returns-in-Settled c = ap is_settled (sym c.in-Settled.is)
+
+pub returns-in-Still : goal.returns-in-Still
+unfolding is_settled
+returns-in-Still c = ap is_settled (sym c.in-Still.is)
+
+pub returns-in-Spent : goal.returns-in-Spent
+unfolding is_settled
+returns-in-Spent c = ap is_settled (sym c.in-Spent.is)

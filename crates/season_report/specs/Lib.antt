@@ -1,0 +1,11 @@
+pub mod Lists
+pub mod Job
+pub mod Figures
+pub mod Season
+pub mod Largest
+pub mod Limits
+pub mod Text
+pub mod Done
+pub mod Texts
+pub mod inner
+pub mod laws

@@ -1,0 +1,50 @@
+// The line of the figures: numbers parted by tabs.
+ghost use Rattle.std.specs.Prelude.{◌≤◌, pos, length, map, ◌≡◌};
+ghost use Rattle.season_report.specs.Limits.{SeasonLimits};
+ghost use Rattle.season_report.specs.Text.{season_numbers};
+ghost use Rattle.text.specs.Decimal.{number};
+ghost use Rattle.text.specs.Line.{line};
+ghost use Rattle.text.specs.Put.{Put, Sized};
+
+use crate::Season;
+use text::{put_byte, put_number};
+
+const LINE_FEED: u8 = b'\n';
+
+pub(crate) fn numbers_of(s: Season) -> [i64; 12]
+    requires { SeasonLimits s }
+    ensures { result ≡ map pos (season_numbers s) }
+{
+    [
+        s.jobs as i64,
+        s.settled as i64,
+        s.still as i64,
+        s.spent as i64,
+        s.refused1 as i64,
+        s.refused2 as i64,
+        s.refused3 as i64,
+        s.refused4 as i64,
+        s.turns as i64,
+        s.error as i64,
+        s.job as i64,
+        s.axis as i64,
+    ]
+}
+
+// No tab stands before the first number, and a line feed after the last.
+pub(crate) fn line_length(numbers: &[i64]) -> usize
+    requires { length numbers.now ≡ 12 }
+    ensures { Sized (line (map number numbers.now)) 252 result }
+{
+    text::line::numbers_length(numbers, 12)
+}
+
+// The line, at the front of the buffer.
+pub(crate) fn put_line(buf: &mut [u8], numbers: &[i64]) -> usize
+    requires { (1 ≤ length numbers.now) × (length (line (map number numbers.now)) ≤ length buf.old) }
+    ensures { Put (line (map number numbers.now)) 0 buf.old buf.new result }
+{
+    let mut at = put_number(buf, 0, numbers[0]);
+    at = text::line::put_numbers(buf, at, &numbers[1..], numbers.len() - 1);
+    put_byte(buf, at, LINE_FEED)
+}
