@@ -49,13 +49,10 @@ fn input_left<R: Read>(input: &mut R) -> io::Result<bool>
 
 fn main(rt: HostRuntime) -> io::Result<()> {
     let mut input = rt.reader();
-    let mut text = Vec::new(rt.alloc());
-    input
-        .by_ref()
-        .take(INPUT_LIMIT as u64)
-        .read_to_end(&mut text)?;
-    let left = text.len() == INPUT_LIMIT && input_left(&mut input)?;
+    let mut text = [0u8; INPUT_LIMIT];
+    let n = input::read_full(&mut input, &mut text)?;
+    let left = n == INPUT_LIMIT && input_left(&mut input)?;
     let mut printed = Ok(());
-    play_all(&rt, &text, left, &mut printed);
+    play_all(&rt, &text[..n], left, &mut printed);
     printed
 }

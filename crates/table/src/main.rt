@@ -2,14 +2,11 @@
 #![tactic(auto)]
 
 use std::io;
-use std::io::Read;
 
 fn main(rt: HostRuntime) -> io::Result<()> {
-    let mut text = Vec::new(rt.alloc());
-    rt.reader()
-        .take(limits::MOST_BYTES as u64)
-        .read_to_end(&mut text)?;
+    let mut text = [0u8; limits::MOST_BYTES];
+    let n = input::read_full(&mut rt.reader(), &mut text)?;
     let mut out = [0u8; 2048];
-    let printed = job_table::lines::answer(&text, &mut out);
+    let printed = job_table::lines::answer(&text[..n], &mut out);
     rt.write_all(&out[..printed])
 }

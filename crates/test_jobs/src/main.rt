@@ -8,7 +8,6 @@ ghost use Rattle.std.specs.Prelude.{◌≤◌, ◌<◌, length};
 use job::reply::Reply;
 use std::fs::File;
 use std::io;
-use std::io::Read;
 
 // The value of a digit, and 10 for another byte.
 fn digit(b: u8) -> usize
@@ -107,7 +106,7 @@ fn print_jobs(rt: &impl Print, jobs: &[u8]) -> io::Result<()> {
 }
 
 fn main(rt: HostRuntime) -> io::Result<()> {
-    let mut jobs = Vec::new(rt.alloc());
-    File::open(&rt, "jobs")?.take(65536).read_to_end(&mut jobs)?;
-    print_jobs(&rt, &jobs)
+    let mut jobs = [0u8; 65536];
+    let n = input::read_full(&mut File::open(&rt, "jobs")?, &mut jobs)?;
+    print_jobs(&rt, &jobs[..n])
 }
