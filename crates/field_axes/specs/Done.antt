@@ -6,11 +6,13 @@ use Rattle.report.specs.Report.{report_of}
 use Rattle.text.specs.Written.{lent_after}
 use Rattle.panel.specs.Refusal.{panel_at_position}
 use Rattle.panel.specs.Text.{panels_text}
+use Rattle.season_report.specs.Texts.{texts_line}
 use Rattle.field_axes.specs.Answer.{count_or_refusal}
 use Rattle.field_axes.specs.Calls.{length_or_short}
 use Rattle.field_axes.specs.JobText.{text_for, text_refusal}
 use Rattle.field_axes.specs.Panels.{panel_numbers, panel_refusal, panels_refusal}
 use Rattle.field_axes.specs.Report.{length_or_number, refused_line}
+use Rattle.field_axes.specs.Season.{season_refusal}
 use Rattle.field_axes.specs.Solution.{solution_of, solve_refusal}
 use Rattle.field_axes.specs.Table.{table_numbers_of, table_refusal}
 
@@ -45,3 +47,8 @@ pub record ListsPanels (b : ℤ) (entry exit : List ℕ) (r : ℤ) : Type 0 wher
 pub record GivesPanel (b position : ℤ) (entry exit : List ℤ) (r : ℤ) : Type 0 where
   pub answer : r ≡ count_or_refusal (panel_refusal b position (length entry)) (panel_numbers (panel_at_position b position))
   pub buffer : exit ≡ lent_after (panel_refusal b position (length entry)) (panel_numbers (panel_at_position b position)) entry
+
+-- the line's length, or the refusal's number negated: 2, then 16, then 12
+pub record ReportsSeason (bytes ends entry exit : List ℕ) (r : ℤ) : Type 0 where
+  pub answer : r ≡ count_or_refusal (season_refusal bytes ends (length entry)) (texts_line bytes ends)
+  pub buffer : exit ≡ lent_after (season_refusal bytes ends (length entry)) (texts_line bytes ends) entry

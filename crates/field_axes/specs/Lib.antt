@@ -2,6 +2,7 @@ pub mod Answer
 pub mod Report
 pub mod JobText
 pub mod Calls
+pub mod Season
 pub mod Done
 pub mod Solution
 pub mod Table

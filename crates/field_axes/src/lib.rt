@@ -6,7 +6,7 @@ mod table;
 
 ghost use Rattle.std.specs.Prelude.{◌≡◌, pos, neg_ℤ};
 ghost use Rattle.panel.specs.Refusal.{of_panel};
-ghost use Rattle.field_axes.specs.Done.{GivesPanel, ListsPanels, PlaysText, ReportsText, Solves, Tabulates, WritesJob};
+ghost use Rattle.field_axes.specs.Done.{GivesPanel, ListsPanels, PlaysText, ReportsSeason, ReportsText, Solves, Tabulates, WritesJob};
 ghost use Rattle.field_axes.specs.Panels.{panel_of, position_or_refusal};
 
 use job::reply::Reply;
@@ -138,5 +138,17 @@ pub fn field_axes_panel_position(b: i64, a11: i64, a12: i64, a22: i64) -> i64
     match found {
         OfPanel::Position(position) => position as i64,
         OfPanel::Refused(number) => refused(number),
+    }
+}
+
+// The season of job texts that stand one after another in one buffer, each to before its end. Into `out`: the line of its figures. The answer is its
+// length, or the refusal's number negated.
+pub fn field_axes_season(texts: &[u8], ends: &[usize], out: &mut [u8]) -> i64
+    ensures { ReportsSeason texts.now ends.now out.old out.new result }
+{
+    let done = season_report::texts::write_season(texts, ends, out);
+    match done {
+        Written::Length(length) => length as i64,
+        Written::Refused(refusal) => refused(refusal),
     }
 }

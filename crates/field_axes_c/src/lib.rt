@@ -4,7 +4,7 @@
 
 ghost use Rattle.std.specs.Prelude.{◌≡◌};
 ghost use Rattle.panel.specs.Refusal.{of_panel};
-ghost use Rattle.field_axes.specs.Done.{GivesPanel, ListsPanels, PlaysText, ReportsText, Solves, Tabulates, WritesJob};
+ghost use Rattle.field_axes.specs.Done.{GivesPanel, ListsPanels, PlaysText, ReportsSeason, ReportsText, Solves, Tabulates, WritesJob};
 ghost use Rattle.field_axes.specs.Panels.{panel_of, position_or_refusal};
 
 // A run on n×n numbers, row after row, and its axes. Into `out`: the outcome (0 settled, 1 still, 2 spent), the sweeps run, m, then for
@@ -93,4 +93,13 @@ pub extern "C" fn field_axes_panel_position(b: i64, a11: i64, a12: i64, a22: i64
     ensures { result ≡ position_or_refusal (of_panel b (panel_of a11 a12 a22)) }
 {
     field_axes::field_axes_panel_position(b, a11, a12, a22)
+}
+
+// The season of job texts that stand one after another in one buffer, each to before its end. Into `out`: the line of its figures. The answer is its
+// length, or the refusal's number negated.
+#[unsafe(no_mangle)]
+pub extern "C" fn field_axes_season(texts: &[u8], ends: &[usize], out: &mut [u8]) -> i64
+    ensures { ReportsSeason texts.now ends.now out.old out.new result }
+{
+    field_axes::field_axes_season(texts, ends, out)
 }
