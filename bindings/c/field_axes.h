@@ -59,6 +59,17 @@ int64_t field_axes_calls(const uint8_t *text, size_t text_length, uint8_t *out, 
 
 #define FIELD_AXES_MOST_ANSWER_BYTES 256
 
+/* A season of jobs: their texts, one after another in one buffer, and the end of each, as how many bytes there are up to it. Into out: one line of
+   numbers parted by tabs, jobs, how many ended settled, still and spent, how many were refused under each number 1 to 4, total turns, the largest
+   error, the first job that has it, from 1, and its lowest axis that has it, or 0 for these three where no job was accepted; at most
+   FIELD_AXES_MOST_SEASON_BYTES bytes, with no 0 after it. Bytes past it stay.
+   The answer is its length, or a refusal's number negated: 2 for an end below the one before it or beyond the buffer, then 16 for more than 10,000
+   jobs, then 12 for a short buffer. At a refusal the buffer stays. */
+int64_t field_axes_season(const uint8_t *texts, size_t texts_length, const size_t *ends, size_t ends_length, uint8_t *out,
+                          size_t out_length);
+
+#define FIELD_AXES_MOST_SEASON_BYTES 84
+
 /* All panels of a size: the symmetric matrices of two channels with entries from -b to b, by a_11, then a_12, then a_22, smallest first. Into out: a
    line each of these three entries, then the sweeps run, the turns made and the outcome of a run with limit 16 and tolerance 0, at most
    FIELD_AXES_MOST_PANELS_BYTES bytes, with no 0 after them. Bytes past them stay.

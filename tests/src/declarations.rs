@@ -7,12 +7,13 @@ const C: &str = include_str!("../../bindings/c/field_axes.h");
 
 /// The most that an answer has, in C's words and as Rust has it; that Rust's is enough is seen where the buffer is Rust's own; of job text by the
 /// longest one, in `writing`.
-const MOST: [(&str, usize); 6] = [
+const MOST: [(&str, usize); 7] = [
     ("NUMBERS", field_axes::MOST_NUMBERS),
     ("TABLE_NUMBERS", field_axes::MOST_TABLE_NUMBERS),
     ("JOB_BYTES", field_axes::MOST_JOB_BYTES),
     ("REPORT_BYTES", field_axes::MOST_REPORT_BYTES),
     ("ANSWER_BYTES", field_axes::MOST_ANSWER_BYTES),
+    ("SEASON_BYTES", field_axes::MOST_SEASON_BYTES),
     ("PANELS_BYTES", field_axes::MOST_PANELS_BYTES),
 ];
 

@@ -8,6 +8,7 @@ mod listing;
 mod random;
 mod reporting;
 mod samples;
+mod seasons;
 mod solving;
 mod tabulating;
 mod writing;
@@ -34,13 +35,14 @@ fn main() -> ExitCode {
         println!("job: {difference}");
         failed = true;
     }
-    let kinds: [(&str, fn(u64) -> Result<String, String>); 6] = [
+    let kinds: [(&str, fn(u64) -> Result<String, String>); 7] = [
         ("report", reporting::case),
         ("calls", calling::case),
         ("solve", solving::case),
         ("table", tabulating::case),
         ("job", writing::case),
         ("panels", listing::case),
+        ("season", seasons::case),
     ];
     for (name, case) in kinds {
         let mut counts = std::collections::BTreeMap::new();

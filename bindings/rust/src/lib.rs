@@ -53,6 +53,15 @@ mod raw {
             out_length: usize,
         ) -> i64;
 
+        pub fn field_axes_season(
+            texts: *const u8,
+            texts_length: usize,
+            ends: *const usize,
+            ends_length: usize,
+            out: *mut u8,
+            out_length: usize,
+        ) -> i64;
+
         pub fn field_axes_panels(b: i64, out: *mut u8, out_length: usize) -> i64;
 
         pub fn field_axes_panel(b: i64, position: i64, out: *mut i64, out_length: usize) -> i64;
@@ -282,6 +291,40 @@ pub fn calls(text: &[u8]) -> String {
 pub fn calls_into(text: &[u8], out: &mut [u8]) -> Result<usize, Refused> {
     // Safe: both slices are whole, and borrowed for the call; the function has no other requirement.
     answer(unsafe { raw::field_axes_calls(text.as_ptr(), text.len(), out.as_mut_ptr(), out.len()) })
+}
+
+/// The most bytes that the line of a season has.
+pub const MOST_SEASON_BYTES: usize = 84;
+
+/// The line of a season of job texts: jobs, how many ended settled, still and spent, how many were refused under each number 1 to 4, total turns, the
+/// largest error, the first job that has it, from 1, and its lowest axis that has it; these three are 0 where no job was accepted. Refused 16 for
+/// more than 10,000 jobs.
+pub fn season(texts: &[&[u8]]) -> Result<String, Refused> {
+    let length = |end: &mut usize, text: &&[u8]| {
+        *end += text.len();
+        Some(*end)
+    };
+    let ends: Vec<usize> = texts.iter().scan(0, length).collect();
+    let mut out = [0; MOST_SEASON_BYTES];
+    let length = season_into(&texts.concat(), &ends, &mut out)?;
+    Ok(out[..length].iter().copied().map(char::from).collect())
+}
+
+/// The same of texts one after another in one buffer, and the end of each, at the front of `out`; its other bytes stay. The answer is the line's
+/// length. Refused 2 for an end below the one before it or beyond the buffer, then 16, then 12 where `out` is too short; at a refusal it stays as it
+/// was.
+pub fn season_into(texts: &[u8], ends: &[usize], out: &mut [u8]) -> Result<usize, Refused> {
+    // Safe: the slices are whole, and borrowed for the call; the function has no other requirement.
+    answer(unsafe {
+        raw::field_axes_season(
+            texts.as_ptr(),
+            texts.len(),
+            ends.as_ptr(),
+            ends.len(),
+            out.as_mut_ptr(),
+            out.len(),
+        )
+    })
 }
 
 /// The most bytes that all panels of a size have.
