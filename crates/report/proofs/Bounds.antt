@@ -1,10 +1,13 @@
--- The run of a job as calls: none is refused, its sweeps are at most 16, and its record has the job's channels; it is the run of the job's table.
+-- The run of a job as calls: none is refused, its sweeps are at most 16, and its record has the job's channels; it is the run of the job's table,
+-- and so the report of the table is the job's.
 use mathlib.Core.Path.{◌≡◌}
-use Prim.Native.Nat.{◌≤◌}
+use mathlib.Core.List.{List}
+use Prim.Native.Nat.{ℕ, ◌≤◌}
 use native.Mathlib.Nat.{le_trans}
+use lib.ListN.{length}
 use Rattle.job.specs.Job.{Job}
 use Rattle.job.specs.Values.{Proper}
-use Rattle.job.specs.laws.Proper.{channels, limit-most, samples-taken, tolerance-most}
+use Rattle.job.specs.laws.Proper.{channels, limit-most, number, samples-taken, tolerance-most}
 use Rattle.job_table.specs.Held.{samples_of, table_for}
 use Rattle.limits.specs.Limits.{most_sweeps}
 use Rattle.limits.specs.laws.Values.{some-entry}
@@ -14,8 +17,10 @@ use Rattle.run.specs.laws.Table.{table-allowed}
 use Rattle.record.specs.Kept.{Kept}
 use Rattle.scatter.specs.declared.table.Table.{Table}
 use Rattle.scatter.specs.laws.Table.{table_is}
-use Rattle.report.specs.Done.{TableRunnable, run_of_table}
-use Rattle.report.specs.Report.{load_for, run_for}
+use Rattle.text.specs.Written.{Writes}
+use Rattle.text.specs.declared.written.Written.{Written}
+use Rattle.report.specs.Done.{ReportsRun, TableReportable, TableRunnable, run_of_table}
+use Rattle.report.specs.Report.{load_for, report_of, run_for}
 
 pub run-last-kept : (j : Job) → Kept (run_for j).last
 unfolding run_for
@@ -49,3 +54,16 @@ module _ (j : Job) (p : Proper j) where
         allowed = rw e (table-allowed j.n (samples_of j) c.0 c.1 j.limit j.tolerance (limit-most j p) (tolerance-most j p));
         size = rw e (table_is j.n c.1 some-entry (samples_of j)).entries.size;
       }
+
+  -- a table that is made from the job's k samples
+  module _ (t : Table) (e : t ≡ table_for j) (k : ℕ) (many : length j.dilutions ≡ k) where
+    pub table-reportable : TableReportable j.n k j.limit j.tolerance t
+    table-reportable =
+        let r = table-runnable t e in
+        record { allowed = r.allowed; size = r.size; samples = rw (← many) (number j p).1 }
+
+    -- its report is the job's
+    pub table-reports : {entry exit : List ℕ} {w : Written} → ReportsRun (run_of_table j.n j.limit j.tolerance t) k entry exit w →
+        Writes 0 (report_of j) entry exit w × (length (report_of j) ≤ 2048)
+    unfolding report_of
+    table-reports r = let held = rw (e, table-is-run, ← many) at r in (held.writes, held.short)

@@ -1,0 +1,9 @@
+pub mod Refusal
+pub mod Pooled
+pub mod Table
+pub mod Writer
+pub mod Printed
+pub mod Certificate
+pub mod Arguments
+pub mod inner
+pub mod laws

@@ -1,0 +1,4 @@
+pub mod Refusal
+pub mod Joined
+pub mod Printed
+pub mod Examples
