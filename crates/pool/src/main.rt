@@ -1,0 +1,78 @@
+// Reads two job texts from the files that its two arguments name, and prints the report of both jobs pooled, or the refusal; or `?` and the number of
+// an argument.
+#![tactic(auto)]
+
+ghost use Rattle.std.specs.Prelude.{◌≡◌, ◌≤◌, length, take};
+
+use job_pool::arguments::{put_wrong_argument, wrong_argument};
+use job_pool::texts::answer;
+use limits::MOST_BYTES;
+use std::env::FillError;
+use std::fs::{File, Files};
+use std::io;
+use std::io::Read;
+use std::rt::Env;
+use std::str::from_utf8;
+
+// A name has at most 4,095 bytes on Linux.
+const LONGEST_NAME: usize = 4_095;
+
+// Opens the file that argument i names. There is none where the argument is missing, empty, too long or no UTF-8, or can't be opened.
+fn open_argument<R: Env + Files>(rt: &R, i: usize) -> Option<R::File> {
+    let mut name = [0u8; LONGEST_NAME];
+    let length = rt.arg(i, &mut name).ok()?;
+    let path = from_utf8(&name[..length]).ok()?;
+    File::open(rt, path).ok()
+}
+
+// How many words the program was started with, its own name among them. More than 4 count as 4, and fewer than 3 as 3.
+fn words(rt: &impl Env) -> usize {
+    if let Err(FillError::NotPresent) = rt.arg(3, &mut []) {
+        3
+    } else {
+        4
+    }
+}
+
+// Reads until the buffer is full, the file ends or can't be read.
+fn read_full<F: Read>(file: &mut F, text: &mut [u8]) -> usize
+    ensures within { result ≤ length text.new }
+    ensures front { result ≡ length (take result text.new) }
+{
+    let mut at = 0;
+    while at < text.len() {
+        let n = file.read(&mut text[at..]).unwrap_or(0);
+        if n == 0 {
+            break;
+        }
+        at += n;
+    }
+    at
+}
+
+// Both files are read before either is judged.
+fn print_pooled<F: Read + Drop>(rt: &impl Print, mut first: F, mut second: F) -> io::Result<()> {
+    let mut text1 = [0u8; MOST_BYTES];
+    let n1 = read_full(&mut first, &mut text1);
+    let mut text2 = [0u8; MOST_BYTES];
+    let n2 = read_full(&mut second, &mut text2);
+    let mut out = [0u8; 2048];
+    let length = answer(&text1[..n1], &text2[..n2], &mut out);
+    rt.write_all(&out[..length])
+}
+
+fn print_wrong(rt: &impl Print, number: u32) -> io::Result<()> {
+    let mut out = [0u8; 2048];
+    let length = put_wrong_argument(number, &mut out);
+    rt.write_all(&out[..length])
+}
+
+fn main(rt: HostRuntime) -> io::Result<()> {
+    let first = open_argument(&rt, 1);
+    let second = open_argument(&rt, 2);
+    let number = wrong_argument(first.is_some(), second.is_some(), words(&rt));
+    match (first, second) {
+        (Some(first), Some(second)) if number == 0 => print_pooled(&rt, first, second),
+        _ => print_wrong(&rt, number),
+    }
+}
