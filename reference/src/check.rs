@@ -1,7 +1,11 @@
 //! The stored files of the repository that follow from document 01 or from a rule: computed anew, and compared or written.
 
-use crate::examples::{longest, longest_calls, CALLS, JOBS, PANELS};
-use crate::{calls_of, job, jobs, panels, report_of, scatter_vectors, table_of, turn_vectors};
+use crate::examples::{
+    files as example_files, longest, longest_calls, CALLS, JOBS, PANELS, SEASONS,
+};
+use crate::{
+    calls_of, job, jobs, panels, report_of, scatter_vectors, season, table_of, turn_vectors,
+};
 use std::path::Path;
 use std::{fs, io};
 
@@ -40,6 +44,7 @@ fn all() -> Vec<Stored> {
         stored("crates/test_jobs/data/jobs", jobs::container()),
         stored("crates/test_jobs/stdout", jobs::outputs()),
     ];
+    files.extend(season_run());
     for example in JOBS {
         let text = (example.text)();
         let named =
@@ -63,6 +68,44 @@ fn all() -> Vec<Stored> {
         let printed = panels::program(&(run.arguments)()).into_bytes();
         let named = |ending: &str, bytes| stored(format!("examples/{}.{ending}", run.name), bytes);
         files.extend([named("listed", printed), named("panels", run.lines())]);
+    }
+    for run in SEASONS {
+        let printed = season::program(&(run.arguments)(), example_files).into_bytes();
+        let named = |ending: &str, bytes| stored(format!("examples/{}.{ending}", run.name), bytes);
+        files.extend([named("line", printed), named("season", run.lines())]);
+    }
+    files
+}
+
+/// The stored run of `season`: each outcome and each refusal, by copies of example jobs.
+fn season_run() -> Vec<Stored> {
+    const NAMES: [&str; 9] = [
+        "settled",
+        "malformed",
+        "still",
+        "small",
+        "out_of_range",
+        "one_sample",
+        "tied_errors",
+        "wrong_number",
+        "small",
+    ];
+    let text = |name: &str| {
+        let example = JOBS.iter().find(|example| example.name == name);
+        (example.expect("an example").text)()
+    };
+    let taken: Vec<season::Taken> = NAMES.map(|name| season::taken(&text(name))).into();
+    let names: String = NAMES.map(|name| format!("{name}.job\n")).concat();
+    let mut files = vec![
+        stored("crates/season/args", names.into_bytes()),
+        stored(
+            "crates/season/stdout",
+            season::season_line(&taken).into_bytes(),
+        ),
+    ];
+    // The last one is there already.
+    for name in &NAMES[..8] {
+        files.push(stored(format!("crates/season/data/{name}.job"), text(name)));
     }
     files
 }

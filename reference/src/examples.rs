@@ -1,5 +1,6 @@
 //! The texts of `examples/`: jobs and calls from small to as long as they may be, and some that are refused.
 
+use crate::files::NAME_LIMIT;
 use crate::generate::with_calls;
 use crate::job::{Job, TEXT_LIMIT};
 use crate::random::Random;
@@ -29,7 +30,10 @@ pub const JOBS: &[Example] = &[
     example("tied", || tabs(TIED)),
     example("all_tied", || tabs(ALL_TIED)),
     example("zeros", || tabs(ZEROS)),
+    example("tied_errors", || tabs(TIED_ERRORS)),
     example("negative_axis", || tabs(NEGATIVE_AXIS)),
+    example("half", || half(128)),
+    example("more_than_half", || half(129)),
     example("empty", Vec::new),
     example("malformed", || tabs("P 2 1 0\nS 1 0 0\nS 5 1 00\n")),
     example("no_line_feed", || tabs("P 2 1 0\nS 1 0 0\nS 5 1 0\nE 2")),
@@ -111,6 +115,98 @@ pub const PANELS: &[Run] = &[
     run("blank", || vec!["1 ".into()]),
 ];
 
+/// Seasons: each outcome and refusal, the first of the largest errors and its lowest axis, errors of 0, no accepted job, none at all, as many jobs as
+/// may be and more, and what names no file.
+pub const SEASONS: &[Run] = &[
+    run("none", Vec::new),
+    run("small", || jobs("small")),
+    run("every_job", || {
+        let names = JOBS.iter().map(|example| example.name);
+        jobs(&names.collect::<Vec<_>>().join(" "))
+    }),
+    run("outcomes", || jobs("settled still small strong tied full")),
+    run("refused", || {
+        jobs("malformed out_of_range one_sample wrong_number malformed one_sample wrong_number")
+    }),
+    run("refused_1", || jobs("empty")),
+    run("refused_2", || jobs("out_of_range")),
+    run("refused_3", || jobs("one_sample")),
+    run("refused_4", || jobs("wrong_number")),
+    run("largest_last", || jobs("small malformed field")),
+    run("largest_first", || jobs("field small malformed")),
+    run("same_job_twice", || {
+        jobs("malformed small negative_axis negative_axis small")
+    }),
+    run("tied_jobs", || jobs("tied_errors strong tied_errors")),
+    run("tied_axes", || jobs("out_of_range tied_errors")),
+    run("highest_axis", || jobs("negative_axis")),
+    run("errors_of_0", || {
+        jobs("malformed settled zeros wrong_number")
+    }),
+    run("folder", || words("examples examples/small.job")),
+    run("beyond_limit", || jobs("beyond_limit small")),
+    run("first_not_there", || {
+        words("examples/none examples/small.job")
+    }),
+    run("last_not_there", || {
+        words("examples/small.job examples/malformed.job examples/none")
+    }),
+    run("empty_name", || {
+        [jobs("small"), vec![String::new()], jobs("small")].concat()
+    }),
+    run("longest_name", || vec![long_name(4_095)]),
+    run("name_too_long", || {
+        [jobs("small"), vec![long_name(4_096)]].concat()
+    }),
+    run("jobs_10000", || folders_and_small(9_999)),
+    run("jobs_10001", || {
+        [folders_and_small(9_999), words("examples/none")].concat()
+    }),
+    run("last_of_10000_not_there", || {
+        [
+            folders_and_small(9_998),
+            words("examples/none examples/small.job"),
+        ]
+        .concat()
+    }),
+];
+
+/// So many folders, each of which is a job without text, and the small job after them.
+fn folders_and_small(count: usize) -> Vec<String> {
+    [vec![".".to_string(); count], jobs("small")].concat()
+}
+
+/// The names of example jobs' files.
+fn jobs(names: &str) -> Vec<String> {
+    let name = |word: String| format!("examples/{word}.job");
+    words(names).into_iter().map(name).collect()
+}
+
+/// A name of the small job's file that has so many bytes.
+fn long_name(length: usize) -> String {
+    let name = "examples/small.job";
+    let before = length - name.len();
+    let odd = if before % 2 == 0 { "" } else { "/" };
+    "./".repeat(before / 2) + odd + name
+}
+
+/// The files of the repository's root that examples name: the example jobs, and folders, of which nothing is read.
+pub fn files(name: &[u8], limit: usize) -> Option<Vec<u8>> {
+    // The system takes no longer name.
+    if name.len() > NAME_LIMIT {
+        return None;
+    }
+    let name = std::str::from_utf8(name).ok()?;
+    let name = name.trim_start_matches("./").trim_start_matches('/');
+    if ["examples", "."].contains(&name) {
+        return Some(Vec::new());
+    }
+    let job = name.strip_prefix("examples/")?.strip_suffix(".job")?;
+    let example = JOBS.iter().find(|example| example.name == job)?;
+    let text = (example.text)();
+    Some(text[..text.len().min(limit)].to_vec())
+}
+
 fn words(words: &str) -> Vec<String> {
     words.split(' ').map(str::to_string).collect()
 }
@@ -129,6 +225,9 @@ pub const ALL_TIED: &str = "P 3 1 4096\nS 1 0 0 0\nS 1 0 1 0\nS 1 1 0 1\nS 1 1 1
 
 /// Equal values on 8 channels, by other dilutions: all entries are 0.
 pub const ZEROS: &str = "P 8 16 0\nS 1 2 4 6 8 10 12 14 16\nS 2 1 2 3 4 5 6 7 8\nE 2\n";
+
+/// Axes 2 and 3 have the same error, and axis 1 none. No pair is loose.
+pub const TIED_ERRORS: &str = "P 3 1 4096\nS 1 0 0 0\nS 1 0 1 1\nE 2\n";
 
 /// Two entries are below 0, one of them larger in size than one above 0. Without rounding no entry of readings is.
 pub const NEGATIVE_AXIS: &str = "P 4 9 0\nS 1 461 0 303 2827\nS 1 0 66 3 0\nE 2\n";
@@ -232,6 +331,18 @@ fn full() -> Vec<u8> {
         })
         .collect();
     job_text(8, 16, 1024, samples)
+}
+
+/// So many samples of two channels, few enough with others of these to be 256 together, or too many.
+fn half(k: usize) -> Vec<u8> {
+    let mut random = Random::new(128);
+    let samples = (0..k)
+        .map(|_| Sample {
+            dilution: random.between(1, 20),
+            counts: vec![random.between(0, 999), random.between(0, 99)],
+        })
+        .collect();
+    job_text(2, 16, 512, samples)
 }
 
 /// The longest job there is: 256 samples on 8 channels, and every number as long as it may be.
@@ -476,7 +587,7 @@ fn every_pair() -> Vec<u8> {
 #[cfg(test)]
 mod tests {
     use super::*;
-    use crate::{calls_of, panels, report_of, table_of};
+    use crate::{calls_of, panels, report_of, season, table_of};
     use std::collections::BTreeSet;
 
     fn answers(text: &[u8]) -> String {
@@ -630,6 +741,48 @@ mod tests {
             };
             assert_eq!(printed, expected, "{}", run.name);
         }
+    }
+
+    #[test]
+    fn example_seasons_are_as_named() {
+        let of = |name: &str| {
+            let run = SEASONS.iter().find(|run| run.name == name).unwrap();
+            season::program(&(run.arguments)(), files).replace('\t', " ")
+        };
+        for (name, expected) in [
+            ("none", "0 0 0 0 0 0 0 0 0 0 0 0\n"),
+            ("small", "1 0 0 1 0 0 0 0 1 7172 1 1\n"),
+            ("outcomes", "6 2 2 2 0 0 0 0 176 499871 6 3\n"),
+            ("refused", "7 0 0 0 2 1 2 2 0 0 0 0\n"),
+            ("refused_1", "1 0 0 0 1 0 0 0 0 0 0 0\n"),
+            ("refused_2", "1 0 0 0 0 1 0 0 0 0 0 0\n"),
+            ("refused_3", "1 0 0 0 0 0 1 0 0 0 0 0\n"),
+            ("refused_4", "1 0 0 0 0 0 0 1 0 0 0 0\n"),
+            ("largest_last", "3 0 1 1 1 0 0 0 25 449783 3 1\n"),
+            ("largest_first", "3 0 1 1 1 0 0 0 25 449783 1 1\n"),
+            ("same_job_twice", "5 0 2 2 1 0 0 0 66 237303 3 4\n"),
+            ("tied_jobs", "3 3 0 0 0 0 0 0 0 1024 1 2\n"),
+            ("tied_axes", "2 1 0 0 0 1 0 0 0 1024 2 2\n"),
+            ("highest_axis", "1 0 1 0 0 0 0 0 32 237303 1 4\n"),
+            ("errors_of_0", "4 2 0 0 1 0 0 1 0 0 2 1\n"),
+            ("folder", "2 0 0 1 1 0 0 0 1 7172 2 1\n"),
+            ("beyond_limit", "2 0 0 1 0 0 1 0 1 7172 2 1\n"),
+            ("first_not_there", "? 1\n"),
+            ("last_not_there", "? 3\n"),
+            ("empty_name", "? 2\n"),
+            ("longest_name", "1 0 0 1 0 0 0 0 1 7172 1 1\n"),
+            ("name_too_long", "? 2\n"),
+            ("jobs_10000", "10000 0 0 1 9999 0 0 0 1 7172 10000 1\n"),
+            (
+                "jobs_10001",
+                "10000 0 0 1 9999 0 0 0 1 7172 10000 1\nX 16\n",
+            ),
+            ("last_of_10000_not_there", "? 10000\n"),
+        ] {
+            assert_eq!(of(name), expected, "{name}");
+        }
+        assert!(of("every_job").starts_with(&format!("{} ", JOBS.len())));
+        assert_eq!(SEASONS.len(), 26);
     }
 
     #[test]
