@@ -1,6 +1,7 @@
 mod Answered
 mod Reporting
 mod Writing
+mod Pooling
 mod Listing
 mod Reckoning
 mod Playing

@@ -1,6 +1,7 @@
 -- What the exported functions ensure: the answer, and every number or byte of what is lent.
 use Rattle.std.specs.Prelude.{◌≡◌, List, ℕ, ℤ, nat_abs, length}
 use Rattle.play.specs.Buffer.{output_of, played_into}
+use Rattle.job.specs.Job.{Job}
 use Rattle.job.specs.Reply.{buffer_of, reply_of}
 use Rattle.report.specs.Report.{report_of}
 use Rattle.text.specs.Written.{lent_after}
@@ -11,6 +12,7 @@ use Rattle.field_axes.specs.Answer.{count_or_refusal}
 use Rattle.field_axes.specs.Calls.{length_or_short}
 use Rattle.field_axes.specs.JobText.{text_for, text_refusal}
 use Rattle.field_axes.specs.Panels.{panel_numbers, panel_refusal, panels_refusal}
+use Rattle.field_axes.specs.Pooled.{pooled_refusal, pooled_report}
 use Rattle.field_axes.specs.Report.{length_or_number, refused_line}
 use Rattle.field_axes.specs.Season.{season_refusal}
 use Rattle.field_axes.specs.Solution.{solution_of, solve_refusal}
@@ -28,6 +30,11 @@ pub record Tabulates (n : ℕ) (dilutions counts : List ℕ) (entry exit : List 
 pub record WritesJob (n limit tolerance : ℕ) (dilutions counts entry exit : List ℕ) (r : ℤ) : Type 0 where
   pub answer : r ≡ count_or_refusal (text_refusal n limit tolerance dilutions counts (length entry)) (text_for n limit tolerance dilutions counts)
   pub buffer : exit ≡ lent_after (text_refusal n limit tolerance dilutions counts (length entry)) (text_for n limit tolerance dilutions counts) entry
+
+-- the report's length, or the refusal's number negated
+pub record ReportsPooled (a b : Job) (entry exit : List ℕ) (r : ℤ) : Type 0 where
+  pub answer : r ≡ count_or_refusal (pooled_refusal a b (length entry)) (pooled_report a b)
+  pub buffer : exit ≡ lent_after (pooled_refusal a b (length entry)) (pooled_report a b) entry
 
 pub record ReportsText (text entry exit : List ℕ) (at : ℕ) (r : ℤ) : Type 0 where
   pub answer : r ≡ length_or_number (reply_of report_of text (length entry))

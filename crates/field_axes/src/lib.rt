@@ -5,8 +5,9 @@ mod solve;
 mod table;
 
 ghost use Rattle.std.specs.Prelude.{◌≡◌, pos, neg_ℤ};
+ghost use Rattle.job_text.specs.JobText.{job_with};
 ghost use Rattle.panel.specs.Refusal.{of_panel};
-ghost use Rattle.field_axes.specs.Done.{GivesPanel, ListsPanels, PlaysText, ReportsSeason, ReportsText, Solves, Tabulates, WritesJob};
+ghost use Rattle.field_axes.specs.Done.{GivesPanel, ListsPanels, PlaysText, ReportsPooled, ReportsSeason, ReportsText, Solves, Tabulates, WritesJob};
 ghost use Rattle.field_axes.specs.Panels.{panel_of, position_or_refusal};
 
 use job::reply::Reply;
@@ -86,6 +87,44 @@ pub fn field_axes_report(text: &[u8], out: &mut [u8], line: &mut usize) -> i64
             *line = at;
             refused(number as u32)
         }
+    }
+}
+
+// The report of two jobs pooled, each handed over as to `field_axes_job`; the sweep limit and the tolerance are the first one's. Into `out`: the
+// report. The answer is its length, or the refusal's number negated.
+pub fn field_axes_pool(
+    n: usize,
+    limit: u64,
+    tolerance: u64,
+    dilutions: &[u32],
+    counts: &[u32],
+    other_n: usize,
+    other_limit: u64,
+    other_tolerance: u64,
+    other_dilutions: &[u32],
+    other_counts: &[u32],
+    out: &mut [u8],
+) -> i64
+    ensures { ReportsPooled (job_with n limit tolerance dilutions.now counts.now)
+        (job_with other_n other_limit other_tolerance other_dilutions.now other_counts.now)
+        out.old out.new result }
+{
+    let done = job_pool::write_pooled(
+        n,
+        limit,
+        tolerance,
+        dilutions,
+        counts,
+        other_n,
+        other_limit,
+        other_tolerance,
+        other_dilutions,
+        other_counts,
+        out,
+    );
+    match done {
+        Written::Length(length) => length as i64,
+        Written::Refused(refusal) => refused(refusal),
     }
 }
 

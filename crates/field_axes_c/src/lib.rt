@@ -3,8 +3,9 @@
 #![tactic(auto)]
 
 ghost use Rattle.std.specs.Prelude.{◌≡◌};
+ghost use Rattle.job_text.specs.JobText.{job_with};
 ghost use Rattle.panel.specs.Refusal.{of_panel};
-ghost use Rattle.field_axes.specs.Done.{GivesPanel, ListsPanels, PlaysText, ReportsSeason, ReportsText, Solves, Tabulates, WritesJob};
+ghost use Rattle.field_axes.specs.Done.{GivesPanel, ListsPanels, PlaysText, ReportsPooled, ReportsSeason, ReportsText, Solves, Tabulates, WritesJob};
 ghost use Rattle.field_axes.specs.Panels.{panel_of, position_or_refusal};
 
 // A run on n×n numbers, row after row, and its axes. Into `out`: the outcome (0 settled, 1 still, 2 spent), the sweeps run, m, then for
@@ -59,6 +60,41 @@ pub extern "C" fn field_axes_report(text: &[u8], out: &mut [u8], line: &mut usiz
     ensures { ReportsText text.now out.old out.new line.new result }
 {
     field_axes::field_axes_report(text, out, line)
+}
+
+// The report of two jobs pooled, each handed over as to `field_axes_job`; the sweep limit and the tolerance are the first one's. Into `out`: the
+// report. The answer is its length, or the refusal's number negated.
+#[unsafe(no_mangle)]
+pub extern "C" fn field_axes_pool(
+    n: usize,
+    limit: u64,
+    tolerance: u64,
+    dilutions: &[u32],
+    counts: &[u32],
+    other_n: usize,
+    other_limit: u64,
+    other_tolerance: u64,
+    other_dilutions: &[u32],
+    other_counts: &[u32],
+    out: &mut [u8],
+) -> i64
+    ensures { ReportsPooled (job_with n limit tolerance dilutions.now counts.now)
+        (job_with other_n other_limit other_tolerance other_dilutions.now other_counts.now)
+        out.old out.new result }
+{
+    field_axes::field_axes_pool(
+        n,
+        limit,
+        tolerance,
+        dilutions,
+        counts,
+        other_n,
+        other_limit,
+        other_tolerance,
+        other_dilutions,
+        other_counts,
+        out,
+    )
 }
 
 // A text of calls, a line each, played on a fresh record. Into `out`: an answer a line. The answer is their length, or 12 negated where the
