@@ -29,7 +29,7 @@ pub struct Printed {
     pub len: usize,
 }
 
-fn natural_field(buf: &mut [u8], at: usize, x: u64) -> usize
+pub fn natural_field(buf: &mut [u8], at: usize, x: u64) -> usize
     requires { at + 21 ≤ length buf.old }
     ensures { FieldPut (digits x) at buf.old buf.new result }
 {

@@ -4,6 +4,6 @@
 pub mod answer;
 pub mod field;
 pub mod find;
-mod line;
+pub mod line;
 pub mod reading;
 pub mod request;

@@ -11,7 +11,7 @@ pub enum Fields {
 }
 
 // The numbers go into the lent array, one after the other, up to the first field that is none or for which the array has no place.
-pub(crate) fn read_fields(line: &[u8], numbers: &mut [i64]) -> Fields
+pub fn read_fields(line: &[u8], numbers: &mut [i64]) -> Fields
     ensures { FieldsRead line.now numbers.old numbers.new result }
 {
     let mut count = 0;

@@ -47,7 +47,7 @@ pub enum Request {
 pub const NUMBERS: usize = 4096;
 
 // An argument whose range has no negative number: a negative one is out of it.
-pub(crate) fn argument(x: i64) -> u64
+pub fn argument(x: i64) -> u64
     ensures { result ≡ argument x }
 {
     if x < 0 {
