@@ -29,7 +29,7 @@ pub struct Book {
 }
 
 // What a call answers: `Added` and `Struck` with the number of samples now held, `Refused` with the refusal's number.
-#[derive(Drop)]
+#[derive(Clone, Copy)]
 pub enum BookAnswer {
     Begun,
     Added(u64),

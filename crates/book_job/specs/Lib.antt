@@ -1,0 +1,2 @@
+pub mod SameTable
+pub mod laws

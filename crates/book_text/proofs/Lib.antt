@@ -1,0 +1,5 @@
+pub mod Paging
+pub mod Saying
+pub mod Asking
+pub mod Stepping
+pub mod Passing

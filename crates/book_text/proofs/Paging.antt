@@ -1,0 +1,81 @@
+-- The texts that the writers put together, and the pages that they are.
+use Prim.Native.Nat.{ℕ, ◌+◌, ◌-◌, ◌*◌, ◌≤◌, ◌<◌}
+use mathlib.Core.Path.{◌≡◌, refl, sym, ap, ◌∙◌}
+use mathlib.Core.List.{List, [], ◌∷◌, ◌++◌, map-append, append_assoc, append-nil}
+use native.Mathlib.Numerals.{add-one}
+use native.Mathlib.Omega.{arith}
+use lib.ListN.{length, length-drop, take, drop, get_or, replicate}
+use lib.Seq.{length-take-le, take-suc}
+use Rattle.sums.specs.declared.Sums.{Sums}
+use Rattle.text.specs.Decimal.{digits}
+use Rattle.text.specs.Line.{line, further}
+use Rattle.text.specs.Put.{Put}
+use Rattle.text.specs.laws.Numbers.{further-append}
+use Rattle.text.specs.laws.Put.{front_length, put_then}
+use Rattle.call_text.specs.inner.Answers.{FieldPut}
+use Rattle.book_text.specs.Answers.{cross_row, cross_rows, sums_line}
+use Rattle.book_text.specs.Pages.{Pages, page_of}
+use Rattle.book_text.specs.inner.Played.{NaturalsPut, naturals}
+
+-- a text at the front of the array
+pub paged : {w x : List ℕ} {r : ℕ} (t : List ℕ) → Put w 0 (replicate 2048 0) x r → w ≡ t → Pages t (record { bytes = x; len = r })
+unfolding page_of
+paged t p e = record { is = rw (p.leaves, front_length p, e); short = p.within }
+
+pub bare-paged : {x y : List ℕ} {tag a r : ℕ} → Put (tag ∷ []) 0 (replicate 2048 0) x a → Put (10 ∷ []) a x y r →
+    Pages (line ((tag ∷ []) ∷ [])) (record { bytes = y; len = r })
+unfolding line further
+bare-paged p q = paged _ (put_then p q) refl
+
+one-text : (tag : ℕ) (d : List ℕ) → (tag ∷ []) ++ (9 ∷ d) ++ (10 ∷ []) ≡ line ((tag ∷ []) ∷ d ∷ [])
+unfolding line further
+one-text tag d = ap (λ (l : List ℕ). (tag ∷ 9 ∷ l) ++ (10 ∷ [])) (sym (append-nil d))
+
+pub one-paged : {d x y z : List ℕ} {tag a b r : ℕ} → Put (tag ∷ []) 0 (replicate 2048 0) x a → FieldPut d a x y b → Put (10 ∷ []) b y z r →
+    Pages (line ((tag ∷ []) ∷ d ∷ [])) (record { bytes = z; len = r })
+one-paged p q s = paged _ (put_then (put_then p q.puts) s) (one-text _ _)
+
+naturals-append : (xs ys : List ℕ) → naturals (xs ++ ys) ≡ naturals xs ++ naturals ys
+unfolding naturals
+naturals-append xs ys = rw (map-append, further-append)
+
+naturals-one : (x : ℕ) → naturals (x ∷ []) ≡ 9 ∷ digits x
+unfolding naturals further
+naturals-one x = append-nil (9 ∷ digits x)
+
+-- one natural more
+pub naturals-more : (xs : List ℕ) (i : ℕ) → i < length xs → naturals (take (i + 1) xs) ≡ naturals (take i xs) ++ (9 ∷ digits (get_or xs i 0))
+naturals-more xs i h = rw (add-one, take-suc xs i 0 h, naturals-append, naturals-one)
+
+-- one row more
+pub rows_more : (n : ℕ) (cross : List ℕ) (i : ℕ) →
+    naturals (cross_rows n cross (i + 1)) ≡ naturals (cross_rows n cross i) ++ naturals (cross_row n cross i)
+unfolding cross_rows
+rows_more n cross i = rw (add-one, naturals-append)
+
+pub sums-text : (n : ℕ) (t : Sums) → (90 ∷ []) ++ (9 ∷ digits t.k) ++ naturals (take n t.channel) ++ naturals (cross_rows n t.cross n) ++
+    (10 ∷ [])
+    ≡ sums_line n t
+unfolding sums_line line naturals further
+sums-text n t =
+    ap (λ (l : List ℕ). l ++ (10 ∷ []))
+    (append_assoc (90 ∷ 9 ∷ digits t.k) (naturals (take n t.channel)) (naturals (cross_rows n t.cross n))
+    ∙ ap (λ (l : List ℕ). (90 ∷ 9 ∷ digits t.k) ++ l) (sym (naturals-append (take n t.channel) (cross_rows n t.cross n))))
+
+pub sums-paged : (n : ℕ) (t : Sums) {x y u v z : List ℕ} {a b c e r most more : ℕ} → Put (90 ∷ []) 0 (replicate 2048 0) x a →
+    FieldPut (digits t.k) a x y b → NaturalsPut (take n t.channel) b most y u c → NaturalsPut (cross_rows n t.cross n) c more u v e →
+    Put (10 ∷ []) e v z r → Pages (sums_line n t) (record { bytes = z; len = r })
+sums-paged n t p q s w f =
+    paged (sums_line n t) (put_then (put_then (put_then (put_then p q.puts) s.puts) w.puts) f) (sums-text n t)
+
+-- row i as it is read: from 8 × i + i to before 8 × i + n
+module _ (n : ℕ) (cross : List ℕ) (i : ℕ) (l : length cross ≡ 64) (few : n ≤ 8) (h : i < n) where
+  width : 8 * i + n - 9 * i ≡ n - i
+  width = omega arith
+
+  pub row_read : take (8 * i + n - 9 * i) (drop (9 * i) cross) ≡ cross_row n cross i
+  unfolding cross_row
+  row_read = rw width
+
+  pub row-size : length (take (8 * i + n - 9 * i) (drop (9 * i) cross)) ≡ n - i
+  row-size = rw width (length-take-le (n - i) (drop (9 * i) cross) (rw (length-drop (9 * i) cross, l) (omega arith)))

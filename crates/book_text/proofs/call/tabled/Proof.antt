@@ -1,0 +1,16 @@
+-- `call::tabled` meets its contract.
+use Rattle.book_text.proofs.Saying.{bare-plays, not-bare, table_stays}
+use borrow.Author.Rules.{rules}
+use Rattle.book_text.proofs.call.tabled.Statement.{statement}
+use Rattle.book_text.proofs.call.tabled.Tie as tie
+
+returns : tie.Need-returns-then-count-ne0
+returns c = not-bare _ _ _ _ c.before.if-count-ne0.true c.no_call.ensures
+
+returns-2 : tie.Need-returns
+returns-2 c =
+    let s = c.before.before in
+    bare-plays _ s.requires _ (table_stays _ s.requires) _ c.table_said.ensures _ c.before.if-count-ne0.false
+
+pub tabled_spec : {M : Type 1} → statement M
+tabled_spec = tie.close (tie.spec (λ c κs. search rules) returns (λ c κs. search rules) returns-2)

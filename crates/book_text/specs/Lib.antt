@@ -1,0 +1,7 @@
+pub mod Calls
+pub mod Answers
+pub mod Text
+pub mod Pages
+pub mod Steps
+pub mod inner
+pub mod laws

@@ -1,0 +1,4 @@
+pub mod Steps
+pub mod Layout
+pub mod Tabled
+pub mod Examples
