@@ -50,6 +50,17 @@ int64_t field_axes_report(const uint8_t *text, size_t text_length, uint8_t *out,
 
 #define FIELD_AXES_MOST_REPORT_BYTES 2048
 
+/* Two jobs pooled, each of them n, the sweep limit, the tolerance in units, and samples: a dilution each, and n counts each, sample after sample.
+   Into out: the report of a job with the first one's samples followed by the other one's, and with the first one's limit and tolerance, at most
+   FIELD_AXES_MOST_REPORT_BYTES bytes, with no 0 after it. Bytes past it stay.
+   The answer is its length, or a refusal's number negated: 13 where the two numbers of channels are unequal, then 2, 6 and 3 of the first job as of
+   field_axes_job, then 2, 6 and 3 of the other one, then 3 for more than 256 samples together, then 12 for a short buffer. At a refusal the buffer
+   stays. */
+int64_t field_axes_pool(size_t n, uint64_t limit, uint64_t tolerance, const uint32_t *dilutions, size_t dilutions_length,
+                        const uint32_t *counts, size_t counts_length, size_t other_n, uint64_t other_limit,
+                        uint64_t other_tolerance, const uint32_t *other_dilutions, size_t other_dilutions_length,
+                        const uint32_t *other_counts, size_t other_counts_length, uint8_t *out, size_t out_length);
+
 /* A text of calls, a line each, played on a fresh record. Fields are parted by one tab; after the tag comes the bench that calls, 1 to 4: L bench n
    numbers, M bench n k dilutions counts, T bench p q, W bench, O bench, Q bench t, A bench i. Into out: the answers, a line each and at most
    FIELD_AXES_MOST_ANSWER_BYTES bytes each, up to that of the first line that is no call, with no 0 after them. A refused call is answered X, its

@@ -8,7 +8,7 @@ use crate::text::{number, tagged, take_line};
 pub const TEXT_LIMIT: usize = 16_384;
 const DIGITS: usize = 7;
 const LEAST_SAMPLES: usize = 2;
-const MOST_SAMPLES: usize = 256;
+pub const MOST_SAMPLES: usize = 256;
 
 #[derive(Clone, Debug, PartialEq, Eq)]
 pub struct Job {

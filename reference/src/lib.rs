@@ -12,6 +12,7 @@ pub mod matrix;
 pub mod orders;
 pub mod pairs;
 pub mod panels;
+pub mod pool;
 mod random;
 pub mod readings;
 pub mod record;
@@ -62,6 +63,13 @@ pub fn job_text(
 /// The answers to a text of calls, played on one fresh record.
 pub fn calls_of(text: &[u8]) -> Vec<u8> {
     calls::play(text).into_bytes()
+}
+
+/// The report of two jobs pooled, or the number of the refusal: 13, 2, 6 or 3.
+pub fn pooled_report(first: &pool::Given, second: &pool::Given) -> Result<Vec<u8>, u32> {
+    pool::pooled(first, second)
+        .map(|job| report::report(&job).into_bytes())
+        .map_err(|number| number as u32)
 }
 
 /// A job text, good or damaged, the same for the same seed.

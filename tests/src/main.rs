@@ -5,6 +5,7 @@
 mod calling;
 mod declarations;
 mod listing;
+mod pooling;
 mod random;
 mod reporting;
 mod samples;
@@ -35,13 +36,14 @@ fn main() -> ExitCode {
         println!("job: {difference}");
         failed = true;
     }
-    let kinds: [(&str, fn(u64) -> Result<String, String>); 7] = [
+    let kinds: [(&str, fn(u64) -> Result<String, String>); 8] = [
         ("report", reporting::case),
         ("calls", calling::case),
         ("solve", solving::case),
         ("table", tabulating::case),
         ("job", writing::case),
         ("panels", listing::case),
+        ("pool", pooling::case),
         ("season", seasons::case),
     ];
     for (name, case) in kinds {

@@ -46,6 +46,25 @@ mod raw {
             line: *mut usize,
         ) -> i64;
 
+        pub fn field_axes_pool(
+            n: usize,
+            limit: u64,
+            tolerance: u64,
+            dilutions: *const u32,
+            dilutions_length: usize,
+            counts: *const u32,
+            counts_length: usize,
+            other_n: usize,
+            other_limit: u64,
+            other_tolerance: u64,
+            other_dilutions: *const u32,
+            other_dilutions_length: usize,
+            other_counts: *const u32,
+            other_counts_length: usize,
+            out: *mut u8,
+            out_length: usize,
+        ) -> i64;
+
         pub fn field_axes_calls(
             text: *const u8,
             text_length: usize,
@@ -270,6 +289,51 @@ pub fn report_into(text: &[u8], out: &mut [u8]) -> Result<usize, JobRefused> {
         )
     };
     answer(length).map_err(|Refused(number)| JobRefused { number, line })
+}
+
+/// A job as it is handed over: n, the sweep limit, the tolerance in units, and samples: a dilution each, and n counts each, sample after sample.
+#[derive(Clone, Copy, Debug)]
+pub struct Job<'a> {
+    pub n: usize,
+    pub limit: u64,
+    pub tolerance: u64,
+    pub dilutions: &'a [u32],
+    pub counts: &'a [u32],
+}
+
+/// The report of two jobs pooled: that of a job with the first one's samples followed by the other one's, and with the first one's limit and
+/// tolerance. Refused 13 where the two numbers of channels are unequal, then 2, 6 and 3 of the first job as of `job`, then 2, 6 and 3 of the other
+/// one, then 3 for more than 256 samples together.
+pub fn pool(first: &Job, other: &Job) -> Result<String, Refused> {
+    let mut out = [0; MOST_REPORT_BYTES];
+    let length = pool_into(first, other, &mut out)?;
+    Ok(out[..length].iter().copied().map(char::from).collect())
+}
+
+/// The same at the front of `out`; its other bytes stay. The answer is the report's length. Refused 12, last, where `out` is too short;
+/// at a refusal it stays as it was.
+pub fn pool_into(first: &Job, other: &Job, out: &mut [u8]) -> Result<usize, Refused> {
+    // Safe: the slices are whole, and borrowed for the call; the function has no other requirement.
+    answer(unsafe {
+        raw::field_axes_pool(
+            first.n,
+            first.limit,
+            first.tolerance,
+            first.dilutions.as_ptr(),
+            first.dilutions.len(),
+            first.counts.as_ptr(),
+            first.counts.len(),
+            other.n,
+            other.limit,
+            other.tolerance,
+            other.dilutions.as_ptr(),
+            other.dilutions.len(),
+            other.counts.as_ptr(),
+            other.counts.len(),
+            out.as_mut_ptr(),
+            out.len(),
+        )
+    })
 }
 
 /// The most bytes that the answer to a call has.
