@@ -1,10 +1,11 @@
 //! The stored files of the repository that follow from document 01 or from a rule: computed anew, and compared or written.
 
 use crate::examples::{
-    files as example_files, longest, longest_calls, CALLS, JOBS, PANELS, SEASONS,
+    files as example_files, longest, longest_calls, tabs, CALLS, JOBS, PANELS, POOLS, PRINTED,
+    SEASONS,
 };
 use crate::{
-    calls_of, job, jobs, panels, report_of, scatter_vectors, season, table_of, turn_vectors,
+    calls_of, job, jobs, panels, pool, report_of, scatter_vectors, season, table_of, turn_vectors,
 };
 use std::path::Path;
 use std::{fs, io};
@@ -44,6 +45,16 @@ fn all() -> Vec<Stored> {
         stored("crates/test_jobs/data/jobs", jobs::container()),
         stored("crates/test_jobs/stdout", jobs::outputs()),
     ];
+    let second = tabs("P 2 16 5\nS 2 1 3\nS 1 0 4\nE 2\n");
+    files.extend([
+        stored("crates/pool/args", b"first\nsecond\n".to_vec()),
+        stored(
+            "crates/pool/stdout",
+            pool::answer(&tabs(PRINTED), &second).into_bytes(),
+        ),
+        stored("crates/pool/data/first", tabs(PRINTED)),
+        stored("crates/pool/data/second", second),
+    ]);
     files.extend(season_run());
     for example in JOBS {
         let text = (example.text)();
@@ -68,6 +79,11 @@ fn all() -> Vec<Stored> {
         let printed = panels::program(&(run.arguments)()).into_bytes();
         let named = |ending: &str, bytes| stored(format!("examples/{}.{ending}", run.name), bytes);
         files.extend([named("listed", printed), named("panels", run.lines())]);
+    }
+    for run in POOLS {
+        let printed = pool::program(&(run.arguments)(), example_files).into_bytes();
+        let named = |ending: &str, bytes| stored(format!("examples/{}.{ending}", run.name), bytes);
+        files.extend([named("pooled", printed), named("pool", run.lines())]);
     }
     for run in SEASONS {
         let printed = season::program(&(run.arguments)(), example_files).into_bytes();

@@ -115,6 +115,71 @@ pub const PANELS: &[Run] = &[
     run("blank", || vec!["1 ".into()]),
 ];
 
+/// Two jobs pooled: accepted ones, 13, each refusal of the first and of the second, too many samples together, and what names no file.
+pub const POOLS: &[Run] = &[
+    run("small", || jobs("small small")),
+    run("small_strong", || jobs("small strong")),
+    run("strong_small", || jobs("strong small")),
+    run("field_negative_axis", || jobs("field negative_axis")),
+    run("negative_axis_field", || jobs("negative_axis field")),
+    run("tied", || jobs("tied all_tied")),
+    run("settled", || jobs("settled settled")),
+    run("still", || jobs("still still")),
+    run("zeros", || jobs("zeros zeros")),
+    run("together_256", || jobs("half half")),
+    run("together_257", || jobs("half more_than_half")),
+    run("together_257_turned", || jobs("more_than_half half")),
+    run("together_258", || jobs("full zeros")),
+    run("unequal", || jobs("small field")),
+    run("unequal_and_too_many", || jobs("full half")),
+    run("first_1", || jobs("malformed small")),
+    run("second_1", || jobs("small malformed")),
+    run("first_2", || jobs("out_of_range small")),
+    run("second_2", || jobs("small out_of_range")),
+    run("first_3", || jobs("one_sample small")),
+    run("second_3", || jobs("small one_sample")),
+    run("first_4", || jobs("wrong_number small")),
+    run("second_4", || jobs("small wrong_number")),
+    run("both_refused", || jobs("wrong_number malformed")),
+    run("refused_before_unequal", || jobs("field out_of_range")),
+    run("second_beyond_limit", || jobs("small beyond_limit")),
+    run("first_empty_text", || jobs("empty small")),
+    run("first_folder", || words("examples examples/small.job")),
+    run("second_folder", || words("examples/small.job examples")),
+    run("no_name", Vec::new),
+    run("one_name", || jobs("small")),
+    run("three_names", || jobs("small small small")),
+    run("third_not_there", || {
+        words("examples/small.job examples/small.job examples/none")
+    }),
+    run("first_not_there", || {
+        words("examples/none examples/small.job")
+    }),
+    run("second_not_there", || {
+        words("examples/small.job examples/none")
+    }),
+    run("neither_there", || words("examples/none examples/none")),
+    run("three_and_second_not_there", || {
+        words("examples/small.job examples/none examples/small.job")
+    }),
+    run("first_empty", || {
+        vec![String::new(), "examples/small.job".into()]
+    }),
+    run("second_empty", || {
+        vec!["examples/small.job".into(), String::new()]
+    }),
+    run("third_empty", || {
+        [jobs("small small"), vec![String::new()]].concat()
+    }),
+    run("longest_names", || vec![long_name(4_095); 2]),
+    run("first_too_long", || {
+        vec![long_name(4_096), long_name(4_095)]
+    }),
+    run("second_too_long", || {
+        vec![long_name(4_095), "1".repeat(131_071)]
+    }),
+];
+
 /// Seasons: each outcome and refusal, the first of the largest errors and its lowest axis, errors of 0, no accepted job, none at all, as many jobs as
 /// may be and more, and what names no file.
 pub const SEASONS: &[Run] = &[
@@ -587,7 +652,7 @@ fn every_pair() -> Vec<u8> {
 #[cfg(test)]
 mod tests {
     use super::*;
-    use crate::{calls_of, panels, report_of, season, table_of};
+    use crate::{calls_of, panels, pool, report_of, season, table_of};
     use std::collections::BTreeSet;
 
     fn answers(text: &[u8]) -> String {
@@ -741,6 +806,50 @@ mod tests {
             };
             assert_eq!(printed, expected, "{}", run.name);
         }
+    }
+
+    #[test]
+    fn example_pools_are_as_named() {
+        for run in POOLS {
+            let printed = pool::program(&(run.arguments)(), files).replace('\t', " ");
+            let expected = match run.name {
+                "together_256" => "R 2 256 ",
+                "together_257" | "together_257_turned" | "together_258" => "X 3 0 0\n",
+                "unequal" | "unequal_and_too_many" => "X 13 0 0\n",
+                "first_1" => "X 1 3 1\n",
+                "second_1" => "X 1 3 2\n",
+                "first_2" => "X 2 3 1\n",
+                "second_2" | "refused_before_unequal" => "X 2 3 2\n",
+                "first_3" => "X 3 3 1\n",
+                "second_3" => "X 3 3 2\n",
+                "first_4" | "both_refused" => "X 4 5 1\n",
+                "second_4" => "X 4 5 2\n",
+                "second_beyond_limit" => "X 3 258 2\n",
+                "first_folder" | "first_empty_text" => "X 1 1 1\n",
+                "second_folder" => "X 1 1 2\n",
+                "no_name" | "first_not_there" | "neither_there" | "first_empty"
+                | "first_too_long" => "? 1\n",
+                "one_name"
+                | "second_not_there"
+                | "three_and_second_not_there"
+                | "second_empty"
+                | "second_too_long" => "? 2\n",
+                "three_names" | "third_empty" | "third_not_there" => "? 3\n",
+                _ => "R ",
+            };
+            let whole = !expected.starts_with('R');
+            assert!(printed.starts_with(expected), "{}: {printed}", run.name);
+            assert!(!whole || printed == expected, "{}: {printed}", run.name);
+        }
+        // The first one's limit and tolerance: other reports the other way around.
+        let of = |names: &str| pool::program(&jobs(names), files);
+        assert_ne!(of("field negative_axis"), of("negative_axis field"));
+        assert_eq!(
+            of("small small"),
+            pool::program(&vec![long_name(4_095); 2], files)
+        );
+        let lengths = [4_095, 4_096].map(|length| long_name(length).len());
+        assert_eq!(lengths, [4_095, 4_096]);
     }
 
     #[test]
