@@ -31,7 +31,8 @@ unlike-plus : (s : Bool) → unlike s false ≡ s
 unlike-plus true = refl
 unlike-plus false = refl
 
-pub scaled-product : (z : ℤ) (e : ℕ) → nat_abs z < 2 ^ 53 → e ≤ most_shift → mul binary64 (of_int binary64 z) (binary64_of (pos 1) e) ≡ binary64_of z e
+pub scaled-product : (z : ℤ) (e : ℕ) → nat_abs z < 2 ^ 53 → e ≤ most_shift →
+    mul binary64 (of_int binary64 z) (binary64_of (pos 1) e) ≡ binary64_of z e
 unfolding binary64_of
 scaled-product z e small few =
     product-of-values binary64 (lt_z z (pos 0)) false (nat_abs z) (1 * 2 ^ e) 1 units (omega arith) (omega arith) (of_int binary64 z)

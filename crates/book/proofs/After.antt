@@ -28,7 +28,8 @@ module _ (n : ℕ) (ss : List Sample) where
   then-sums rebuild e = refl
   then-sums make_table e = refl
 
-  pub then-proper : (call : BookCall) → book_refusal n (length ss) call ≡ 0 → AllProper n ss → AllProper (channels_after call n) (samples_then call ss)
+  pub then-proper : (call : BookCall) → book_refusal n (length ss) call ≡ 0 → AllProper n ss →
+      AllProper (channels_after call n) (samples_then call ss)
   unfolding channels_after samples_then without
   then-proper (begin m) e p = tt
   then-proper (add dilution counts) e p =

@@ -63,7 +63,8 @@ module _ (n k : ℕ) (dilutions counts : List ℕ) (h : Rebuildable n k dilution
     unfolding left_over_of samples_from total
     left-none = rw (drop_of_length-le (tabulate k (sample_at n dilutions counts)) {i = k} (rw length-tabulate (omega arith)))
 
-    left_step : (s : ℕ) → s < k → left_over_of n k dilutions counts f s ≡ f (sample_at n dilutions counts s) + left_over_of n k dilutions counts f (suc s)
+    left_step : (s : ℕ) → s < k → left_over_of n k dilutions counts f s ≡
+        f (sample_at n dilutions counts s) + left_over_of n k dilutions counts f (suc s)
     unfolding left_over_of samples_from total
     left_step s g =
         let l : s < length (tabulate k (sample_at n dilutions counts)) = rw length-tabulate g in

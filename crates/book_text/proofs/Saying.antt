@@ -49,7 +49,8 @@ module _ (b : Book) where
   unfolding book_answer call_text answer_then answer_text is_refused
   said-sums = by (eqb (refusal read_summary) 0)
     where
-      by : (t : Bool) → is_refused (cond t (answer_then read_summary (book_after b read_summary).summary.k) (Refused (refusal read_summary))) ≡ false →
+      by : (t : Bool) → is_refused (cond t (answer_then read_summary (book_after b read_summary).summary.k) (Refused (refusal read_summary))) ≡
+          false →
           sums_line b.n (sums_of (samples_in b)) ≡
           answer_text (cond t (answer_then read_summary (book_after b read_summary).summary.k) (Refused (refusal read_summary))) b
       by true e = refl

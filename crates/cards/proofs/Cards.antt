@@ -20,8 +20,10 @@ use Rattle.cards.specs.laws.Printed.{prints-the-report}
 use Rattle.cards.specs.laws.Runs.{still}
 
 pub cards : BenchCards
-unfolding threshold rounded_up u w rnd level_of sign_of choose smallest_fit fits minus_sign negative turn_matrix array eight at turned newp newq newpp newpq
-    newqq hpp hpq hqp hqq at_pair rotation_of signed first second in_use matrix_of tabulate row_major total z S scatter largest smallest_shift shift_under
+unfolding threshold rounded_up u w rnd level_of sign_of choose smallest_fit fits minus_sign negative turn_matrix array eight at turned newp newq
+    newpp newpq
+    newqq hpp hpq hqp hqq at_pair rotation_of signed first second in_use matrix_of tabulate row_major total z S scatter largest smallest_shift
+    shift_under
     entries_under padded table_from_under table_under
 cards =
     record {

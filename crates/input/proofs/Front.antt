@@ -13,7 +13,8 @@ front_grown : (f k n : ℕ) (old part : List ℕ) → f ≤ length old → n ≤
 front_grown f k n old part within fits =
     let whole = put_mid f k old part in
     take-add f n whole ∙ ap (λ l. l ++ take n (drop f whole)) (take-put_mid_below f k old part f (le_refl f) within)
-    ∙ ap (λ l. take f old ++ l) (ap (take n) (drop_at (take f old) (part ++ post_of f k old) f (length-take-le f old within)) ∙ take-append-le n part (post_of f k old) fits)
+    ∙ ap (λ l. take f old ++ l) (ap (take n) (drop_at (take f old) (part ++ post_of f k old) f (length-take-le f old within))
+    ∙ take-append-le n part (post_of f k old) fits)
 
 -- a read to place f gave n bytes
 pub read_on : (a b c : Option (List ℕ)) (f k n : ℕ) (old part : List ℕ) → f ≤ length old → n ≤ length part

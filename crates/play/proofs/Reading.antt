@@ -25,7 +25,8 @@ use Rattle.play.specs.inner.Lines.{Reads, end_at, line_at, next_line, samples_en
 
 -- no call
 no_call : (text : List ℕ) (left ended : Bool) (here : Cursor) (numbers : List ℤ) (readings : List ℕ) (z : NextLine) → z ≡ end_at here ended →
-    end_at here ended ≡ next_line left here (lines_from text here) → none ≡ first_call (lines_from text here) → Reads text left here numbers readings z
+    end_at here ended ≡ next_line left here (lines_from text here) → none ≡ first_call (lines_from text here) →
+    Reads text left here numbers readings z
 unfolding end_at request_call
 no_call text left ended here numbers readings z q e c =
     record { is = q ∙ e; calls = rw q c; in-numbers = rw q tt; in-readings = rw q tt }

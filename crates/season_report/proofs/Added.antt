@@ -8,7 +8,8 @@ use lib.Dec.{eqb}
 use Rattle.integer.specs.Tabulate.{tabulate}
 use Rattle.record.specs.declared.run.Run.{Run}
 use Rattle.season_report.specs.Figures.{lowest_axis}
-use Rattle.season_report.specs.Job.{ended_as, errors_of, is_refused_under, is_settled, is_spent, is_still, ran, record_errors, refused_under, job_turns}
+use Rattle.season_report.specs.Job.{ended_as, errors_of, is_refused_under, is_settled, is_spent}
+use Rattle.season_report.specs.Job.{is_still, ran, record_errors, refused_under, job_turns}
 use Rattle.season_report.specs.Lists.{largest_of}
 use Rattle.season_report.specs.Season.{added, counting, leads, overtakes}
 use Rattle.season_report.specs.declared.Season.{Season}

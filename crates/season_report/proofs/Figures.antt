@@ -92,7 +92,8 @@ module _ (jobs : List JobEnd) (job : JobEnd) where
   -- the lowest axis, by the job that leads
   axis-by : (t : Bool) → Placed jobs job t →
       lowest_axis (largest_error (jobs ++ job ∷ [])) (errors_of (job_numbered (jobs ++ job ∷ []) (first_job (jobs ++ job ∷ [])))) ≡
-      cond t (lowest_axis (largest_of (errors_of job)) (errors_of job)) (lowest_axis (largest_error jobs) (errors_of (job_numbered jobs (first_job jobs))))
+      cond t (lowest_axis (largest_of (errors_of job)) (errors_of job))
+      (lowest_axis (largest_error jobs) (errors_of (job_numbered jobs (first_job jobs))))
   axis-by true p = ap₂ lowest_axis p.error p.errors
   axis-by false p = ap₂ lowest_axis p.error p.errors
 

@@ -48,7 +48,11 @@ module _ (b : Book) (c : Consistent b) (e : book_refusal b.n b.summary.k make_ta
     proper =
         record {
           ranges = simp (r, dilutions-within b.n (samples_in b) c.proper, counts-within b.n (samples_in b) c.proper);
-          samples = simp (length-dilutions, le-leb least_samples (length (samples_in b)) enough, le-leb (length (samples_in b)) most_samples c.number);
+          samples = simp (
+            length-dilutions,
+            le-leb least_samples (length (samples_in b)) enough,
+            le-leb (length (samples_in b)) most_samples c.number,
+          );
           counted =
               length-counts b.n (samples_in b) c.proper ∙ mul_comm b.n (length (samples_in b))
               ∙ ap (λ k. k * b.n) (sym (length-dilutions (samples_in b)));

@@ -120,7 +120,8 @@ module _ (n t : ℕ) (low : 2 ≤ n) (high : n ≤ 8) (few : t ≤ tolerance_lim
   entry_zero : (i j : ℕ) → i < n → j < n → kept_entry (loaded_solver n (zeros n) 0).a i j ≡ pos 0
   unfolding loaded_solver matrix_of
   entry_zero i j h k =
-      kept-flat_of _ i j (omega arith) (omega arith) ∙ in_use-inside n _ i j h k ∙ rw (get_d-repeated (n * n) (i * n + j) (pos 0)) (*ℤ-zero (pos units))
+      kept-flat_of _ i j (omega arith) (omega arith) ∙ in_use-inside n _ i j h k
+      ∙ rw (get_d-repeated (n * n) (i * n + j) (pos 0)) (*ℤ-zero (pos units))
 
   none : loose_of (kept_entry (loaded_solver n (zeros n) 0).a) t (cyclic n) ≡ NoPair
   none =

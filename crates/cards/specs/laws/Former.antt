@@ -7,7 +7,8 @@ use Rattle.integer.specs.Padded.{padded}
 use Rattle.integer.specs.Tabulate.{tabulate}
 use Rattle.ledger.specs.Bench.{NamedCall, by, is_bench}
 use Rattle.ledger.specs.Call.{load, load_samples, loose_pair}
-use Rattle.ledger.specs.Ledger.{empty, accepted_under, loaded_state, plain_state, size_of, turns_of, ledger_from, ledger_from_under, ledger_step_under}
+use Rattle.ledger.specs.Ledger.{empty, accepted_under, loaded_state, plain_state}
+use Rattle.ledger.specs.Ledger.{size_of, turns_of, ledger_from, ledger_from_under, ledger_step_under}
 use Rattle.ledger.specs.Ledger.{named_step_under}
 use Rattle.ledger.specs.Refusal.{equal, entries_within, refusal_of, refusal_under, symmetric}
 use Rattle.limits.specs.Limits.{former_entry_limit}
@@ -24,7 +25,8 @@ use Rattle.readings.specs.Samples.{sample_at, samples, total, z}
 use Rattle.cards.specs.Cards.{two_by_two, two_samples}
 
 -- 'every S is 42,948,362,250,000, e = 26, entry 639,980'
-card11 : ((table_under former_entry_limit 2 two_samples).e ≡ 26) × (take 4 (table_under former_entry_limit 2 two_samples).entries ≡ replicate 4 (pos 639_980))
+card11 : ((table_under former_entry_limit 2 two_samples).e ≡ 26) × (take 4 (table_under former_entry_limit 2 two_samples).entries ≡
+    replicate 4 (pos 639_980))
 unfolding rnd matrix_of tabulate row_major total z S scatter largest smallest_shift shift_under entries_under padded table_from_under table_under
 card11 = (refl, refl)
 
@@ -40,7 +42,8 @@ refused = by 1 (load 2 (two_by_two (pos 1_048_577) (pos 1) (pos 0))) ∷ []
 -- the former limit leaves neither of them a matrix; today's does
 left : ((after_from_under former_entry_limit fresh refused).solver.n ≡ 0) × (ledger_from_under former_entry_limit empty refused ≡ empty) ×
     ((after_from fresh refused).solver.n ≡ 2) × (size_of (ledger_from empty refused) ≡ 2)
-unfolding is_bench within after_from_under record_after_under called_under after_of_under accepted_of_under loaded_solver fresh unloaded ledger_from_under
+unfolding is_bench within after_from_under record_after_under called_under after_of_under accepted_of_under loaded_solver fresh unloaded
+    ledger_from_under
     named_step_under ledger_step_under accepted_under plain_state loaded_state size_of turns_of refusal_under entries_within symmetric equal matrix_of
 left = (refl, refl, refl, refl)
 
@@ -50,13 +53,15 @@ strong = by 1 (load_samples 2 (100 ∷ 100 ∷ []) (65_535 ∷ 65_535 ∷ 0 ∷ 
 
 shifted : ((after_from (after_from_under former_entry_limit fresh (strong ∷ [])) (by 2 (loose_pair 0) ∷ [])).solver.e ≡ 26) ×
     ((after_from fresh (strong ∷ by 2 (loose_pair 0) ∷ [])).solver.e ≡ 25)
-unfolding is_bench within after_from_under record_after_under called_under after_of_under accepted_of_under samples_solver loaded_solver fresh unloaded
+unfolding is_bench within after_from_under record_after_under called_under after_of_under accepted_of_under samples_solver loaded_solver fresh
+    unloaded
     refusal_under samples_refusal number_refusal all_within tabulate row_major samples sample_at total z S scatter largest smallest_shift shift_under
 shifted = (refl, refl)
 
 -- and whatever calls come then, demand 3 holds
 pub goes : (later : List NamedCall) →
-    Certifies (after_from (after_from_under former_entry_limit fresh refused) later) (ledger_from (ledger_from_under former_entry_limit empty refused) later)
+    Certifies (after_from (after_from_under former_entry_limit fresh refused) later)
+    (ledger_from (ledger_from_under former_entry_limit empty refused) later)
 goes later = (goes_on former_entry_limit (le_refl former_entry_limit) former-below refused later).1
 
 -- the range of a tolerance did not move

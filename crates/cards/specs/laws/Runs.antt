@@ -16,7 +16,8 @@ use Rattle.ledger.specs.Refusal.{equal, refusal_under, symmetric, entries_within
 use Rattle.record.specs.Flat.{entries_of, flat_of, kept_entry, rows_of}
 use Rattle.record.specs.Loose.{loose_of}
 use Rattle.record.specs.Record.{answer_to, called_under, fresh, record_after, record_after_under, row_to}
-use Rattle.record.specs.Solver.{accepted_of_under, after_of_under, answer_of, axis_of, loaded_solver, row_of, swept_of, unloaded, value_of, work_of, worked_of}
+use Rattle.record.specs.Solver.{accepted_of_under, after_of_under, answer_of, axis_of, loaded_solver}
+use Rattle.record.specs.Solver.{row_of, swept_of, unloaded, value_of, work_of, worked_of}
 use Rattle.record.specs.Work.{chosen, work_by, work_pair, work_pairs}
 use Rattle.record.specs.declared.Record.{Record}
 use Rattle.record.specs.declared.query.Answer.TheVariants.{Axis}
@@ -31,7 +32,8 @@ use Rattle.run.specs.Run.{run_after, run_of}
 use Rattle.turn.specs.InUse.{in_use}
 use Rattle.turn.specs.Rotation.{first, rotation_of, second}
 use Rattle.integer.specs.Signed.{signed}
-use Rattle.turn.specs.Turn.{array, at, at_pair, eight, hpp, hpq, hqp, hqq, newp, newpp, newpq, newq, newqq, turn_axes, turn_matrix, turned, turned_axes}
+use Rattle.turn.specs.Turn.{array, at, at_pair, eight, hpp, hpq, hqp, hqq}
+use Rattle.turn.specs.Turn.{newp, newpp, newpq, newq, newqq, turn_axes, turn_matrix, turned, turned_axes}
 use Rattle.cards.specs.Cards.{neg, two_by_two}
 
 -- card 5: the record before the sweep
@@ -43,7 +45,8 @@ stays : (no_pair (answer_to stuck (own (loose_pair 0))) ≡ false) × (no_turn (
     (no_pair (answer_to (record_after stuck (own sweep)) (own (loose_pair 0))) ≡ false)
 unfolding is_bench within answer_to record_after_under called_under no_pair no_turn answer_of value_of after_of_under accepted_of_under fresh unloaded
     loaded_solver in_use swept_of work_of worked_of loose_of tabulate kept_entry
-    entries_of rows_of flat_of chosen work_by work_pair work_pairs cyclic rows_from row matrix_of equal symmetric entries_within refusal_under diagonal choose
+    entries_of rows_of flat_of chosen work_by work_pair work_pairs cyclic rows_from row matrix_of equal symmetric entries_within refusal_under
+    diagonal choose
     smallest_fit fits threshold rounded_up u w minus_sign negative eight at
 stays = (refl, refl, refl)
 
@@ -73,10 +76,13 @@ pub record Spends : Type 0 where
   pub second-line : axis_at 2 (diagonal_of three_run.last) 1 ≡ 0
 
 pub spends : Spends
-unfolding axis_at axis_among place_of stands_before run_after run_from tried is_bench within answer_to record_after_under called_under row_to no_pair no_turn
+unfolding axis_at axis_among place_of stands_before run_after run_from tried is_bench within answer_to record_after_under called_under row_to
+    no_pair no_turn
     answer_of value_of after_of_under accepted_of_under axis_of row_of fresh unloaded loaded_solver in_use swept_of work_of worked_of
-    loose_of tabulate kept_entry entries_of rows_of flat_of chosen work_by work_pair work_pairs error_of table_error cyclic rows_from row matrix_of equal
-    symmetric entries_within refusal_under diagonal sumℕ choose smallest_fit fits threshold rounded_up u w minus_sign negative rotation_of signed first
+    loose_of tabulate kept_entry entries_of rows_of flat_of chosen work_by work_pair work_pairs error_of table_error cyclic rows_from row
+    matrix_of equal
+    symmetric entries_within refusal_under diagonal sumℕ choose smallest_fit fits threshold rounded_up u w minus_sign negative rotation_of signed
+    first
     second turn_matrix turn_axes turned_axes array eight at turned newp newq newpp newpq newqq hpp hpq hqp hqq at_pair rnd
 spends =
     record {

@@ -52,7 +52,8 @@ joined : (joined_text first second
     ≡ 80 ∷ 9 ∷ 50 ∷ 9 ∷ 49 ∷ 9 ∷ 48 ∷ 10 ∷ 83 ∷ 9 ∷ 49 ∷ 9 ∷ 48 ∷ 9 ∷ 48 ∷ 10 ∷ 83 ∷ 9 ∷ 53 ∷ 9 ∷ 49 ∷ 9 ∷ 48 ∷ 10
     ∷ 83 ∷ 9 ∷ 50 ∷ 9 ∷ 49 ∷ 9 ∷ 51 ∷ 10 ∷ 83 ∷ 9 ∷ 49 ∷ 9 ∷ 48 ∷ 9 ∷ 52 ∷ 10 ∷ 69 ∷ 9 ∷ 52 ∷ 10 ∷ [])
     × (job_text_of (pooled_job first second) ≡ joined_text first second)
-unfolding first second joined_text job_text_of job_line_p sample_line job_line_e sample_numbers sample_at lines number_line line further number digits digits_by
+unfolding first second joined_text job_text_of job_line_p sample_line job_line_e sample_numbers sample_at lines number_line line further number
+    digits digits_by
 joined = (refl, refl)
 
 -- `X 13 0 0`, and `X 1 3 2` for line 3 of job 2, with tabs for blanks
@@ -67,6 +68,7 @@ unfolding wrong_argument_line number_line line further number digits digits_by
 wrong-printed = refl
 
 -- the first argument that is wrong, whatever the later ones are; the program's name is the first of its words
-arguments : (wrong_argument false false 1 ≡ 1) × (wrong_argument true false 4 ≡ 2) × (wrong_argument true true 4 ≡ 3) × (wrong_argument true true 3 ≡ 0)
+arguments : (wrong_argument false false 1 ≡ 1) × (wrong_argument true false 4 ≡ 2) × (wrong_argument true true 4 ≡ 3) ×
+    (wrong_argument true true 3 ≡ 0)
 unfolding wrong_argument
 arguments = (refl, refl, refl, refl)

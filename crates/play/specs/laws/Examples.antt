@@ -13,7 +13,8 @@ use Rattle.record.specs.Record.{answer_to, called_under, counted, fresh, raised,
 use Rattle.record.specs.Solver.{accepted_of_under, after_of_under, answer_of, loaded_solver, row_of, unloaded, value_of}
 use Rattle.text.specs.Decimal.{digits, digits_by}
 use Rattle.call_text.specs.Answers.{answer_line, shown, shown_as, told_of}
-use Rattle.call_text.specs.Calls.{argument, call_by, call_of, call_of_fields, call_within, load_by, named, named_by, number_limit, one_by, reading, samples_by}
+use Rattle.call_text.specs.Calls.{argument, call_by, call_of, call_of_fields, call_within, load_by}
+use Rattle.call_text.specs.Calls.{named, named_by, number_limit, one_by, reading, samples_by}
 use Rattle.call_text.specs.Calls.{sweep_by, turn_by, with_numbers}
 use Rattle.call_text.specs.Numbers.{each_number, numeral, signed_of, stands_for, unsigned_of, with_minus, without_minus}
 use Rattle.text.specs.Line.{further, line}
@@ -47,9 +48,12 @@ examples :
     -- after a load: t of −1 and of 10,000,000,000; i of −1 and of 2^64 + 1
     × (played false (ascii "L\t1\t2\t1\t0\t0\t1\nQ\t1\t-1\nQ\t1\t10000000000\n") ≡ ascii "L\nX\t2\t1\t0\t0\t0\nX\t2\t2\t0\t0\t0\n")
     × (played false (ascii "L\t1\t2\t1\t0\t0\t1\nA\t1\t-1\nA\t1\t18446744073709551617\n") ≡ ascii "L\nX\t9\t1\t0\t0\t0\nX\t9\t2\t0\t0\t0\n")
-unfolding ascii played played_from line_then unknown_line split onto call_of call_within number_limit call_of_fields with_numbers named_by named call_by load_by
-    turn_by sweep_by one_by argument each_number before signed_of with_minus without_minus unsigned_of stands_for numeral leading_zero value_from all_within
-    within answer_line told_of shown shown_as row_to row_of is_bench answer_to record_after_under called_under raised counted fresh unloaded after_of_under
+unfolding ascii played played_from line_then unknown_line split onto call_of call_within number_limit call_of_fields with_numbers named_by named
+    call_by load_by
+    turn_by sweep_by one_by argument each_number before signed_of with_minus without_minus unsigned_of stands_for numeral leading_zero value_from
+    all_within
+    within answer_line told_of shown shown_as row_to row_of is_bench answer_to record_after_under called_under raised counted fresh unloaded
+    after_of_under
     answer_of accepted_of_under loaded_solver value_of refusal_under entries_within symmetric equal matrix_of line further digits digits_by
 examples = (refl, refl, refl, refl, refl, refl, refl, refl, refl, refl, refl, refl, refl, refl, refl, refl, refl, refl, refl, refl, refl, refl)
 
@@ -65,10 +69,14 @@ benches :
     -- nor with a matrix loaded
     × (played false (ascii "L\t1\t2\t1\t0\t0\t1\nT\t0\t2\t1\nO\t5\nM\t6\t9\t0\n") ≡
     ascii "L\nX\t15\t0\t0\t0\t0\nX\t15\t0\t0\t0\t0\nX\t15\t0\t0\t0\t0\n")
-unfolding ascii played played_from line_then unknown_line split onto call_of call_within number_limit call_of_fields with_numbers named_by named call_by load_by
-    turn_by sweep_by one_by argument each_number before signed_of with_minus without_minus unsigned_of stands_for numeral leading_zero value_from all_within
-    within answer_line told_of shown shown_as row_to row_of is_bench answer_to record_after_under called_under raised counted fresh unloaded after_of_under
-    answer_of accepted_of_under loaded_solver value_of samples_by reading refusal_under entries_within symmetric equal matrix_of line further digits digits_by
+unfolding ascii played played_from line_then unknown_line split onto call_of call_within number_limit call_of_fields with_numbers named_by named
+    call_by load_by
+    turn_by sweep_by one_by argument each_number before signed_of with_minus without_minus unsigned_of stands_for numeral leading_zero value_from
+    all_within
+    within answer_line told_of shown shown_as row_to row_of is_bench answer_to record_after_under called_under raised counted fresh unloaded
+    after_of_under
+    answer_of accepted_of_under loaded_solver value_of samples_by reading refusal_under entries_within symmetric equal matrix_of line further
+    digits digits_by
 benches = (refl, refl, refl, refl)
 
 -- Loads of samples
@@ -80,8 +88,11 @@ samples :
     × (played false (ascii "M\t1\t2\n") ≡ ascii "?\t1\n")
     × (played false (ascii "M\t1\t2\t-1\n") ≡ ascii "?\t1\n")
     × (played false (ascii "M\t1\t2\t2\t1\n") ≡ ascii "?\t1\n")
-unfolding ascii played played_from line_then unknown_line split onto call_of call_within number_limit call_of_fields with_numbers named_by named call_by
-    samples_by reading samples_refusal number_refusal argument each_number before signed_of with_minus without_minus unsigned_of stands_for numeral leading_zero
-    value_from all_within within answer_line told_of shown shown_as row_to row_of is_bench answer_to record_after_under called_under raised counted fresh unloaded
+unfolding ascii played played_from line_then unknown_line split onto call_of call_within number_limit call_of_fields with_numbers named_by named
+    call_by
+    samples_by reading samples_refusal number_refusal argument each_number before signed_of with_minus without_minus unsigned_of stands_for
+    numeral leading_zero
+    value_from all_within within answer_line told_of shown shown_as row_to row_of is_bench answer_to record_after_under called_under raised
+    counted fresh unloaded
     after_of_under answer_of refusal_under line further digits digits_by
 samples = (refl, refl, refl, refl, refl)

@@ -17,7 +17,8 @@ use Rattle.call_text.specs.Answers.{answer_line, line_printed}
 use Rattle.call_text.specs.Calls.{call_of}
 use Rattle.call_text.specs.inner.Parts.{front}
 use Rattle.call_text.proofs.Splitting.{parts_after, parts-end, parts_more, split-front}
-use Rattle.play.specs.Steps.{Reached, Steps, after_call, begun, first_call, gone, lines_from, past_line, start_cursor, stepped, stepped_by, stopped_at}
+use Rattle.play.specs.Steps.{Reached, Steps, after_call, begun, first_call, gone}
+use Rattle.play.specs.Steps.{lines_from, past_line, start_cursor, stepped, stepped_by, stopped_at}
 use Rattle.play.specs.Text.{line_then, played, played_from, unknown_line}
 use Rattle.play.specs.declared.cursor.Cursor.{Cursor}
 use Rattle.play.specs.declared.step.Stepped.{Stepped}

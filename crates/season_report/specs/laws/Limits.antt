@@ -15,7 +15,8 @@ use Rattle.record.specs.declared.run.Run.{Run}
 use Rattle.report.specs.AxisNumbers.{axis_values}
 use Rattle.report.specs.laws.AxisNumbers.{axis-answer, error-small}
 use Rattle.season_report.specs.Figures.{lowest_axis}
-use Rattle.season_report.specs.Job.{JobEnd, error_at, error_in, errors_of, ended_as, is_refused_under, is_settled, is_spent, is_still, ran, record_errors}
+use Rattle.season_report.specs.Job.{JobEnd, error_at, error_in, errors_of, ended_as}
+use Rattle.season_report.specs.Job.{is_refused_under, is_settled, is_spent, is_still, ran, record_errors}
 use Rattle.season_report.specs.Job.{refused_under, job_turns}
 use Rattle.season_report.specs.Limits.{SeasonLimits}
 use Rattle.season_report.specs.Lists.{first_from, largest_of}

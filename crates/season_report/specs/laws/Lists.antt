@@ -168,7 +168,8 @@ module _ {X : Type 0} (errs : X → List ℕ) where
       by false h e = h e
 
   -- a number that one of them has is among all
-  pub flat-among : (z : ℕ) (xs : List X) (i : ℕ) (d : X) → i < length xs → is_among z (errs (get_or xs i d)) ≡ true → is_among z (flat_map errs xs) ≡ true
+  pub flat-among : (z : ℕ) (xs : List X) (i : ℕ) (d : X) → i < length xs → is_among z (errs (get_or xs i d)) ≡ true →
+      is_among z (flat_map errs xs) ≡ true
   unfolding flat_map
   flat-among z [] i d h e = absurd (omega arith)
   flat-among z (x ∷ xs) zero d h e = among-append z (errs x) (flat_map errs xs) ∙ rw e

@@ -27,7 +27,15 @@ put-naturals-requires c κs =
     let f = c.before.before.before in
     let t = f.before.before.before in (
       omega (arith, z, s.requires),
-      omega (arith, z, s.requires, f.natural_field-second.ensures.bounded, f.natural_field-second.auto, t.put_byte-first.ensures.answer, t.put_byte-first.auto),
+      omega (
+        arith,
+        z,
+        s.requires,
+        f.natural_field-second.ensures.bounded,
+        f.natural_field-second.auto,
+        t.put_byte-first.ensures.answer,
+        t.put_byte-first.auto,
+      ),
     )
 
 put-cross-requires : tie.Need-put_cross-end-requires
@@ -81,7 +89,8 @@ returns c =
     let p = x.before.before.before.before in
     let f = p.before.before.before.before in
     let t = f.before.before.before in
-    sums-paged _ _ t.put_byte-first.ensures f.natural_field-second.ensures p.put_naturals-third.ensures x.put_cross-end.ensures feed.put_byte-len.ensures
+    sums-paged _ _ t.put_byte-first.ensures f.natural_field-second.ensures p.put_naturals-third.ensures x.put_cross-end.ensures
+    feed.put_byte-len.ensures
 
 pub sums_page_spec : {M : Type 1} → statement M
 sums_page_spec =

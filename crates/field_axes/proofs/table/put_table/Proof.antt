@@ -25,7 +25,8 @@ module _ (c : tie.After-table_of_readings-table) where
   sums-within = let h = c.before.before.before.requires.readings.channels in rw (c.table_of_readings-table.ensures, length-scatter _ h) (places _ h)
 
   entries-within : (let n = c.before.before.before.args.n in n * n ≤ length c.table_of_readings-table.result.entries)
-  entries-within = let h = c.before.before.before.requires.readings.channels in rw (c.table_of_readings-table.ensures, length-entries _ h) (places _ h)
+  entries-within = let h = c.before.before.before.requires.readings.channels in rw (c.table_of_readings-table.ensures, length-entries _ h)
+      (places _ h)
 
 put-requires-2 : tie.Need-put-at-requires-2
 put-requires-2 c κs =

@@ -11,7 +11,8 @@ returns-in-Load c = rw (c.in-Load.is, ← c.entries_at-numbers.ensures) (answers
 
 pub returns-in-LoadSamples : goal.returns-in-LoadSamples
 unfolding request_call row_of
-returns-in-LoadSamples c = rw (c.in-LoadSamples.is, ← c.readings_at-dilutions.ensures, ← c.readings_at-counts.ensures) (answers-plain _ _ _ _ _ refl c.load_samples.ensures c.plain-in-LoadSamples.ensures)
+returns-in-LoadSamples c = rw (c.in-LoadSamples.is, ← c.readings_at-dilutions.ensures, ← c.readings_at-counts.ensures)
+    (answers-plain _ _ _ _ _ refl c.load_samples.ensures c.plain-in-LoadSamples.ensures)
 
 pub returns-in-Turn : goal.returns-in-Turn
 unfolding request_call row_of
@@ -27,7 +28,8 @@ returns-in-LoosePair c = rw (c.in-LoosePair.is) (answers-plain _ _ _ _ _ refl c.
 
 pub returns-in-TournamentSweep : goal.returns-in-TournamentSweep
 unfolding request_call row_of
-returns-in-TournamentSweep c = rw (c.in-TournamentSweep.is) (answers-plain _ _ _ _ _ refl c.tournament_sweep.ensures c.plain-in-TournamentSweep.ensures)
+returns-in-TournamentSweep c = rw (c.in-TournamentSweep.is) (answers-plain _ _ _ _ _ refl c.tournament_sweep.ensures
+    c.plain-in-TournamentSweep.ensures)
 
 pub returns-in-Axis : goal.returns-in-Axis
 unfolding request_call
