@@ -3,10 +3,10 @@
 
 usage: tools/snake_case.py [FOLDER]
 
-Run once, in the checkout that port.py has turned. In .antt files every word that begins with a small letter and has a capital behind a small letter or a
-figure is turned, but for those in quotes; in .rt and .edit files only the words that the .antt files have, outside strings; in .md files the same words between
-backticks. Types and modules begin with a capital and stay. It stops, and writes nothing, where a turned name would meet one that an .antt file declares.
-A definition may get the name of the function of src/ whose answer it says: no clause names a function.
+Run once, in the checkout that port.py has turned. In .antt files every word that begins with a small letter and has a capital behind a small letter
+or a figure is turned, but for those in quotes; in .rt and .edit files only the words that the .antt files have, outside strings; in .md files the
+same words between backticks. Types and modules begin with a capital and stay. It stops, and writes nothing, where a turned name would meet one that
+an .antt file declares. A definition may get the name of the function of src/ whose answer it says: no clause names a function.
 """
 import os
 import pathlib
