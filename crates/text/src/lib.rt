@@ -4,13 +4,10 @@
 pub mod line;
 pub mod numbers;
 pub mod rows;
-pub mod written;
 
 ghost use Rattle.std.specs.Prelude.{◌∷◌, [], ◌+◌, ◌≤◌, length};
 ghost use Rattle.text.specs.Decimal.{digits, number};
 ghost use Rattle.text.specs.Put.{Put, Sized};
-
-pub use written::Written;
 
 const MINUS: u8 = b'-';
 

@@ -1,5 +1,5 @@
 -- Laws of what a writer answers, and of the buffer that it was lent.
-use Rattle.std.specs.Prelude.{ℕ, ◌<◌, ◌≤◌, Bool, List, [], ◌∷◌, ◌++◌, leb, drop}
+use Rattle.std.specs.Prelude.{ℕ, ◌<◌, ◌≤◌, Bool, List, [], ◌∷◌, ◌++◌, Result, Ok, Err, leb, drop}
 use Rattle.std.proofs.Math.Path.{◌≡◌, refl}
 use Rattle.std.proofs.Common.{sym, ap, ◌∙◌, arith}
 use Rattle.std.proofs.Math.Bool.{true, false, cond}
@@ -11,8 +11,8 @@ use Rattle.limits.specs.laws.Unless.{neither, passed}
 use Rattle.text.specs.Put.{Put}
 use Rattle.text.specs.laws.Put.{front_length}
 use Rattle.text.specs.Written.{Writes, lent_after, or_short, written_of}
-use Rattle.text.specs.declared.written.Written.{Written}
-use Rattle.text.specs.declared.written.Written.TheVariants.{Length, Refused}
+use Rattle.refusal.specs.declared.Refusal.{Refusal}
+use Rattle.refusal.specs.Refusal.{judged, numbered}
 
 module _ (refusal needed size : ℕ) where
   -- a refusal before the buffer's
@@ -49,42 +49,42 @@ module _ {X : Type 0} (refusal : ℕ) (text entry : List X) where
 
 module _ (refusal : ℕ) (text entry : List ℕ) where
   not_written : (number : ℕ) → or_short refusal (length text) (length entry) ≡ number → (number ≡ 0 → ⊥)
-      → Writes refusal text entry entry (Refused number)
-  unfolding written_of
+      → Writes refusal text entry entry (Err (numbered number))
+  unfolding written_of judged
   not_written number e f =
       record {
         answer = rw (e, ne_eqb number 0 f);
         buffer = buffer-stays (or_short refusal (length text) (length entry)) text entry number (sym e) f;
       }
 
-  pub refused : (number : ℕ) → number ≡ refusal → (number ≡ 0 → ⊥) → Writes refusal text entry entry (Refused number)
+  pub refused : (number : ℕ) → number ≡ refusal → (number ≡ 0 → ⊥) → Writes refusal text entry entry (Err (numbered number))
   refused number e f = not_written number (refused-first refusal (length text) (length entry) (λ z. f (e ∙ z)) ∙ sym e) f
 
-  pub short : refusal ≡ 0 → length entry < length text → Writes refusal text entry entry (Refused 12)
+  pub short : refusal ≡ 0 → length entry < length text → Writes refusal text entry entry (Err (numbered 12))
   short e h = not_written 12 (short-last refusal (length text) (length entry) e h) (λ (z : 12 ≡ 0). omega arith)
 
-  pub written : refusal ≡ 0 → {exit : List ℕ} {r : ℕ} → Put text 0 entry exit r → Writes refusal text entry exit (Length r)
-  unfolding written_of
+  pub written : refusal ≡ 0 → {exit : List ℕ} {r : ℕ} → Put text 0 entry exit r → Writes refusal text entry exit (Ok r)
+  unfolding written_of judged
   written e p =
       let room : length text ≤ length entry = omega (arith, front_length p, p.within) in
       let none : or_short refusal (length text) (length entry) ≡ 0 = none_left refusal (length text) (length entry) e room in
       record {
-        answer = rw none (ap Length (front_length p));
+        answer = rw none (ap Ok (front_length p));
         buffer = buffer-written (or_short refusal (length text) (length entry)) text entry none p;
       }
 
   -- ---- and what each answer tells
 
-  none-refused : (number k : ℕ) → Length k ≡ written_of number text → (number ≡ 0) × (k ≡ length text)
-  unfolding written_of
+  none-refused : (number k : ℕ) → Ok k ≡ written_of number text → (number ≡ 0) × (k ≡ length text)
+  unfolding written_of judged
   none-refused number k = by (eqb number 0) refl
     where
-      by : (test : Bool) → eqb number 0 ≡ test → Length k ≡ cond test (Length (length text)) (Refused number) → (number ≡ 0) × (k ≡ length text)
+      by : (test : Bool) → eqb number 0 ≡ test → Ok k ≡ cond test (Ok (length text)) (Err (numbered number)) → (number ≡ 0) × (k ≡ length text)
       by true q e = (eqb-true number 0 q, cc)
       by false q e = let z : ◌≡◌ {A = ℕ} 0 1 = cc in absurd (omega arith)
 
   -- the answer is a length: nothing was refused, it is the text's, and the text stands at the buffer's start
-  pub length-tells : {exit : List ℕ} {k : ℕ} → Writes refusal text entry exit (Length k)
+  pub length-tells : {exit : List ℕ} {k : ℕ} → Writes refusal text entry exit (Ok k)
       → (refusal ≡ 0) × (k ≡ length text) × (exit ≡ text ++ drop (length text) entry)
   unfolding lent_after
   length-tells {exit} {k} w =
@@ -92,20 +92,20 @@ module _ (refusal : ℕ) (text entry : List ℕ) where
       ((taken refusal (length text) (length entry) none.0).0, none.1, w.buffer ∙ rw none.0)
 
   -- a buffer with room for a text that is not refused
-  pub room-tells : {exit : List ℕ} {r : Written} → Writes refusal text entry exit r → refusal ≡ 0 → length text ≤ length entry
-      → (r ≡ Length (length text)) × (exit ≡ text ++ drop (length text) entry)
-  unfolding written_of lent_after
+  pub room-tells : {exit : List ℕ} {r : Result ℕ Refusal} → Writes refusal text entry exit r → refusal ≡ 0 → length text ≤ length entry
+      → (r ≡ Ok (length text)) × (exit ≡ text ++ drop (length text) entry)
+  unfolding written_of judged lent_after
   room-tells w e h =
       let none = none_left refusal (length text) (length entry) e h in
       (w.answer ∙ rw none, w.buffer ∙ rw none)
 
   -- a refusal where the buffer has room: it is the one before the buffer's, and the buffer is as it was
-  pub refusal-tells : {exit : List ℕ} {r : Written} → Writes refusal text entry exit r → (refusal ≡ 0 → length text ≤ length entry) → (k : ℕ)
-      → r ≡ Refused k → (k ≡ refusal) × (refusal ≡ 0 → ⊥) × (exit ≡ entry)
-  unfolding written_of lent_after
+  pub refusal-tells : {exit : List ℕ} {r : Result ℕ Refusal} → Writes refusal text entry exit r → (refusal ≡ 0 → length text ≤ length entry)
+      → (k : Refusal) → r ≡ Err k → (k ≡ numbered refusal) × (refusal ≡ 0 → ⊥) × (exit ≡ entry)
+  unfolding written_of judged lent_after
   refusal-tells {exit} {r} w room k e = by (eqb refusal 0) refl
     where
-      by : (test : Bool) → eqb refusal 0 ≡ test → (k ≡ refusal) × (refusal ≡ 0 → ⊥) × (exit ≡ entry)
+      by : (test : Bool) → eqb refusal 0 ≡ test → (k ≡ numbered refusal) × (refusal ≡ 0 → ⊥) × (exit ≡ entry)
       by true q =
           let none = eqb-true refusal 0 q in
           let told = (room-tells w none (room none)).0 in
@@ -118,7 +118,7 @@ module _ (refusal : ℕ) (text entry : List ℕ) where
 
 -- ---- worked examples: 12 last, for a buffer that is a byte too short; the bytes past the text stay, and all of them at a refusal
 examples : (or_short 0 5 4 ≡ 12) × (or_short 0 5 5 ≡ 0) × (or_short 3 5 4 ≡ 3) ×
-    (written_of 0 (80 ∷ 10 ∷ []) ≡ Length 2) × (written_of 12 (80 ∷ 10 ∷ []) ≡ Refused 12) ×
+    (written_of 0 (80 ∷ 10 ∷ []) ≡ Ok 2) × (written_of 12 (80 ∷ 10 ∷ []) ≡ Err (numbered 12)) ×
     (lent_after {X = ℕ} 0 (80 ∷ 10 ∷ []) (1 ∷ 2 ∷ 3 ∷ []) ≡ 80 ∷ 10 ∷ 3 ∷ []) × (lent_after {X = ℕ} 12 (80 ∷ 10 ∷ []) (1 ∷ []) ≡ 1 ∷ [])
-unfolding or_short written_of lent_after
+unfolding or_short written_of judged lent_after
 examples = (refl, refl, refl, refl, refl, refl, refl)
