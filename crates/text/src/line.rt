@@ -1,9 +1,11 @@
 // Writers of lines into a lent buffer: fields parted by one tab, each line ended by a line feed.
 ghost use Rattle.std.specs.Prelude.{◌+◌, ◌*◌, ◌≤◌, ◌<◌, ◌^◌, length, take};
+ghost use Rattle.refusal.specs.Refusal.{number_of};
 ghost use Rattle.text.specs.Put.{Put, Sized};
 ghost use Rattle.text.specs.Line.{numbers, number_line, word_line, line_x};
 
 use crate::{number_length, put_byte, put_bytes, put_natural, put_number};
+use refusal::Refusal;
 
 const TAB: u8 = b'\t';
 
@@ -61,13 +63,13 @@ pub fn put_word_line(buf: &mut [u8], tag: u8, values: &[i64], n: usize, word: &[
 }
 
 // The line of a refusal, at the front of the buffer.
-pub fn put_refusal(buf: &mut [u8], number: u8, line: usize) -> usize
+pub fn put_refusal(buf: &mut [u8], refusal: Refusal, line: usize) -> usize
     requires { 44 ≤ length buf.old }
-    ensures { Put (line_x number line) 0 buf.old buf.new result }
+    ensures { Put (line_x (number_of refusal) line) 0 buf.old buf.new result }
 {
     let mut at = put_byte(buf, 0, b'X');
     at = put_byte(buf, at, TAB);
-    at = put_natural(buf, at, number as u64);
+    at = put_natural(buf, at, u64::from(refusal.number()));
     at = put_byte(buf, at, TAB);
     at = put_natural(buf, at, line as u64);
     put_byte(buf, at, LINE_FEED)
