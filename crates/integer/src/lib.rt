@@ -4,21 +4,18 @@
 ghost use Rattle.std.specs.Prelude.{◌≡◌, ◌<◌, ◌^◌, nat_abs};
 ghost use Rattle.integer.specs.Signed.{signed};
 
-// |z|. The negation is of z + 1, since that of the least number does not fit.
+// |z|
 pub fn magnitude(z: i64) -> u64
     ensures { result ≡ nat_abs z }
 {
-    if z < 0 {
-        (-(z + 1)) as u64 + 1
-    } else {
-        z as u64
-    }
+    z.unsigned_abs()
 }
 
 // f × x, where f is −1 or +1.
+#[tactic(auto, unfolding(crate::specs::Signed::signed))]
 pub fn with_sign(minus: bool, x: u64) -> i64
     requires { x < 2 ^ 63 }
     ensures { result ≡ signed minus x }
 {
-    if minus { 0 - x as i64 } else { x as i64 }
+    if minus { -(x as i64) } else { x as i64 }
 }
