@@ -1,7 +1,7 @@
 // Reads an input into a buffer that its caller has, so that a program needs no memory for what it reads.
 #![tactic(auto)]
 
-ghost use Rattle.std.specs.Prelude.{◌≡◌, ◌≢◌, ◌≤◌, IfErr, IfOk, IfSome, length, take};
+ghost use Rattle.std.specs.Prelude.{◌≡◌, ◌≢◌, ◌<◌, ◌≤◌, ◌↔◌, IfErr, IfOk, IfSome, IsTrue, length, take};
 ghost use Rattle.std.specs.IoError.{error_kind};
 ghost use Rattle.std.specs.Io.KnownBytes.{Consumes};
 
@@ -32,4 +32,50 @@ pub fn read_full<R: Read>(input: &mut R, buf: &mut [u8]) -> io::Result<usize>
         }
     }
     Err(io::Error::from(ErrorKind::TimedOut))
+}
+
+// Reads to the front of the buffer until the buffer is full, the input ends or it can't be read, and answers how many bytes stand there. What an error
+// leaves unread counts as an end, so this can't fail.
+pub fn read_readable<R: Read>(input: &mut R, buf: &mut [u8]) -> usize
+    ensures within { result ≤ length buf.new }
+    ensures front { result ≡ length (take result buf.new) }
+    ensures rest { Consumes (R.remaining input.old) (R.remaining input.new) (take result buf.new) }
+{
+    let mut at = 0;
+    while at < buf.len() {
+        match input.read(&mut buf[at..]) {
+            Ok(0) | Err(_) => break,
+            Ok(n) => at += n,
+        }
+    }
+    at
+}
+
+// Whether one more byte can be read.
+pub fn input_left<R: Read>(input: &mut R) -> io::Result<bool>
+    ensures { IfOk result (λ left. IfSome (R.remaining input.old) (λ xs. IsTrue left ↔ (0 < length xs))) }
+{
+    let mut byte = [0u8; 1];
+    Ok(input.read(&mut byte)? == 1)
+}
+
+#[cfg(test)]
+mod tests {
+    use super::*;
+
+    // Five bytes: a full buffer, the one byte looked for, what is left, and the end.
+    #[test]
+    fn reads_up_to_the_end(rt: HostRuntime) -> io::Result<()> {
+        let mut input: &[u8] = b"abcde";
+        let mut buf = [b'.'; 3];
+        assert_eq!(rt; read_full(&mut input, &mut buf)?, 3);
+        assert_eq!(rt; buf, *b"abc");
+        assert!(rt; input_left(&mut input)?);
+        assert_eq!(rt; read_readable(&mut input, &mut buf), 1);
+        assert_eq!(rt; buf, *b"ebc");
+        assert!(rt; !input_left(&mut input)?);
+        assert_eq!(rt; read_readable(&mut input, &mut buf), 0);
+        assert_eq!(rt; read_full(&mut input, &mut buf)?, 0);
+        Ok(())
+    }
 }
