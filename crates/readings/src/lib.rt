@@ -1,35 +1,27 @@
-// Samples handed over: n, a dilution each and n counts each, sample after sample. Whether their values are in range, and the number that they are
-// refused with.
+// Samples handed over: n, a dilution each and n counts each, sample after sample. Whether their values are in range, and what they are refused with.
 #![tactic(auto)]
 
 ghost use Rattle.std.specs.Prelude.{◌≡◌};
 ghost use Rattle.limits.specs.Limits.{least_channels, most_channels};
 ghost use Rattle.limits.specs.Unless.{unless};
 ghost use Rattle.integer.specs.Within.{all_within, within};
+ghost use Rattle.refusal.specs.Refusal.{judged};
 ghost use Rattle.readings.specs.Ranges.{job_within, parameters_in_range, samples_within, values_within};
-ghost use Rattle.readings.specs.Refusal.{are_counted, are_so_many, job_refusal, samples_refusal};
+ghost use Rattle.readings.specs.Refusal.{are_counted, are_so_many, job_refusal, number_refusal, samples_refusal};
+
+use refusal::Refusal;
 
 pub fn is_within(low: u64, high: u64, x: u64) -> bool
     ensures { result ≡ within low high x }
 {
-    if x < low { false } else { x <= high }
+    low <= x && x <= high
 }
 
 // Whether each value is from low to high.
 pub fn all_within(low: u32, high: u32, values: &[u32]) -> bool
     ensures { result ≡ all_within low high values.now }
 {
-    let mut i = 0;
-    while i < values.len() {
-        if values[i] < low {
-            return false;
-        }
-        if high < values[i] {
-            return false;
-        }
-        i += 1;
-    }
-    true
+    values.iter().all(|x| low <= *x && *x <= high)
 }
 
 pub fn channels_within(n: usize) -> bool
@@ -47,8 +39,8 @@ pub fn parameters_within(n: usize, limit: u64, tolerance: u64) -> bool
     ensures { result ≡ parameters_in_range n limit tolerance }
 {
     channels_within(n)
-        & is_within(limits::LEAST_SWEEPS, limits::MOST_SWEEPS, limit)
-        & is_within(0, limits::TOLERANCE_LIMIT, tolerance)
+        && is_within(limits::LEAST_SWEEPS, limits::MOST_SWEEPS, limit)
+        && is_within(0, limits::TOLERANCE_LIMIT, tolerance)
 }
 
 // "dilution (1..100) and n counts (0..65,535)"
@@ -56,7 +48,7 @@ fn samples_within(dilutions: &[u32], counts: &[u32]) -> bool
     ensures { result ≡ samples_within dilutions.now counts.now }
 {
     all_within(limits::LEAST_DILUTION, limits::MOST_DILUTION, dilutions)
-        & all_within(0, limits::MOST_COUNT, counts)
+        && all_within(0, limits::MOST_COUNT, counts)
 }
 
 // Whether there are n counts to a sample. No product is made: n and the lengths may be any.
@@ -64,12 +56,9 @@ pub fn are_counted(n: usize, dilutions: &[u32], counts: &[u32]) -> bool
     ensures { result ≡ are_counted n dilutions.now counts.now }
 {
     if n == 0 {
-        return counts.len() == 0;
+        return counts.is_empty();
     }
-    if counts.len() % n != 0 {
-        return false;
-    }
-    counts.len() / n == dilutions.len()
+    counts.len() % n == 0 && counts.len() / n == dilutions.len()
 }
 
 fn are_so_many(dilutions: &[u32]) -> bool
@@ -85,45 +74,49 @@ fn are_so_many(dilutions: &[u32]) -> bool
 pub fn values_within(n: usize, dilutions: &[u32], counts: &[u32]) -> bool
     ensures { result ≡ values_within n dilutions.now counts.now }
 {
-    channels_within(n) & samples_within(dilutions, counts)
+    channels_within(n) && samples_within(dilutions, counts)
 }
 
 fn job_within(n: usize, limit: u64, tolerance: u64, dilutions: &[u32], counts: &[u32]) -> bool
     ensures { result ≡ job_within n limit tolerance dilutions.now counts.now }
 {
-    parameters_within(n, limit, tolerance) & samples_within(dilutions, counts)
+    parameters_within(n, limit, tolerance) && samples_within(dilutions, counts)
 }
 
-// The number of a test that failed, or what the later tests say.
-pub fn refused_unless(test: bool, number: u32, later: u32) -> u32
-    ensures { result ≡ unless test number later }
+// 'tried in that order': whether all values are within their ranges, how many counts there are, how many samples.
+fn check(within: bool, n: usize, dilutions: &[u32], counts: &[u32]) -> Result<(), Refusal>
+    ensures { result ≡ judged (unless within 2 (number_refusal n dilutions.now counts.now)) (record {}) }
 {
-    if test { later } else { number }
+    if !within {
+        return Err(Refusal::OutOfRange);
+    }
+    if !are_counted(n, dilutions, counts) {
+        return Err(Refusal::ListLength);
+    }
+    if !are_so_many(dilutions) {
+        return Err(Refusal::SampleCount);
+    }
+    Ok(())
 }
 
-// The number of the first test that failed, or 0.
-pub fn first_failed(within: bool, counted: bool, enough: bool) -> u32
-    ensures { result ≡ unless within 2 (unless counted 6 (unless enough 3 0)) }
-{
-    let last = refused_unless(enough, 3, 0);
-    let later = refused_unless(counted, 6, last);
-    refused_unless(within, 2, later)
-}
-
-// The number that n and samples are refused with, or 0.
-pub fn samples_refusal(n: usize, dilutions: &[u32], counts: &[u32]) -> u32
-    ensures { result ≡ samples_refusal n dilutions.now counts.now }
+// What n and samples are refused with.
+pub fn check_samples(n: usize, dilutions: &[u32], counts: &[u32]) -> Result<(), Refusal>
+    ensures { result ≡ judged (samples_refusal n dilutions.now counts.now) (record {}) }
 {
     let within = values_within(n, dilutions, counts);
-    let counted = are_counted(n, dilutions, counts);
-    first_failed(within, counted, are_so_many(dilutions))
+    check(within, n, dilutions, counts)
 }
 
-// The number that a job is refused with, or 0.
-pub fn job_refusal(n: usize, limit: u64, tolerance: u64, dilutions: &[u32], counts: &[u32]) -> u32
-    ensures { result ≡ job_refusal n limit tolerance dilutions.now counts.now }
+// What a job is refused with.
+pub fn check_job(
+    n: usize,
+    limit: u64,
+    tolerance: u64,
+    dilutions: &[u32],
+    counts: &[u32],
+) -> Result<(), Refusal>
+    ensures { result ≡ judged (job_refusal n limit tolerance dilutions.now counts.now) (record {}) }
 {
     let within = job_within(n, limit, tolerance, dilutions, counts);
-    let counted = are_counted(n, dilutions, counts);
-    first_failed(within, counted, are_so_many(dilutions))
+    check(within, n, dilutions, counts)
 }
