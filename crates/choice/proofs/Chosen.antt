@@ -13,7 +13,7 @@ use Rattle.integer.specs.laws.Laws.{nat_abs-+ℤ, nat_abs-neg_ℤ, nat_abs-zero}
 use Rattle.integer.specs.laws.Word.{held}
 use Rattle.choice.specs.Choice.{choose, smallest_fit, negative, minus_sign}
 use Rattle.choice.specs.Widest.{widest}
-use Rattle.choice.specs.declared.Choice.TheVariants.{NoTurn}
+use Rattle.std.specs.Prelude.{None}
 
 pub sign-test : (z : ℤ) → lt_z z (pos 0) ≡ negative z
 unfolding negative
@@ -33,7 +33,7 @@ module _ (app aqq : ℤ) (fp : SFits w64 app) (fq : SFits w64 aqq) (hp : nat_abs
   pub difference-back : to_z w64 (of_z w64 (to_z w64 (of_z w64 aqq) -ℤ to_z w64 (of_z w64 app))) ≡ aqq -ℤ app
   difference-back = rw difference (to_z-of_z difference-held)
 
-pub none : (app aqq apq : ℤ) → apq ≡ pos 0 → NoTurn ≡ choose app aqq apq
+pub none : (app aqq apq : ℤ) → apq ≡ pos 0 → None ≡ choose app aqq apq
 unfolding choose
 none app aqq apq e = rw e
 

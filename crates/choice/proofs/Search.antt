@@ -11,13 +11,13 @@ use Rattle.choice.specs.Widest.{widest}
 use Rattle.choice.specs.Threshold.{threshold, u, w}
 use Rattle.integer.specs.RoundedUp.{rounded_up}
 use Rattle.choice.specs.laws.Threshold.{threshold-most}
-use Rattle.choice.specs.Choice.{fits, smallest_fit}
-use Rattle.choice.specs.declared.Choice.TheVariants.{NoTurn, Turn}
+use Rattle.choice.specs.Choice.{fits, smallest_fit, turn_of}
+use Rattle.std.specs.Prelude.{Some, None}
 
 module _ (y g : ℕ) (minus : Bool) (l : ℕ) where
-  opened : l ≤ 14 → smallest_fit y g minus l (15 - l) ≡ cond (fits y g l) (Turn l minus) (smallest_fit y g minus (l + 1) (15 - (l + 1)))
+  opened : l ≤ 14 → smallest_fit y g minus l (15 - l) ≡ cond (fits y g l) (Some (turn_of l minus)) (smallest_fit y g minus (l + 1) (15 - (l + 1)))
   unfolding smallest_fit
-  opened h = rw (left, add-one) (ap (λ n. cond (fits y g l) (Turn l minus) (smallest_fit y g minus (suc l) n)) rest)
+  opened h = rw (left, add-one) (ap (λ n. cond (fits y g l) (Some (turn_of l minus)) (smallest_fit y g minus (suc l) n)) rest)
     where
       left : 15 - l ≡ suc (14 - l)
       left = omega arith
@@ -25,7 +25,7 @@ module _ (y g : ℕ) (minus : Bool) (l : ℕ) where
       rest : 14 - l ≡ 15 - suc l
       rest = omega arith
 
-  pub found : l ≤ 14 → threshold l * g ≤ y * 2 ^ 24 → smallest_fit y g minus l (15 - l) ≡ Turn l minus
+  pub found : l ≤ 14 → threshold l * g ≤ y * 2 ^ 24 → smallest_fit y g minus l (15 - l) ≡ Some (turn_of l minus)
   unfolding fits
   found h e = rw (opened h, le-leb _ _ e)
 
@@ -33,7 +33,7 @@ module _ (y g : ℕ) (minus : Bool) (l : ℕ) where
   unfolding fits
   passed h e = rw (opened h, lt-leb _ _ e)
 
-  pub exhausted : l ≡ 15 → smallest_fit y g minus l (15 - l) ≡ NoTurn
+  pub exhausted : l ≡ 15 → smallest_fit y g minus l (15 - l) ≡ None
   unfolding smallest_fit
   exhausted e = rw e
 

@@ -1,8 +1,8 @@
 -- Document 01, 'Choosing a turn', as a rule: what holds of the choice of a pair. That it holds of `choose` and of no other choice is laws/Smallest.
-use Rattle.std.specs.Prelude.{◌≡◌, ◌≢◌, Bool, true, false, ℕ, ◌*◌, ◌<◌, ◌≤◌, ◌^◌, ℤ, pos, nat_abs, ◌-ℤ◌, ◌<ℤ◌}
+use Rattle.std.specs.Prelude.{◌≡◌, ◌≢◌, Bool, true, false, ℕ, ◌*◌, ◌<◌, ◌≤◌, ◌^◌, ℤ, pos, nat_abs, ◌-ℤ◌, ◌<ℤ◌, Option, Some, None}
 use Rattle.choice.specs.Threshold.{threshold}
-use Rattle.choice.specs.declared.Choice.{Choice}
-use Rattle.choice.specs.declared.Choice.TheVariants.{NoTurn, Turn}
+use Rattle.choice.specs.Choice.{turn_of}
+use Rattle.choice.specs.declared.Turn.{Turn}
 
 -- 'y × 2^24 ≥ T_l × g', and that it is not so
 abbrev pub Fits : ℕ → ℕ → ℕ → Type 0
@@ -34,10 +34,10 @@ pub record Chosen (app aqq apq : ℤ) (l : ℕ) (minus : Bool) : Type 0 where
   pub size : LeastFit (2 * nat_abs apq) (nat_abs (aqq -ℤ app)) l
   pub sign : SignOf apq (aqq -ℤ app) minus
 
-pub data Chooses (app aqq apq : ℤ) : Choice → Type 0 where
+pub data Chooses (app aqq apq : ℤ) : Option Turn → Type 0 where
   -- 'a_pq = 0: no turn'
-  zero-entry : apq ≡ pos 0 → Chooses app aqq apq NoTurn
+  zero-entry : apq ≡ pos 0 → Chooses app aqq apq None
   -- 'Otherwise l is the smallest from 1 to 14 ..', 'The sign f is ..'
-  a_turn : {l : ℕ} {minus : Bool} → Chosen app aqq apq l minus → Chooses app aqq apq (Turn l minus)
+  a_turn : {l : ℕ} {minus : Bool} → Chosen app aqq apq l minus → Chooses app aqq apq (Some (turn_of l minus))
   -- 'If none fits, no turn'
-  none-fits : ((l : ℕ) → 1 ≤ l → l ≤ 14 → Fails (2 * nat_abs apq) (nat_abs (aqq -ℤ app)) l) → Chooses app aqq apq NoTurn
+  none-fits : ((l : ℕ) → 1 ≤ l → l ≤ 14 → Fails (2 * nat_abs apq) (nat_abs (aqq -ℤ app)) l) → Chooses app aqq apq None

@@ -6,11 +6,11 @@ ghost use Rattle.choice.specs.Threshold.{threshold};
 ghost use Rattle.choice.specs.Choice.{choose, smallest_fit};
 ghost use Rattle.choice.specs.Widest.{widest};
 
-// What the choice rule gives a pair: no turn, or the l and whether the sign f is −1.
-#[derive(Clone, Copy)]
-pub enum Choice {
-    NoTurn,
-    Turn { l: u32, minus: bool },
+// What the choice rule gives a pair that is turned: the l, and whether the sign f is −1.
+#[derive(Clone, Copy, Debug, PartialEq, Eq)]
+pub struct Turn {
+    pub l: u32,
+    pub minus: bool,
 }
 
 // T_l stands at l − 1.
@@ -28,28 +28,26 @@ pub fn threshold_of(l: u32) -> u64
 }
 
 // The smallest l from 1 to 14 that fits y and g.
-fn smallest_fit(y: u64, g: u64, minus: bool) -> Choice
+fn smallest_fit(y: u64, g: u64, minus: bool) -> Option<Turn>
     requires { (y ≤ 2 * widest) × (g ≤ 2 * widest) }
     ensures { result ≡ smallest_fit y g minus 1 14 }
 {
     let scaled = y * 0x100_0000;
-    let mut l = 1;
-    while l <= 14 {
+    for l in 1..=14 {
         if threshold_of(l) * g <= scaled {
-            return Choice::Turn { l, minus };
+            return Some(Turn { l, minus });
         }
-        l += 1;
     }
-    Choice::NoTurn
+    None
 }
 
 // The turn of a pair p < q, from a_pp, a_qq and a_pq.
-pub fn choose_turn(app: i64, aqq: i64, apq: i64) -> Choice
+pub fn choose_turn(app: i64, aqq: i64, apq: i64) -> Option<Turn>
     requires { (nat_abs app ≤ widest) × (nat_abs aqq ≤ widest) × (nat_abs apq ≤ widest) }
     ensures { result ≡ choose app aqq apq }
 {
     if apq == 0 {
-        return Choice::NoTurn;
+        return None;
     }
     let difference = aqq - app;
     let minus = (apq < 0) == (difference < 0);
