@@ -1,7 +1,6 @@
 -- Document 02, W11: a turn gains for every symmetric matrix that a record can hold. Like demand 3 it is one claim about every list of calls.
-use Rattle.std.specs.Prelude.{◌≡◌, Bool, List, [], ◌∷◌, ◌++◌, ℕ, ◌-◌}
-use Rattle.choice.specs.Choice.{choose}
-use Rattle.choice.specs.declared.Choice.TheVariants.{Turn}
+use Rattle.std.specs.Prelude.{◌≡◌, Bool, List, [], ◌∷◌, ◌++◌, ℕ, ◌-◌, Some}
+use Rattle.choice.specs.Choice.{choose, turn_of}
 use Rattle.turn.specs.Gain.{Gains}
 use Rattle.turn.specs.Rotation.{rotation_of}
 use Rattle.ledger.specs.Bench.{NamedCall}
@@ -15,8 +14,8 @@ use Rattle.ledger.specs.declared.Order.{Order}
 -- the turn that the choice rule picks for a pair of the ledger's matrix B, if it picks one, is the one that the ledger makes, and it gains
 abbrev pub PairGains : State → Pair → Type 0
 PairGains s pair =
-    (l : ℕ) (minus : Bool) → choose (s.B pair.p pair.p) (s.B pair.q pair.q) (s.B pair.p pair.q) ≡ Turn l minus →
-    (turn_pair s pair ≡ take s pair (Turn l minus)) × Gains s.n (rotation_of l minus) pair.p pair.q s.B
+    (l : ℕ) (minus : Bool) → choose (s.B pair.p pair.p) (s.B pair.q pair.q) (s.B pair.p pair.q) ≡ Some (turn_of l minus) →
+    (turn_pair s pair ≡ take s pair (Some (turn_of l minus))) × Gains s.n (rotation_of l minus) pair.p pair.q s.B
 
 -- the calls that turn, and their pairs in order, on n channels
 pub data Turning (n : ℕ) : Call → List Pair → Type 0 where

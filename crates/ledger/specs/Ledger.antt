@@ -1,12 +1,11 @@
 -- Document 01, 'The ledger of demand 3': fed the calls alone, each with its arguments, in order. Document 02, W5: it 'keeps S and e'.
-use Rattle.std.specs.Prelude.{ℕ, suc, ◌-◌, ◌*◌, cond, List, [], ◌∷◌, eqb, ℤ, pos, ◌*ℤ◌}
+use Rattle.std.specs.Prelude.{ℕ, suc, ◌-◌, ◌*◌, cond, List, [], ◌∷◌, eqb, ℤ, pos, ◌*ℤ◌, Option, Some, None}
 use Rattle.turn.specs.Exact.{exact}
 use Rattle.turn.specs.Rotation.{rotation_of}
 use Rattle.turn.specs.Turn.{turned, turned_axes}
 use Rattle.limits.specs.Limits.{entry_limit, units, whole}
 use Rattle.choice.specs.Choice.{choose}
-use Rattle.choice.specs.declared.Choice.{Choice}
-use Rattle.choice.specs.declared.Choice.TheVariants.{NoTurn, Turn}
+use Rattle.choice.specs.declared.Turn.{Turn}
 use Rattle.integer.specs.Matrix.{Matrix, diagonal, product, matrix_of}
 use Rattle.ledger.specs.Bench.{NamedCall, is_bench}
 use Rattle.ledger.specs.Call.{Call, load, load_samples, turn, sweep_in, loose_pair, axis}
@@ -51,10 +50,10 @@ loaded_state n numbers scattered shift =
 
 -- 'If a turn is chosen, B and V take it with rounding, Q is multiplied from the left by its exact rotation, and m grows by 1. If none is, nothing
 -- changes'
-unfoldable pub take : State → Pair → Choice → State
-take s pair NoTurn = s
-take s pair (Turn l minus) =
-    let r = rotation_of l minus in
+unfoldable pub take : State → Pair → Option Turn → State
+take s pair None = s
+take s pair (Some picked) =
+    let r = rotation_of picked.l picked.minus in
     record {
       n = s.n;
       A = s.A;

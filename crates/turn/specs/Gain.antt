@@ -1,10 +1,9 @@
 -- Document 02, W11: how much a turn gains. Everything is in whole numbers, multiplied by what clears the denominators, N² or N⁴.
-use Rattle.std.specs.Prelude.{◌≡◌, Bool, cond, ℕ, ◌+◌, ◌*◌, ◌<◌, ◌≤◌, eqb, nat_abs}
+use Rattle.std.specs.Prelude.{◌≡◌, Bool, cond, ℕ, ◌+◌, ◌*◌, ◌<◌, ◌≤◌, eqb, nat_abs, Some}
 use Rattle.integer.specs.Matrix.{Matrix, Symmetric, conjugate}
 use Rattle.integer.specs.Square.{sq}
 use Rattle.integer.specs.Sum.{sumℕ}
-use Rattle.choice.specs.Choice.{choose}
-use Rattle.choice.specs.declared.Choice.TheVariants.{Turn}
+use Rattle.choice.specs.Choice.{choose, turn_of}
 use Rattle.turn.specs.Exact.{exact}
 use Rattle.turn.specs.Rotation.{rotation_of}
 use Rattle.turn.specs.Turn.{turned}
@@ -31,5 +30,5 @@ pub record Gains (n : ℕ) (r : Rotation) (p q : ℕ) (a : Matrix) : Type 0 wher
 -- 'For every pair where the choice rule picks a turn', of every symmetric matrix of whole numbers
 abbrev pub Turns-gain : Type 0
 Turns-gain =
-    (n p q : ℕ) → p < q → q < n → (a : Matrix) → Symmetric n a → (l : ℕ) (minus : Bool) → choose (a p p) (a q q) (a p q) ≡ Turn l minus →
+    (n p q : ℕ) → p < q → q < n → (a : Matrix) → Symmetric n a → (l : ℕ) (minus : Bool) → choose (a p p) (a q q) (a p q) ≡ Some (turn_of l minus) →
     Gains n (rotation_of l minus) p q a

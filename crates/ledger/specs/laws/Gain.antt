@@ -1,8 +1,8 @@
 -- A turn of a pair gains, where the matrix is symmetric, and leaves it symmetric. That every turn of every list of calls gains is proofs/Gain's.
 use Rattle.integer.specs.Matrix.{Symmetric}
 use Rattle.choice.specs.Choice.{choose}
-use Rattle.choice.specs.declared.Choice.{Choice}
-use Rattle.choice.specs.declared.Choice.TheVariants.{NoTurn, Turn}
+use Rattle.choice.specs.declared.Turn.{Turn}
+use Rattle.std.specs.Prelude.{Option, Some, None}
 use Rattle.turn.specs.Rotation.{rotation_of}
 use Rattle.turn.specs.laws.Symmetry.{turned-symmetric}
 use Rattle.turn.proofs.Gain.{gains}
@@ -23,6 +23,6 @@ pub pair-mirrored : (s : State) → Mirrored s → (pair : Pair) → Ordered s.n
 unfolding turn_pair take
 pair-mirrored s h pair o = cases (choose (s.B pair.p pair.p) (s.B pair.q pair.q) (s.B pair.p pair.q))
   where
-    cases : (choice : Choice) → Mirrored (take s pair choice)
-    cases NoTurn = h
-    cases (Turn l minus) = λ i j c d. turned-symmetric (rotation_of l minus) pair.p pair.q s.B o.ordered i j (h i j c d)
+    cases : (choice : Option Turn) → Mirrored (take s pair choice)
+    cases None = h
+    cases (Some picked) = λ i j c d. turned-symmetric (rotation_of picked.l picked.minus) pair.p pair.q s.B o.ordered i j (h i j c d)

@@ -1,13 +1,12 @@
 -- What the pairs of a sweep leave of a state, and that they keep it sound. That it is sound after every list of calls is proofs/Invariant's.
-use Rattle.std.specs.Prelude.{◌≡◌, ℕ, ◌+◌, ◌≤◌, length}
+use Rattle.std.specs.Prelude.{◌≡◌, ℕ, ◌+◌, ◌≤◌, length, Option, Some, None}
 use Rattle.std.proofs.Math.Path.{refl}
 use Rattle.std.proofs.Common.{◌∙◌}
 use mathlib.Core.List.{List, [], ◌∷◌}
 use native.Mathlib.Omega.{arith}
 use Rattle.limits.specs.Limits.{turn_limit}
 use Rattle.choice.specs.Choice.{choose}
-use Rattle.choice.specs.declared.Choice.{Choice}
-use Rattle.choice.specs.declared.Choice.TheVariants.{NoTurn, Turn}
+use Rattle.choice.specs.declared.Turn.{Turn}
 use Rattle.ledger.specs.Ledger.{State, Ledger, empty, loaded, take, turn_pair, turn_pairs}
 use Rattle.ledger.specs.Pairs.{Pair, Each}
 use Rattle.ledger.specs.laws.Sound.{Sound}
@@ -27,9 +26,9 @@ pub turn_pair-continues : (s : State) (pair : Pair) → Continues 1 s (turn_pair
 unfolding turn_pair take
 turn_pair-continues s pair = cases (choose (s.B pair.p pair.p) (s.B pair.q pair.q) (s.B pair.p pair.q))
   where
-    cases : (choice : Choice) → Continues 1 s (take s pair choice)
-    cases NoTurn = record { size = refl; given = refl; scatter = refl; shift = refl; least = omega arith; most = omega arith }
-    cases (Turn l minus) = record { size = refl; given = refl; scatter = refl; shift = refl; least = omega arith; most = omega arith }
+    cases : (choice : Option Turn) → Continues 1 s (take s pair choice)
+    cases None = record { size = refl; given = refl; scatter = refl; shift = refl; least = omega arith; most = omega arith }
+    cases (Some picked) = record { size = refl; given = refl; scatter = refl; shift = refl; least = omega arith; most = omega arith }
 
 -- a list of pairs makes at most one turn for each
 pub turn_pairs-continues : (s : State) (pairs : List Pair) → Continues (length pairs) s (turn_pairs s pairs)

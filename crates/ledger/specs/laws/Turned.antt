@@ -1,5 +1,5 @@
 -- A turn of a sound state gives a sound state.
-use Rattle.std.specs.Prelude.{◌≡◌, ℕ, ◌*◌, ◌<◌, pos}
+use Rattle.std.specs.Prelude.{◌≡◌, ℕ, ◌*◌, ◌<◌, pos, Option, Some, None}
 use Rattle.std.proofs.Common.{◌∙◌, ap, mul-le-mul, arith}
 use Rattle.integer.specs.Square.{sq}
 use Rattle.integer.specs.Sum.{sumℕ}
@@ -11,8 +11,7 @@ use Rattle.turn.specs.laws.Symmetry.{turned-symmetric}
 use Rattle.turn.specs.declared.pair.Rotation.{Rotation}
 use Rattle.limits.specs.Limits.{turn_limit}
 use Rattle.choice.specs.Choice.{choose}
-use Rattle.choice.specs.declared.Choice.{Choice}
-use Rattle.choice.specs.declared.Choice.TheVariants.{NoTurn, Turn}
+use Rattle.choice.specs.declared.Turn.{Turn}
 use Rattle.ledger.specs.Pairs.{Ordered}
 use Rattle.ledger.specs.Ledger.{State, take, turn_pair}
 use Rattle.ledger.specs.laws.Near.{matrix-near-turn, axes-near-turn}
@@ -21,10 +20,10 @@ use Rattle.ledger.specs.Sound.{matrix_bound, axes_bound}
 use Rattle.ledger.specs.laws.Sound.{Sound}
 
 -- Every part by the theory of one turn. Of the choice it uses only that a turn is by some l, for all l together
-sound-take : (s : State) (pair : Pair) → Sound s → Ordered s.n pair → s.m < turn_limit → (choice : Choice) → Sound (take s pair choice)
+sound-take : (s : State) (pair : Pair) → Sound s → Ordered s.n pair → s.m < turn_limit → (choice : Option Turn) → Sound (take s pair choice)
 unfolding take
-sound-take s pair h o left NoTurn = h
-sound-take s pair h o left (Turn l minus) = record {
+sound-take s pair h o left None = h
+sound-take s pair h o left (Some picked) = record {
   low = h.low;
   high = h.high;
   entries = h.entries;
@@ -44,10 +43,10 @@ sound-take s pair h o left (Turn l minus) = record {
 }
   where
     r : Rotation
-    r = rotation_of l minus
+    r = rotation_of picked.l picked.minus
 
     w : Whole r
-    w = rotation_of-whole l minus
+    w = rotation_of-whole picked.l picked.minus
 
     n : ℕ
     n = s.n

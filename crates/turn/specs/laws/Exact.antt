@@ -1,6 +1,6 @@
 -- Laws of this subject: Document 01's exact rotation R, written whole, that is N times it: it multiplies sums of squares by N², and R Rᵀ is N²
 -- times the identity.
-use Rattle.std.specs.Prelude.{◌≡◌, refl, ◌≢◌, Bool, true, false, [], ◌∷◌, ℕ, zero, suc, ◌+◌, ◌*◌, ◌<◌, ◌^◌, ℤ, pos, neg_ℤ, ◌+ℤ◌, ◌*ℤ◌}
+use Rattle.std.specs.Prelude.{◌≡◌, refl, ◌≢◌, Bool, true, false, [], ◌∷◌, ℕ, zero, suc, ◌+◌, ◌*◌, ◌<◌, ◌^◌, ℤ, pos, neg_ℤ, ◌+ℤ◌, ◌*ℤ◌, Some}
 use Rattle.std.proofs.Common.{sym, ◌∙◌, ap, pow-suc, add-one, arith}
 use Rattle.integer.specs.laws.Ring.{ring, linear-combination, reading}
 use Rattle.integer.specs.Square.{sq}
@@ -12,8 +12,7 @@ use Rattle.integer.specs.laws.Pair.{Rotated, rotated-squares, rotated-columns, r
 use Rattle.integer.specs.Matrix.{Matrix, Same, product, transpose, conjugate, diagonal, squares}
 use Rattle.integer.specs.laws.Matrix.{conjugate-cong, conjugate-rows, conjugate-diagonal, product-transpose, diagonal-same, diagonal-other}
 use Rattle.integer.specs.laws.Matrix.{diagonal-transpose, diagonal-*, dot-diagonal, dot-pair}
-use Rattle.choice.specs.Choice.{sign_of}
-use Rattle.choice.specs.declared.Choice.TheVariants.{Turn}
+use Rattle.choice.specs.Choice.{sign_of, turn_of}
 use Rattle.turn.specs.Rotation.{rotation_of}
 use Rattle.integer.specs.Signed.{signed}
 use Rattle.turn.specs.Turn.{at_pair}
@@ -45,7 +44,7 @@ rotation_of-whole l minus = record {
 }
 
 -- 's = f × 2^(l+1)', with f as the choice of a turn gives it
-pub rotation_of-sign : (l : ℕ) (minus : Bool) → (rotation_of l minus).s ≡ sign_of (Turn l minus) *ℤ pos (2 ^ (l + 1))
+pub rotation_of-sign : (l : ℕ) (minus : Bool) → (rotation_of l minus).s ≡ sign_of (Some (turn_of l minus)) *ℤ pos (2 ^ (l + 1))
 unfolding rotation_of signed sign_of
 rotation_of-sign l true = ring (pos (2 ^ (l + 1)) ∷ []) (search reading depth 20) tt
 rotation_of-sign l false = ring (pos (2 ^ (l + 1)) ∷ []) (search reading depth 20) tt

@@ -1,5 +1,5 @@
 -- Blocks of two channels: a turn that gains, and turns that `half` and `kept` of `Gains` each rule out.
-use Rattle.std.specs.Prelude.{◌≡◌, refl, true, false, cond, ℕ, ◌+◌, ◌≤◌, eqb, pos}
+use Rattle.std.specs.Prelude.{◌≡◌, refl, true, false, cond, ℕ, ◌+◌, ◌≤◌, eqb, pos, Some}
 use Rattle.std.proofs.Common.{arith}
 use Rattle.integer.specs.Dot.{dot}
 use Rattle.integer.specs.Matrix.{Matrix, conjugate, diagonal, product}
@@ -7,9 +7,8 @@ use Rattle.integer.specs.RoundedUp.{rounded_up}
 use Rattle.integer.specs.Signed.{signed}
 use Rattle.integer.specs.Sum.{sum}
 use Rattle.rounding.specs.Rounding.{rnd}
-use Rattle.choice.specs.Choice.{choose, fits, minus_sign, negative, smallest_fit}
+use Rattle.choice.specs.Choice.{choose, fits, minus_sign, negative, smallest_fit, turn_of}
 use Rattle.choice.specs.Threshold.{threshold, u, w}
-use Rattle.choice.specs.declared.Choice.TheVariants.{Turn}
 use Rattle.turn.specs.Exact.{exact}
 use Rattle.turn.specs.Gain.{Gains}
 use Rattle.turn.specs.Rotation.{first, rotation_of, second}
@@ -30,6 +29,6 @@ unfolding turned newp newpq hpp hpq first second rnd at_pair rotation_of signed
 not-six-quarters g = let above : 8 ≤ 7 = g.kept in omega (arith, above)
 
 -- the choice rule picks a turn of this block, and it gains: 41/289 of a_pq is left
-pub picked : choose (block 1 1 0 0) (block 1 1 1 1) (block 1 1 0 1) ≡ Turn 2 true
+pub picked : choose (block 1 1 0 0) (block 1 1 1 1) (block 1 1 0 1) ≡ Some (turn_of 2 true)
 unfolding choose smallest_fit fits threshold rounded_up u w minus_sign negative
 picked = refl

@@ -1,5 +1,5 @@
 -- Where the choice rule picks a turn, the exactly rotated a_pq is at most half the old one in size.
-use Rattle.std.specs.Prelude.{◌≡◌, Bool, false, [], ◌∷◌, ℕ, suc, ◌+◌, ◌-◌, ◌*◌, ◌<◌, ◌≤◌, ◌^◌, leb, ℤ, pos, negsuc, neg_ℤ, ◌+ℤ◌, ◌-ℤ◌, ◌*ℤ◌}
+use Rattle.std.specs.Prelude.{◌≡◌, Bool, false, [], ◌∷◌, ℕ, suc, ◌+◌, ◌-◌, ◌*◌, ◌<◌, ◌≤◌, ◌^◌, leb, ℤ, pos, negsuc, neg_ℤ, ◌+ℤ◌, ◌-ℤ◌, ◌*ℤ◌, Some}
 use Rattle.std.proofs.Common.{sym, ◌∙◌, le_of_lt, arith, leb→le}
 use Rattle.std.proofs.Math.Path.{ap}
 use Rattle.std.proofs.Math.Decide.{dec_lt}
@@ -9,13 +9,12 @@ use Rattle.integer.specs.laws.Laws.{nat_abs-neg_ℤ, nat_abs--ℤ, pos-injective
 use Rattle.integer.specs.Matrix.{Matrix, product, conjugate}
 use Rattle.integer.specs.Matrix.{Symmetric}
 use Rattle.integer.specs.laws.Ring.{ring, reading}
-use Rattle.choice.specs.Choice.{choose, minus_sign, negative}
+use Rattle.choice.specs.Choice.{choose, minus_sign, negative, turn_of}
 use Rattle.choice.specs.Rule.{LeastFit}
 use Rattle.choice.specs.Threshold.{threshold, u, w}
 use Rattle.integer.specs.RoundedUp.{rounded_up}
 use Rattle.choice.specs.laws.Threshold.{from-1-to-14}
 use Rattle.choice.specs.laws.Smallest.{chosen-rule, sign-rule, sign-unique}
-use Rattle.choice.specs.declared.Choice.TheVariants.{Turn}
 use Rattle.turn.specs.laws.Exact.{rotation_of-whole, exact-rows, exact-columns}
 use Rattle.turn.specs.Exact.{exact}
 use Rattle.turn.specs.Gain.{exactly_turned}
@@ -132,7 +131,7 @@ module _ (l x g : ℕ) (f : LeastFit (2 * x) g l) where
   half = omega (arith, above, below)
 
 -- 'the exactly rotated a_pq, before rounding, is at most half the old one in size'
-pub halved : (n p q : ℕ) → p < q → q < n → (a : Matrix) → Symmetric n a → (l : ℕ) (minus : Bool) → choose (a p p) (a q q) (a p q) ≡ Turn l minus →
+pub halved : (n p q : ℕ) → p < q → q < n → (a : Matrix) → Symmetric n a → (l : ℕ) (minus : Bool) → choose (a p p) (a q q) (a p q) ≡ Some (turn_of l minus) →
     let r = rotation_of l minus in 2 * nat_abs (exactly_turned n r p q a p q) ≤ r.n * r.n * nat_abs (a p q)
 unfolding rotation_of S Opposed
 halved n p q o m a h l minus e =
