@@ -11,10 +11,11 @@ use lib.ListN.{length, get_or, set}
 use lib.Seq.{slice, slice-cons, slice_empty, sets}
 use Rattle.job.specs.inner.LineScan.{line_at, sample_within}
 use Rattle.job.specs.declared.sample.Line.{Line}
-use Rattle.job.specs.declared.sample.Extent.TheVariants.{To, Malformed}
-use Rattle.job.specs.inner.Scan.{refused_reading, finished_at, kept, sample_of, samples_at}
+use Rattle.std.specs.Prelude.{Option, None, Some, Result}
+use Rattle.refusal.specs.declared.Refusal.TheVariants.{OutOfRange, SampleCount}
+use Rattle.job.specs.inner.Scan.{refused_at, finished_at, kept, sample_of, samples_at}
 use Rattle.job.specs.declared.Job.{Job}
-use Rattle.job.specs.declared.Reading.{Reading}
+use Rattle.job.specs.declared.RefusedLine.{RefusedLine}
 
 -- r is the list with all the counts of a sample kept, where those before number i are in l.
 module _ (r l xs : List ℕ) (to i n : ℕ) (q : r ≡ sets l to (slice i (n + 1) xs)) where
@@ -32,28 +33,28 @@ kept-within k n h g =
     omega (arith, mul-le-mul_right n h')
 
 -- r is the reading, which has come to the place `at` with the samples of j; l is the line there.
-module _ (r : Reading) (text : List ℕ) (at : ℕ) (j : Job) (q : r ≡ samples_at (257 - j.k) text at j) (w : j.k ≤ 256) (l : Line)
+module _ (r : Result Job RefusedLine) (text : List ℕ) (at : ℕ) (j : Job) (q : r ≡ samples_at (257 - j.k) text at j) (w : j.k ≤ 256) (l : Option Line)
     (p : l ≡ line_at text at 83 j.n) where
-  come : r ≡ sample_of text at j l.extent l.numbers (λ next. samples_at (257 - (j.k + 1)) text next (kept j l.numbers))
+  come : r ≡ sample_of text at j l (λ line. samples_at (257 - (j.k + 1)) text line.next (kept j line.numbers))
   unfolding samples_at
   come =
       let e : 257 - j.k ≡ suc (257 - (j.k + 1)) = omega arith in
       q ∙ ap (λ (m : ℕ). samples_at m text at j) e ∙ rw (← p) refl
 
-  pub samples-end : l.extent ≡ Malformed → finished_at text at j ≡ r
+  pub samples-end : l ≡ None → finished_at text at j ≡ r
   unfolding sample_of
   samples-end e = sym (come ∙ rw e refl)
 
-  module _ (next : ℕ) (e : l.extent ≡ To next) where
-    pub samples-beyond : sample_within j.n l.numbers ≡ false → refused_reading 2 (j.k + 2) ≡ r
+  module _ (line : Line) (e : l ≡ Some line) where
+    pub samples-beyond : sample_within j.n line.numbers ≡ false → refused_at OutOfRange (j.k + 2) ≡ r
     unfolding sample_of
     samples-beyond f = sym (come ∙ rw e (simp f))
 
-    module _ (t : sample_within j.n l.numbers ≡ true) where
-      pub samples-full : 256 ≤ j.k → refused_reading 3 (j.k + 2) ≡ r
+    module _ (t : sample_within j.n line.numbers ≡ true) where
+      pub samples-full : 256 ≤ j.k → refused_at SampleCount (j.k + 2) ≡ r
       unfolding sample_of
       samples-full h = sym (come ∙ rw e (simp (t, le-ltb _ _ h)))
 
-      pub samples-more : j.k < 256 → r ≡ samples_at (257 - (j.k + 1)) text next (kept j l.numbers)
+      pub samples-more : j.k < 256 → r ≡ samples_at (257 - (j.k + 1)) text line.next (kept j line.numbers)
       unfolding sample_of
       samples-more h = come ∙ rw e (simp (t, lt-ltb _ _ h))

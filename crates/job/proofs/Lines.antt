@@ -11,9 +11,9 @@ use Rattle.integer.specs.Within.{within, all_within}
 use Rattle.job.specs.inner.FieldScan.{field_at}
 use Rattle.job.specs.declared.field.Field.{Field}
 use Rattle.job.specs.declared.field.Field.TheVariants.{Inner, Last, Bad}
-use Rattle.job.specs.inner.LineScan.{malformed_line, last_number, inner_number, numbers_at}
+use Rattle.std.specs.Prelude.{Option, None, Some}
+use Rattle.job.specs.inner.LineScan.{last_number, inner_number, numbers_at}
 use Rattle.job.specs.declared.sample.Line.{Line}
-use Rattle.job.specs.declared.sample.Extent.TheVariants.{To}
 
 -- u is the test of all the counts of a sample, which has come to number i.
 module _ (u : Bool) (xs : List ℕ) (i n low high : ℕ) (q : u ≡ all_within low high (slice i (n + 1) xs)) (l : length xs ≡ 9) (k : n ≤ 8) where
@@ -42,20 +42,20 @@ IsNotInner f = (v next : ℕ) → f ≡ Inner v next → ⊥
 abbrev pub IsNotLast : Field → Type 0
 IsNotLast f = (v next : ℕ) → f ≡ Last v next → ⊥
 
-inner-only : (f : Field) (go : ℕ → ℕ → Line) → IsNotInner f → inner_number f go ≡ malformed_line
+inner-only : (f : Field) (go : ℕ → ℕ → Option Line) → IsNotInner f → inner_number f go ≡ None
 unfolding inner_number
 inner-only (Inner v next) go h = absurd (h v next refl)
 inner-only (Last v next) go h = refl
 inner-only Bad go h = refl
 
-last-only : (f : Field) (xs : List ℕ) (i : ℕ) → IsNotLast f → last_number xs i f ≡ malformed_line
+last-only : (f : Field) (xs : List ℕ) (i : ℕ) → IsNotLast f → last_number xs i f ≡ None
 unfolding last_number
 last-only (Inner v next) xs i h = refl
 last-only (Last v next) xs i h = absurd (h v next refl)
 last-only Bad xs i h = refl
 
 -- r is the line, read on from the field f at the place `at`.
-module _ (r : Line) (text xs : List ℕ) (at i m : ℕ) (q : r ≡ numbers_at text xs at i m) (f : Field) (p : f ≡ field_at text at) where
+module _ (r : Option Line) (text xs : List ℕ) (at i m : ℕ) (q : r ≡ numbers_at text xs at i m) (f : Field) (p : f ≡ field_at text at) where
   more : 0 < m → r ≡ inner_number f (λ v next. numbers_at text (set xs i v) next (i + 1) (m - 1))
   unfolding numbers_at
   more h =
@@ -66,16 +66,16 @@ module _ (r : Line) (text xs : List ℕ) (at i m : ℕ) (q : r ≡ numbers_at te
   unfolding inner_number
   numbers_more h v next g = more h ∙ rw g refl
 
-  pub numbers-broken : 0 < m → IsNotInner f → malformed_line ≡ r
+  pub numbers-broken : 0 < m → IsNotInner f → None ≡ r
   numbers-broken h g = sym (more h ∙ inner-only f _ g)
 
-  pub numbers-unended : m ≤ 0 → IsNotLast f → malformed_line ≡ r
+  pub numbers-unended : m ≤ 0 → IsNotLast f → None ≡ r
   unfolding numbers_at
   numbers-unended h g =
       let e : m ≡ 0 = omega arith in
       sym (q ∙ ap (numbers_at text xs at i) e ∙ rw (← p) (last-only f xs i g))
 
-  pub numbers-last : m ≤ 0 → (v next : ℕ) → f ≡ Last v next → record { extent = To next; numbers = set xs i v } ≡ r
+  pub numbers-last : m ≤ 0 → (v next : ℕ) → f ≡ Last v next → Some (record { numbers = set xs i v; next = next }) ≡ r
   unfolding numbers_at last_number
   numbers-last h v next g =
       let e : m ≡ 0 = omega arith in

@@ -15,9 +15,9 @@ use Rattle.text.specs.Parts.{onto, split, before}
 use Rattle.integer.specs.laws.Within.{both}
 use Rattle.job.specs.inner.FieldScan.{field_at, tagged_from, tagged_at}
 use Rattle.job.specs.Text.{number_of, numbers_of, is_tag, record_of, line_of}
-use Rattle.job.specs.inner.LineScan.{malformed_line, last_number, inner_number, numbers_at, line_at}
+use Rattle.std.specs.Prelude.{Option as Found, None, Some}
+use Rattle.job.specs.inner.LineScan.{last_number, inner_number, numbers_at, line_at}
 use Rattle.job.specs.declared.sample.Line.{Line}
-use Rattle.job.specs.declared.sample.Extent.TheVariants.{To}
 use Rattle.job.proofs.Numeral.{number_is}
 use Rattle.job.proofs.Fields.{End, tab, feed, over, Cut, at-tab, at-feed, at-over, past, cut_of, ended, field_cut, drop-cut, split-tab}
 use Rattle.job.proofs.Fields.{split-feed, split-over}
@@ -35,10 +35,10 @@ numbers_in c (l ∷ []) = none
 numbers_in c (l ∷ part ∷ parts) = numbers_of c (split 9 l)
 
 -- What was read, and what the definition says: a malformed line; or c numbers, stored from place i of a row on, and the lines that follow.
-pub data Reads (text row : List ℕ) (i c : ℕ) (rest : List (List ℕ)) : Line → Option (List ℕ) → Type 0 where
-  bad : Reads text row i c rest malformed_line none
+pub data Reads (text row : List ℕ) (i c : ℕ) (rest : List (List ℕ)) : Found Line → Option (List ℕ) → Type 0 where
+  bad : Reads text row i c rest None none
   good : (xs : List ℕ) (next : ℕ) → length xs ≡ c → split 10 (drop next text) ≡ rest →
-      Reads text row i c rest (record { extent = To next; numbers = sets row i xs }) (some xs)
+      Reads text row i c rest (Some (record { numbers = sets row i xs; next = next })) (some xs)
 
 pub record Cons (ls : List (List ℕ)) : Type 0 where
   pub first : List ℕ
@@ -88,20 +88,20 @@ numbers-over : (c : ℕ) (f : List ℕ) → numbers_in c (f ∷ []) ≡ none
 unfolding numbers_in
 numbers-over c f = refl
 
-inner-over : (o : Option ℕ) (next : ℕ) (go : ℕ → ℕ → Line) → inner_number (ended over o next) go ≡ malformed_line
+inner-over : (o : Option ℕ) (next : ℕ) (go : ℕ → ℕ → Found Line) → inner_number (ended over o next) go ≡ None
 unfolding inner_number ended
 inner-over o next go = refl
 
-last-over : (row : List ℕ) (i : ℕ) (o : Option ℕ) (next : ℕ) → last_number row i (ended over o next) ≡ malformed_line
+last-over : (row : List ℕ) (i : ℕ) (o : Option ℕ) (next : ℕ) → last_number row i (ended over o next) ≡ None
 unfolding last_number ended
 last-over row i o next = refl
 
-inner-feed : (o : Option ℕ) (next : ℕ) (go : ℕ → ℕ → Line) → inner_number (ended feed o next) go ≡ malformed_line
+inner-feed : (o : Option ℕ) (next : ℕ) (go : ℕ → ℕ → Found Line) → inner_number (ended feed o next) go ≡ None
 unfolding inner_number ended
 inner-feed none next go = refl
 inner-feed (some v) next go = refl
 
-last-tab : (row : List ℕ) (i : ℕ) (o : Option ℕ) (next : ℕ) → last_number row i (ended tab o next) ≡ malformed_line
+last-tab : (row : List ℕ) (i : ℕ) (o : Option ℕ) (next : ℕ) → last_number row i (ended tab o next) ≡ None
 unfolding last_number ended
 last-tab row i none next = refl
 last-tab row i (some v) next = refl
@@ -113,13 +113,13 @@ module _ (text : List ℕ) where
   last-feed row i rest none next q = bad
   last-feed row i rest (some v) next q = good (v ∷ []) next refl q
 
-  one_more : {L : Line} {o : Option (List ℕ)} (row : List ℕ) (i c : ℕ) (rest : List (List ℕ)) (v : ℕ) →
+  one_more : {L : Found Line} {o : Option (List ℕ)} (row : List ℕ) (i c : ℕ) (rest : List (List ℕ)) (v : ℕ) →
       Reads text (set row i v) (i + 1) c rest L o → Reads text row i (suc c) rest L (before (some v) o)
   unfolding before
   one_more row i c rest v bad = bad
   one_more row i c rest v (good xs next h q) = rw (add-one i) (good (v ∷ xs) next (ap suc h) q)
 
-  inner-tab : (row : List ℕ) (i c : ℕ) (rest : List (List ℕ)) (o : Option ℕ) (next : ℕ) (go : ℕ → ℕ → Line) (os : Option (List ℕ)) →
+  inner-tab : (row : List ℕ) (i c : ℕ) (rest : List (List ℕ)) (o : Option ℕ) (next : ℕ) (go : ℕ → ℕ → Found Line) (os : Option (List ℕ)) →
       ((v : ℕ) → Reads text (set row i v) (i + 1) c rest (go v next) os) →
       Reads text row i (suc c) rest (inner_number (ended tab o next) go) (before o os)
   unfolding inner_number ended before
@@ -249,8 +249,8 @@ line-over : (tag c : ℕ) (f : List ℕ) → line_in tag c (f ∷ []) ≡ none
 unfolding line_in
 line-over tag c f = refl
 
-by-tag : (text row : List ℕ) (i c : ℕ) (rest : List (List ℕ)) (t : Bool) (L : Line) (o : Option (List ℕ)) →
-    (t ≡ true → Reads text row i c rest L o) → Reads text row i c rest (cond t L malformed_line) (cond t o none)
+by-tag : (text row : List ℕ) (i c : ℕ) (rest : List (List ℕ)) (t : Bool) (L : Found Line) (o : Option (List ℕ)) →
+    (t ≡ true → Reads text row i c rest L o) → Reads text row i c rest (cond t L None) (cond t o none)
 by-tag text row i c rest true L o f = f refl
 by-tag text row i c rest false L o f = bad
 

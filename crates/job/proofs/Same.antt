@@ -17,23 +17,24 @@ use Rattle.readings.specs.Ranges.{parameters_in_range}
 use Rattle.job.specs.Range.{sample_in_range}
 use Rattle.job.specs.inner.LineScan.{line_at, sample_within, parameters_of, parameters_at, ending_of, ending_at}
 use Rattle.job.specs.declared.sample.Line.{Line}
-use Rattle.job.specs.declared.sample.Extent.{Extent}
-use Rattle.job.specs.declared.sample.Extent.TheVariants.{To, Malformed}
-use Rattle.job.specs.declared.first.Parameters.TheVariants as First
-use Rattle.job.specs.declared.last.Ending.TheVariants as Last
+use Rattle.std.specs.Prelude.{Option as Found, None, Some, Result, Ok, Err}
+use Rattle.refusal.specs.declared.Refusal.TheVariants.{OutOfRange, SampleCount, WrongEnd}
+use Rattle.refusal.specs.Refusal.{numbered}
+use Rattle.job.specs.declared.first.Parameters.{Parameters}
+use Rattle.job.specs.declared.Job as Arrays
 use Rattle.job.proofs.Records.{line_in, Reads, bad, good, Cons, split-cons, line_read}
 use Rattle.job.specs.Job.{Job, Answer, refused, accepted, with_sample, next_line, nothing, ended, judged, job_after, begun, job_of_lines, job_of}
 use Rattle.integer.specs.Padded.{padded}
 use Rattle.integer.specs.laws.Padded.{padded-more}
 use Rattle.job.specs.Reading.{in_arrays, reading_of}
-use Rattle.job.specs.inner.Scan.{new_job, refused_reading, finished_by, finished_at, kept, sample_of, samples_at}
+use Rattle.job.specs.inner.Scan.{new_job, refused_at, finished_by, finished_at, kept, sample_of, samples_at}
 use Rattle.job.specs.laws.Scan.{reading_by, reading_at}
-use Rattle.job.specs.declared.Reading.{Reading}
+use Rattle.job.specs.declared.RefusedLine.{RefusedLine}
 use Rattle.job.proofs.Keeping.{kept-within}
 use Rattle.limits.specs.Limits.{least_channels, most_channels, least_sweeps, most_sweeps}
 
-refused-same : (number line : ℕ) → refused_reading number line ≡ reading_of (refused number line)
-unfolding refused_reading new_job reading_of in_arrays padded
+refused-same : (number line : ℕ) → refused_at (numbered number) line ≡ reading_of (refused number line)
+unfolding reading_of
 refused-same number line = refl
 
 -- ---- the row of a line's numbers
@@ -109,17 +110,17 @@ module _ (j : Job) (fair : Fair j) (xs : List ℕ) (e : length xs ≡ suc j.n) (
 -- ---- the lines after the first
 
 module _ (text : List ℕ) (at : ℕ) (j : Job) (go : List ℕ → Answer) where
-  ended_same : (a b : Bool) → finished_by (in_arrays j) (cond a (Last.Refused 3) (cond b Last.Accepted (Last.Refused 4))) ≡ reading_of
+  ended_same : (a b : Bool) → finished_by (in_arrays j) (cond a (Err SampleCount) (cond b (Ok (record {})) (Err WrongEnd))) ≡ reading_of
       (cond a (refused 3 (next_line j)) (cond b (accepted j) (refused 4 (next_line j))))
-  unfolding finished_by reading_of next_line in_arrays refused_reading new_job padded
+  unfolding finished_by reading_of next_line in_arrays
   ended_same true b = refl
   ended_same false true = refl
   ended_same false false = refl
 
-  finished-same : (rest : List (List ℕ)) {L : Line} {o : Option (List ℕ)} → Reads text (replicate 9 0) 0 1 rest L o →
-      finished_by (in_arrays j) (ending_of text (length j.dilutions) L.extent L.numbers) ≡ reading_of (judged j none o rest go)
+  finished-same : (rest : List (List ℕ)) {L : Found Line} {o : Option (List ℕ)} → Reads text (replicate 9 0) 0 1 rest L o →
+      finished_by (in_arrays j) (ending_of text (length j.dilutions) L) ≡ reading_of (judged j none o rest go)
   unfolding ending_of judged ended
-  finished-same rest bad = unfold finished_by reading_of next_line in_arrays refused_reading new_job padded in refl
+  finished-same rest bad = unfold finished_by reading_of next_line in_arrays in refl
   finished-same rest (good xs next e q) =
       rw (row_at xs 0 (omega arith) (omega arith), nothing-after text next rest q)
       (ended_same (ltb (length j.dilutions) 2) (eqb (get_or xs 0 0) (length j.dilutions) && nothing rest))
@@ -133,8 +134,8 @@ after_is j (l ∷ []) = refl
 after_is j (l ∷ part ∷ parts) = refl
 
 -- A reading and an answer by whether a sample is in range, and whether there is room for it.
-sample-same : (j : Job) (a b : Bool) (x : Reading) (y : Answer) → (b ≡ true → x ≡ reading_of y) →
-    cond a (cond b x (refused_reading 3 (length j.dilutions + 2))) (refused_reading 2 (length j.dilutions + 2)) ≡ reading_of
+sample-same : (j : Job) (a b : Bool) (x : Result Arrays.Job RefusedLine) (y : Answer) → (b ≡ true → x ≡ reading_of y) →
+    cond a (cond b x (refused_at SampleCount (length j.dilutions + 2))) (refused_at OutOfRange (length j.dilutions + 2)) ≡ reading_of
     (cond a (cond b y (refused 3 (next_line j))) (refused 2 (next_line j)))
 unfolding next_line
 sample-same j true true x y f = f refl
@@ -143,17 +144,17 @@ sample-same j false b x y f = refused-same 2 (length j.dilutions + 2)
 
 -- The reading of a line after the first, by what was read as an `S` line and as an `E` line.
 judged-same : (text : List ℕ) (at : ℕ) (j : Job) → Fair j →
-    (rest : List (List ℕ)) (go : List ℕ → Answer) (continue : List ℕ → ℕ → Reading) {L : Line} {o oE : Option (List ℕ)} →
+    (rest : List (List ℕ)) (go : List ℕ → Answer) (continue : Line → Result Arrays.Job RefusedLine) {L : Found Line} {o oE : Option (List ℕ)} →
     Reads text (replicate 9 0) 0 (suc j.n) rest L o →
     Reads text (replicate 9 0) 0 1 rest (line_at text at 69 0) oE →
     ((xs : List ℕ) (next : ℕ) → length xs ≡ suc j.n → split 10 (drop next text) ≡ rest → length j.dilutions < 256 →
-    continue (sets (replicate 9 0) 0 xs) next ≡ reading_of (go xs)) →
-    sample_of text at (in_arrays j) L.extent L.numbers (continue L.numbers) ≡ reading_of (judged j o oE rest go)
+    continue (record { numbers = sets (replicate 9 0) 0 xs; next = next }) ≡ reading_of (go xs)) →
+    sample_of text at (in_arrays j) L continue ≡ reading_of (judged j o oE rest go)
 unfolding sample_of finished_at ending_at in_arrays judged
 judged-same text at j fair rest go continue bad E step = finished-same text at j go rest E
 judged-same text at j fair rest go continue (good xs next e q) E step =
     rw (in-range j.n xs e fair.channels)
-    (sample-same j (sample_in_range xs) (ltb (length j.dilutions) 256) (continue (sets (replicate 9 0) 0 xs) next) (go xs)
+    (sample-same j (sample_in_range xs) (ltb (length j.dilutions) 256) (continue (record { numbers = sets (replicate 9 0) 0 xs; next = next })) (go xs)
     (λ t. step xs next e q (ltb-true _ _ t)))
 
 -- The lines from a place on are read alike, with m lines at most left for samples.
@@ -168,7 +169,7 @@ alike-suc : (m : ℕ) (text : List ℕ) → ((at : ℕ) (j : Job) → Alike m te
 unfolding samples_at in_arrays
 alike-suc m text ih at j fair h =
     let ls = split 10 (drop at text) in
-    judged-same text at j fair (tail ls) (λ xs. job_after (with_sample j xs) (tail ls)) (λ row next. samples_at m text next (kept (in_arrays j) row))
+    judged-same text at j fair (tail ls) (λ xs. job_after (with_sample j xs) (tail ls)) (λ line. samples_at m text line.next (kept (in_arrays j) line.numbers))
     (line_read text 83 refl refl j.n at)
     (line_read text 69 refl refl 0 at)
     (λ xs next e q k.
@@ -194,21 +195,20 @@ unfolding parameters_in_range
 few n limit tolerance e = (is_within least_channels most_channels n
     (both (within least_channels most_channels n) _ (both (within least_channels most_channels n && within least_sweeps most_sweeps limit) _ e).0).0).1
 
-few-by : (t : Bool) (a b c d n limit tolerance next : ℕ) → (t ≡ true → a ≤ 8) →
-    cond t (First.Read a b c d) (First.Refused 2) ≡ First.Read n limit tolerance next → n ≤ 8
-few-by true a b c d n limit tolerance next f e = let q : a ≡ n = cc in rw q at (f refl)
-few-by false a b c d n limit tolerance next f e = let z : ◌≡◌ {A = ℕ} 0 9 = cc in omega arith
+few-by : (t : Bool) (p q : Parameters) → (t ≡ true → p.n ≤ 8) → cond t (Ok p) (Err OutOfRange) ≡ Ok q → q.n ≤ 8
+few-by true p q f e = let same : p.n ≡ q.n = cc in rw same at (f refl)
+few-by false p q f e = let z : ◌≡◌ {A = ℕ} 0 9 = cc in omega arith
 
 -- A first line that is read has at most 8 channels.
-pub parameters-few : (text : List ℕ) (n limit tolerance next : ℕ) → parameters_at text ≡ First.Read n limit tolerance next → n ≤ 8
+pub parameters-few : (text : List ℕ) (p : Parameters) → parameters_at text ≡ Ok p → p.n ≤ 8
 unfolding parameters_at
-parameters-few text n limit tolerance next = go (line_at text 0 80 2).extent (line_at text 0 80 2).numbers
+parameters-few text p = go (line_at text 0 80 2)
   where
-    go : (e : Extent) (xs : List ℕ) → parameters_of e xs ≡ First.Read n limit tolerance next → n ≤ 8
-    go (To at) xs = unfold parameters_of in
-        few-by (parameters_in_range (get_or xs 0 0) (get_or xs 1 0) (get_or xs 2 0)) _ _ _ _ n limit tolerance next
-        (few (get_or xs 0 0) (get_or xs 1 0) (get_or xs 2 0))
-    go Malformed xs = unfold parameters_of in λ e. let z : ◌≡◌ {A = ℕ} 0 9 = cc in omega arith
+    go : (l : Found Line) → parameters_of l ≡ Ok p → p.n ≤ 8
+    go (Some l) = unfold parameters_of in
+        few-by (parameters_in_range (get_or l.numbers 0 0) (get_or l.numbers 1 0) (get_or l.numbers 2 0)) _ p
+        (few (get_or l.numbers 0 0) (get_or l.numbers 1 0) (get_or l.numbers 2 0))
+    go None = unfold parameters_of in λ e. let z : ◌≡◌ {A = ℕ} 0 9 = cc in omega arith
 
 module _ (text : List ℕ) where
   none_yet : (next n limit tolerance : ℕ) (rest : List (List ℕ)) → split 10 (drop next text) ≡ rest → n ≤ 8 →
@@ -223,13 +223,13 @@ module _ (text : List ℕ) where
   -- By whether the parameters are in range: t.
   begun-same : (t : Bool) (n limit tolerance next : ℕ) (y : Answer) →
       (t ≡ true → samples_at 257 text next (new_job n limit tolerance) ≡ reading_of y) →
-      reading_by text (cond t (First.Read n limit tolerance next) (First.Refused 2)) ≡ reading_of (cond t y (refused 2 1))
+      reading_by text (cond t (Ok (record { n = n; limit = limit; tolerance = tolerance; next = next })) (Err OutOfRange)) ≡ reading_of (cond t y (refused 2 1))
   unfolding reading_by
   begun-same true n limit tolerance next y f = f refl
   begun-same false n limit tolerance next y f = refused-same 2 1
 
-  first-same : (rest : List (List ℕ)) {L : Line} {o : Option (List ℕ)} → Reads text (replicate 9 0) 0 3 rest L o →
-      reading_by text (parameters_of L.extent L.numbers) ≡ reading_of (begun o rest)
+  first-same : (rest : List (List ℕ)) {L : Found Line} {o : Option (List ℕ)} → Reads text (replicate 9 0) 0 3 rest L o →
+      reading_by text (parameters_of L) ≡ reading_of (begun o rest)
   unfolding parameters_of begun parameters_in_range
   first-same rest bad = unfold reading_by in refused-same 1 1
   first-same rest (good xs next e q) =

@@ -1,10 +1,10 @@
 -- An answer of `job_of` as the reader gives it: the job in arrays, or the refusal.
-use Rattle.std.specs.Prelude.{◌*◌, [], length}
+use Rattle.std.specs.Prelude.{◌*◌, Result, Ok, Err, length}
 use Rattle.integer.specs.Padded.{padded}
+use Rattle.refusal.specs.Refusal.{numbered}
 use Rattle.job.specs.Job.{Job, Answer, refused, accepted}
 use Rattle.job.specs.declared.Job as Arrays
-use Rattle.job.specs.declared.Reading.{Reading}
-use Rattle.job.specs.declared.Outcome.TheVariants.{Accepted, Refused}
+use Rattle.job.specs.declared.RefusedLine.{RefusedLine}
 use Rattle.limits.specs.Limits.{most_channels, most_samples}
 
 unfoldable pub in_arrays : Job → Arrays.Job
@@ -18,7 +18,6 @@ in_arrays j =
       counts = padded (most_samples * most_channels) 0 j.counts;
     }
 
-unfoldable pub reading_of : Answer → Reading
-reading_of (refused number line) =
-    record { outcome = Refused number line; job = in_arrays (record { n = 0; limit = 0; tolerance = 0; dilutions = []; counts = [] }) }
-reading_of (accepted j) = record { outcome = Accepted; job = in_arrays j }
+unfoldable pub reading_of : Answer → Result Arrays.Job RefusedLine
+reading_of (refused number line) = Err (record { refusal = numbered number; line = line })
+reading_of (accepted j) = Ok (in_arrays j)

@@ -1,18 +1,18 @@
 -- A job text answered by another text in a lent buffer: the answer, what the buffer then holds, and what a program prints. `f` is the text of a job.
-use Rattle.std.specs.Prelude.{ℕ, ◌≤◌, ◌≡◌, cond, List, leb, length}
+use Rattle.std.specs.Prelude.{ℕ, ◌≤◌, ◌≡◌, cond, List, Result, Ok, Err, leb, length}
 use Rattle.text.specs.Put.{fitted}
 use Rattle.text.specs.Line.{line_x}
 use Rattle.job.specs.Job.{Answer, Job, accepted, job_of, refused}
-use Rattle.job.specs.declared.reply.Reply.{Reply}
-use Rattle.job.specs.declared.reply.Reply.TheVariants.{Refused, Written}
+use Rattle.job.specs.declared.RefusedLine.{RefusedLine}
+use Rattle.refusal.specs.Refusal.{numbered}
 
 module _ (f : Job → List ℕ) where
   -- The text's length, or a refusal and its line. 'Report longer than the buffer' is of no line, and has 0
-  unfoldable pub reply_by : Answer → ℕ → Reply
-  reply_by (refused number line) size = Refused number line
-  reply_by (accepted j) size = cond (leb (length (f j)) size) (Written (length (f j))) (Refused 12 0)
+  unfoldable pub reply_by : Answer → ℕ → Result ℕ RefusedLine
+  reply_by (refused number line) size = Err (record { refusal = numbered number; line = line })
+  reply_by (accepted j) size = cond (leb (length (f j)) size) (Ok (length (f j))) (Err (record { refusal = numbered 12; line = 0 }))
 
-  unfoldable pub reply_of : List ℕ → ℕ → Reply
+  unfoldable pub reply_of : List ℕ → ℕ → Result ℕ RefusedLine
   reply_of text size = reply_by (job_of text) size
 
   -- The lent buffer: the text at its start, 'bytes past the report stay'; 'buffers stay' at a refusal
@@ -37,13 +37,13 @@ module _ (f : Job → List ℕ) where
   printed_of text = printed_by (job_of text)
 
   -- The answer, every byte of the lent buffer, and that the text has at most 2048 bytes
-  pub record Answers (a : Answer) (entry exit : List ℕ) (r : Reply) : Type 0 where
+  pub record Answers (a : Answer) (entry exit : List ℕ) (r : Result ℕ RefusedLine) : Type 0 where
     pub answer : r ≡ reply_by a (length entry)
     pub buffer : exit ≡ buffer_by a entry
     pub short : Short a
 
   -- The same of a job text
-  pub record Replies (text entry exit : List ℕ) (r : Reply) : Type 0 where
+  pub record Replies (text entry exit : List ℕ) (r : Result ℕ RefusedLine) : Type 0 where
     pub answer : r ≡ reply_of text (length entry)
     pub buffer : exit ≡ buffer_of text entry
     pub short : Short (job_of text)

@@ -1,4 +1,5 @@
 pub mod Scan
 pub mod Examples
-pub mod Replying
 pub mod Proper
+pub mod Refusals
+pub mod Replying

@@ -3,42 +3,40 @@ ghost use Rattle.std.specs.Prelude.{◌≡◌};
 ghost use Rattle.job.specs.inner.LineScan.{parameters_at};
 
 use crate::field::{Field, number, tagged};
+use refusal::Refusal;
 
+// The line's numbers, and the place after it.
 #[derive(Clone, Copy)]
-pub enum Parameters {
-    // The refusal's number.
-    Refused(u8),
-    Read {
-        n: usize,
-        limit: u64,
-        tolerance: u64,
-        next: usize,
-    },
+pub struct Parameters {
+    pub n: usize,
+    pub limit: u64,
+    pub tolerance: u64,
+    pub next: usize,
 }
 
-pub(crate) fn first_line(text: &[u8]) -> Parameters
+pub(crate) fn first_line(text: &[u8]) -> Result<Parameters, Refusal>
     ensures { result ≡ parameters_at text.now }
 {
     if !tagged(text, 0, b'P') {
-        return Parameters::Refused(1);
+        return Err(Refusal::Malformed);
     }
     let Field::Inner(n, second) = number(text, 2) else {
-        return Parameters::Refused(1);
+        return Err(Refusal::Malformed);
     };
     let Field::Inner(limit, third) = number(text, second) else {
-        return Parameters::Refused(1);
+        return Err(Refusal::Malformed);
     };
     let Field::Last(tolerance, next) = number(text, third) else {
-        return Parameters::Refused(1);
+        return Err(Refusal::Malformed);
     };
-    if readings::parameters_within(n as usize, limit as u64, tolerance as u64) {
-        Parameters::Read {
-            n: n as usize,
-            limit: limit as u64,
-            tolerance: tolerance as u64,
-            next,
-        }
-    } else {
-        Parameters::Refused(2)
+    let parameters = Parameters {
+        n: n as usize,
+        limit: u64::from(limit),
+        tolerance: u64::from(tolerance),
+        next,
+    };
+    if !readings::parameters_within(parameters.n, parameters.limit, parameters.tolerance) {
+        return Err(Refusal::OutOfRange);
     }
+    Ok(parameters)
 }

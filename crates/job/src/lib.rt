@@ -5,16 +5,16 @@ pub mod field;
 pub mod first;
 pub mod last;
 pub mod ranges;
-pub mod reply;
 pub mod sample;
 mod samples;
 
 ghost use Rattle.std.specs.Prelude.{◌≡◌};
 ghost use Rattle.job.specs.Job.{job_of};
 ghost use Rattle.job.specs.Reading.{reading_of};
-ghost use Rattle.job.specs.inner.Scan.{new_job, refused_reading};
+ghost use Rattle.job.specs.inner.Scan.{new_job};
 
-use crate::first::{Parameters, first_line};
+use crate::first::first_line;
+use refusal::Refusal;
 use samples::samples;
 
 // A job: the first k dilutions and the first k × n counts, n to a sample, are those of its samples, and the others are 0.
@@ -28,55 +28,36 @@ pub struct Job {
     pub counts: [u32; 2048],
 }
 
-#[derive(Clone, Copy)]
-pub enum Outcome {
-    Accepted,
-    // The refusal's number, and the line.
-    Refused(u8, usize),
-}
-
-// What reading a text gives. The job of a refused text is all zeros.
-#[derive(Clone, Copy)]
-pub struct Reading {
-    pub outcome: Outcome,
-    pub job: Job,
+// Why a text is refused, and at which line of it.
+#[derive(Clone, Copy, Debug, PartialEq, Eq)]
+pub struct RefusedLine {
+    pub refusal: Refusal,
+    pub line: usize,
 }
 
 // A job that has no samples yet.
 fn new_job(n: usize, limit: u64, tolerance: u64) -> Job
     ensures { result ≡ new_job n limit tolerance }
 {
-    let dilutions = [0u32; 256];
-    let counts = [0u32; 2048];
     Job {
         n,
         limit,
         tolerance,
         k: 0,
-        dilutions,
-        counts,
+        dilutions: [0; 256],
+        counts: [0; 2048],
     }
 }
 
-fn refused(number: u8, line: usize) -> Reading
-    ensures { result ≡ refused_reading number line }
-{
-    let outcome = Outcome::Refused(number, line);
-    let job = new_job(0, 0, 0);
-    Reading { outcome, job }
-}
-
-pub fn read(text: &[u8]) -> Reading
+pub fn read(text: &[u8]) -> Result<Job, RefusedLine>
     ensures { result ≡ reading_of (job_of text.now) }
 {
-    let found = first_line(text);
-    match found {
-        Parameters::Refused(number) => refused(number, 1),
-        Parameters::Read {
-            n,
-            limit,
-            tolerance,
-            next,
-        } => samples(text, next, new_job(n, limit, tolerance)),
+    match first_line(text) {
+        Ok(first) => samples(
+            text,
+            first.next,
+            new_job(first.n, first.limit, first.tolerance),
+        ),
+        Err(refusal) => Err(RefusedLine { refusal, line: 1 }),
     }
 }

@@ -5,10 +5,11 @@ ghost use Rattle.std.proofs.lemmas.List.Edits.{sets};
 ghost use Rattle.job.specs.inner.Scan.{finished_at, samples_at};
 ghost use Rattle.limits.specs.Limits.{most_samples};
 
-use crate::last::{Ending, last_line};
+use crate::last::last_line;
 use crate::ranges::sample_within;
-use crate::sample::{Extent, sample_line};
-use crate::{Job, Outcome, Reading, refused};
+use crate::sample::sample_line;
+use crate::{Job, RefusedLine};
+use refusal::Refusal;
 
 // The n counts of a sample are kept from a place on.
 fn keep(counts: &mut [u32; 2048], numbers: [u32; 9], from: usize, n: usize)
@@ -25,46 +26,46 @@ fn keep(counts: &mut [u32; 2048], numbers: [u32; 9], from: usize, n: usize)
 }
 
 // The line after the samples of a job.
-fn finish(text: &[u8], at: usize, job: Job) -> Reading
+fn finish(text: &[u8], at: usize, job: Job) -> Result<Job, RefusedLine>
     requires { job.k ≤ most_samples }
     ensures { result ≡ finished_at text.now at job }
 {
     let k = job.k;
-    let found = last_line(text, at, k);
-    match found {
-        Ending::Refused(number) => refused(number, k + 2),
-        Ending::Accepted => {
-            let outcome = Outcome::Accepted;
-            Reading { outcome, job }
-        }
+    match last_line(text, at, k) {
+        Ok(()) => Ok(job),
+        Err(refusal) => Err(RefusedLine {
+            refusal,
+            line: k + 2,
+        }),
     }
 }
 
 // The lines from a place of the text on, after the samples of a job.
-pub(crate) fn samples(text: &[u8], from: usize, start: Job) -> Reading
+pub(crate) fn samples(text: &[u8], from: usize, start: Job) -> Result<Job, RefusedLine>
     requires { (start.k ≤ most_samples) × (start.n ≤ 8) }
     ensures { result ≡ samples_at (257 - start.k) text.now from start }
 {
     let mut job = start;
     let mut at = from;
-    loop {
+    while let Some(line) = sample_line(text, at, job.n) {
         let n = job.n;
         let k = job.k;
-        let line = sample_line(text, at, n);
-        let extent = line.extent;
-        let numbers = line.numbers;
-        let Extent::To(next) = extent else {
-            return finish(text, at, job);
-        };
-        if !sample_within(numbers, n) {
-            return refused(2, k + 2);
+        if !sample_within(line.numbers, n) {
+            return Err(RefusedLine {
+                refusal: Refusal::OutOfRange,
+                line: k + 2,
+            });
         }
         if limits::MOST_SAMPLES <= k {
-            return refused(3, k + 2);
+            return Err(RefusedLine {
+                refusal: Refusal::SampleCount,
+                line: k + 2,
+            });
         }
-        job.dilutions[k] = numbers[0];
-        keep(&mut job.counts, numbers, k * n, n);
+        job.dilutions[k] = line.numbers[0];
+        keep(&mut job.counts, line.numbers, k * n, n);
         job.k = k + 1;
-        at = next;
+        at = line.next;
     }
+    finish(text, at, job)
 }

@@ -1,15 +1,15 @@
 -- Job text as the reader goes through it, line after line. `proofs/Same.antt` has that this is the reading of `Job`.
-use Rattle.std.specs.Prelude.{ℕ, List}
+use Rattle.std.specs.Prelude.{ℕ, List, Result, Ok, Err}
 use Rattle.job.specs.inner.LineScan.{parameters_at}
+use Rattle.refusal.specs.declared.Refusal.{Refusal}
 use Rattle.job.specs.declared.first.Parameters.{Parameters}
-use Rattle.job.specs.declared.first.Parameters.TheVariants as First
-use Rattle.job.specs.declared.first.Parameters.TheVariants.{Read}
-use Rattle.job.specs.declared.Reading.{Reading}
-use Rattle.job.specs.inner.Scan.{new_job, refused_reading, samples_at}
+use Rattle.job.specs.declared.Job.{Job}
+use Rattle.job.specs.declared.RefusedLine.{RefusedLine}
+use Rattle.job.specs.inner.Scan.{new_job, refused_at, samples_at}
 
-unfoldable pub reading_by : List ℕ → Parameters → Reading
-reading_by text (First.Refused number) = refused_reading number 1
-reading_by text (Read n limit tolerance next) = samples_at 257 text next (new_job n limit tolerance)
+unfoldable pub reading_by : List ℕ → Result Parameters Refusal → Result Job RefusedLine
+reading_by text (Ok first) = samples_at 257 text first.next (new_job first.n first.limit first.tolerance)
+reading_by text (Err refusal) = refused_at refusal 1
 
-unfoldable pub reading_at : List ℕ → Reading
+unfoldable pub reading_at : List ℕ → Result Job RefusedLine
 reading_at text = reading_by text (parameters_at text)

@@ -1,5 +1,6 @@
 -- `first::first_line` meets its contract: each field that was read, or was not, picks the same branch of `parameters_at`.
-use mathlib.Core.Path.{sym, ◌∙◌}
+use Rattle.std.proofs.Common.{◌≡◌, true, false}
+use Rattle.readings.specs.Ranges.{parameters_in_range}
 use Rattle.job.proofs.Flags.{denied, granted}
 use Rattle.job.proofs.Ends.{p-untagged, p-first, p-second, p-third, p-whole}
 use Rattle.job.proofs.first.first_line.Goals as goal
@@ -21,14 +22,19 @@ returns-in_default-number-2 c =
     c.in-Inner-number.is _ c.number-3.ensures c.in_default-number-2.not-Last
 
 -- The line's three numbers are read.
-pub returns-then-parameters_within : goal.returns-then-parameters_within
-returns-then-parameters_within c =
-    simp (sym c.parameters_within.ensures ∙ c.if-parameters_within.true) at
+pub returns : goal.returns
+returns c =
+    let e : parameters_in_range c.in-Inner.n c.in-Inner-number.limit c.in-Last.tolerance ≡ true
+    = rw (c.from.ensures, c.from-2.ensures) at (granted _ _ c.parameters_within.ensures c.if-not-parameters_within.false) in
+    rw (c.from.ensures, c.from-2.ensures)
+    (simp e at
     (p-whole _ (granted _ _ c.tagged.ensures c.if-not-tagged.false) _ c.number.ensures _ _ c.in-Inner.is _ c.number-2.ensures _ _
-    c.in-Inner-number.is _ c.number-3.ensures _ _ c.in-Last.is)
+    c.in-Inner-number.is _ c.number-3.ensures _ _ c.in-Last.is))
 
-pub returns-else-parameters_within : goal.returns-else-parameters_within
-returns-else-parameters_within c =
-    simp (sym c.parameters_within.ensures ∙ c.if-parameters_within.false) at
+pub returns-then-not-parameters_within : goal.returns-then-not-parameters_within
+returns-then-not-parameters_within c =
+    let e : parameters_in_range c.in-Inner.n c.in-Inner-number.limit c.in-Last.tolerance ≡ false
+    = rw (c.from.ensures, c.from-2.ensures) at (denied _ _ c.parameters_within.ensures c.if-not-parameters_within.true) in
+    simp e at
     (p-whole _ (granted _ _ c.tagged.ensures c.if-not-tagged.false) _ c.number.ensures _ _ c.in-Inner.is _ c.number-2.ensures _ _
     c.in-Inner-number.is _ c.number-3.ensures _ _ c.in-Last.is)

@@ -14,4 +14,4 @@ returns-then-tagged c = simp (sym c.tagged.ensures ∙ c.if-tagged.true) c.numbe
 
 pub returns-else-tagged : goal.returns-else-tagged
 unfolding line_at
-returns-else-tagged c = simp (sym c.tagged.ensures ∙ c.if-tagged.false) c.malformed.ensures
+returns-else-tagged c = simp (sym c.tagged.ensures ∙ c.if-tagged.false)

@@ -2,10 +2,10 @@
 use Rattle.job.specs.inner.Scan.{finished_at, finished_by}
 use Rattle.job.proofs.samples.finish.Goals as goal
 
-pub returns-in-Refused : goal.returns-in-Refused
+pub returns-in-Ok : goal.returns-in-Ok
 unfolding finished_at finished_by
-returns-in-Refused c = rw (← c.last_line-found.ensures, c.in-Refused.is) c.refused.ensures
+returns-in-Ok c = rw (← c.last_line.ensures, c.in-Ok.is)
 
-pub returns-in-Accepted : goal.returns-in-Accepted
+pub returns-in-Err : goal.returns-in-Err
 unfolding finished_at finished_by
-returns-in-Accepted c = rw (← c.last_line-found.ensures, c.in-Accepted.is)
+returns-in-Err c = rw (← c.last_line.ensures, c.in-Err.is)
