@@ -1,7 +1,9 @@
 -- The calls on a book of samples: what each is refused with, what it answers, and the book after it. Document 02, W7.
-use Rattle.std.specs.Prelude.{ℕ, ◌-◌, cond, List, [], ◌∷◌, ◌++◌, eqb, leb, ltb, get_or, take, drop}
+use Rattle.std.specs.Prelude.{ℕ, ◌-◌, cond, List, [], ◌∷◌, ◌++◌, eqb, leb, ltb, get_or, take, drop, Result}
 use Rattle.limits.specs.Limits.{least_channels, least_samples, most_channels, most_samples}
 use Rattle.limits.specs.Unless.{unless}
+use Rattle.refusal.specs.Refusal.{judged}
+use Rattle.refusal.specs.declared.Refusal.{Refusal}
 use Rattle.integer.specs.Within.{within}
 use Rattle.readings.specs.Ranges.{values_within}
 use Rattle.readings.specs.Refusal.{are_counted}
@@ -12,7 +14,7 @@ use Rattle.sums.specs.declared.Sums.{Sums}
 use Rattle.book.specs.Book.{book_with, samples_in}
 use Rattle.book.specs.declared.Book.{Book}
 use Rattle.book.specs.declared.BookAnswer.{BookAnswer}
-use Rattle.book.specs.declared.BookAnswer.TheVariants.{Begun, Added, Struck, Summed, Tabled, Refused}
+use Rattle.book.specs.declared.BookAnswer.TheVariants.{Begun, Added, Struck, Summed, Tabled}
 
 pub data BookCall : Type 0 where
   begin : ℕ → BookCall
@@ -89,7 +91,5 @@ book_after b call =
     (book_with (channels_after call b.n) (summary_then call b.summary (samples_in b)) (samples_then call (samples_in b)))
     b
 
-unfoldable pub book_answer : Book → BookCall → BookAnswer
-book_answer b call =
-    cond (eqb (book_refusal b.n b.summary.k call) 0) (answer_then call (book_after b call).summary.k)
-    (Refused (book_refusal b.n b.summary.k call))
+unfoldable pub book_answer : Book → BookCall → Result BookAnswer Refusal
+book_answer b call = judged (book_refusal b.n b.summary.k call) (answer_then call (book_after b call).summary.k)

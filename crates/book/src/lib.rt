@@ -3,19 +3,21 @@
 #![tactic(auto)]
 
 mod arrays;
+mod checks;
 mod rebuild;
-mod refusal;
 
 ghost use Rattle.std.specs.Prelude.{◌≡◌};
+ghost use Rattle.refusal.specs.Refusal.{judged};
 ghost use Rattle.sums.specs.Sums.{sums_of};
 ghost use Rattle.book.specs.Book.{empty_book, no_book, samples_in};
-ghost use Rattle.book.specs.Calls.{add, begin, book_after, book_answer, book_refusal, read_summary, rebuild, strike};
+ghost use Rattle.book.specs.Calls.{add, begin, book_after, book_refusal, read_summary, rebuild, strike};
 ghost use Rattle.book.specs.Consistent.{Consistent};
-ghost use Rattle.book.specs.Done.{Changes, Tables};
+ghost use Rattle.book.specs.Done.{Changes, table_to};
 
 use arrays::{close_up, put_counts};
+use checks::{check_add, check_channels, check_strike, check_table};
 use rebuild::sums_by_pairs;
-use refusal::{add_refusal, channels_refusal, strike_refusal, table_refusal};
+use refusal::Refusal;
 use scatter::table::Table;
 use sums::Sums;
 
@@ -28,49 +30,37 @@ pub struct Book {
     counts: [u32; 2048],
 }
 
-// What a call answers: `Added` and `Struck` with the number of samples now held, `Refused` with the refusal's number.
-#[derive(Clone, Copy)]
+// What a call that is not refused answers: `Added` and `Struck` with the number of samples now held, `Summed` and `Tabled` beside the sums and the
+// table.
+#[derive(Clone, Copy, Debug, PartialEq, Eq)]
 pub enum BookAnswer {
     Begun,
     Added(u64),
     Struck(u64),
     Summed,
     Tabled,
-    Refused(u32),
 }
 
 // The answer, and the book after the call.
 #[derive(Drop)]
 pub struct Changed {
-    pub answer: BookAnswer,
+    pub answer: Result<BookAnswer, Refusal>,
     pub book: Book,
-}
-
-// The answer, and the table: all 0 where the call is refused.
-#[derive(Drop)]
-pub struct Tabled {
-    pub answer: BookAnswer,
-    pub table: Table,
 }
 
 // An empty book for n channels.
 fn empty_book(n: usize) -> Book
     ensures { result ≡ empty_book n }
 {
-    let channel = [0u64; 8];
-    let cross = [0u64; 64];
-    let summary = Sums {
-        k: 0,
-        channel,
-        cross,
-    };
-    let dilutions = [0u32; 256];
-    let counts = [0u32; 2048];
     Book {
         n,
-        summary,
-        dilutions,
-        counts,
+        summary: Sums {
+            k: 0,
+            channel: [0; 8],
+            cross: [0; 64],
+        },
+        dilutions: [0; 256],
+        counts: [0; 2048],
     }
 }
 
@@ -79,18 +69,15 @@ fn with_sample(b: Book, dilution: u32, counts: &[u32]) -> Book
     requires { Consistent b × (book_refusal b.n b.summary.k (add dilution counts.now) ≡ 0) }
     ensures { result ≡ book_after b (add dilution counts.now) }
 {
-    let n = b.n;
-    let summary = b.summary;
-    let k = summary.k as usize;
-    let one = [dilution];
-    let more = sums::sums_of(n, &one, counts);
+    let k = b.summary.k as usize;
+    let more = sums::sums_of(b.n, &[dilution], counts);
     let mut dilutions = b.dilutions;
     dilutions[k] = dilution;
     let mut all = b.counts;
-    put_counts(&mut all, n * k, counts);
+    put_counts(&mut all, b.n * k, counts);
     Book {
-        n,
-        summary: sums::plus(summary, more),
+        n: b.n,
+        summary: sums::plus(b.summary, more),
         dilutions,
         counts: all,
     }
@@ -103,30 +90,21 @@ fn without_sample(b: Book, i: usize) -> Book
 {
     let s = i - 1;
     let n = b.n;
-    let summary = b.summary;
-    let k = summary.k as usize;
+    let k = b.summary.k as usize;
     let mut dilutions = b.dilutions;
     let mut counts = b.counts;
     let from = n * s;
     let end = from + n;
     let dilution = dilutions[s];
-    let one = [dilution];
-    let part = sums::sums_of(n, &one, &counts[from..end]);
+    let part = sums::sums_of(n, &[dilution], &counts[from..end]);
     close_up(&mut dilutions, s, 1, k);
     close_up(&mut counts, from, n, n * k);
     Book {
         n,
-        summary: sums::minus(summary, part),
+        summary: sums::minus(b.summary, part),
         dilutions,
         counts,
     }
-}
-
-fn number_of(b: Book) -> u64
-    ensures { result ≡ b.summary.k }
-{
-    let summary = b.summary;
-    summary.k
 }
 
 impl Book {
@@ -142,15 +120,14 @@ impl Book {
         requires { Consistent self }
         ensures { Changes self (begin n) result }
     {
-        let refusal = channels_refusal(n, 0);
-        if refusal != 0 {
+        if let Err(refusal) = check_channels(n) {
             return Changed {
-                answer: BookAnswer::Refused(refusal),
+                answer: Err(refusal),
                 book: self,
             };
         }
         Changed {
-            answer: BookAnswer::Begun,
+            answer: Ok(BookAnswer::Begun),
             book: empty_book(n),
         }
     }
@@ -160,16 +137,15 @@ impl Book {
         requires { Consistent self }
         ensures { Changes self (add dilution counts.now) result }
     {
-        let refusal = add_refusal(self.n, number_of(self), dilution, counts);
-        if refusal != 0 {
+        if let Err(refusal) = check_add(self.n, self.summary.k, dilution, counts) {
             return Changed {
-                answer: BookAnswer::Refused(refusal),
+                answer: Err(refusal),
                 book: self,
             };
         }
         let book = with_sample(self, dilution, counts);
         Changed {
-            answer: BookAnswer::Added(number_of(book)),
+            answer: Ok(BookAnswer::Added(book.summary.k)),
             book,
         }
     }
@@ -179,16 +155,15 @@ impl Book {
         requires { Consistent self }
         ensures { Changes self (strike i) result }
     {
-        let refusal = strike_refusal(self.n, number_of(self), i);
-        if refusal != 0 {
+        if let Err(refusal) = check_strike(self.n, self.summary.k, i) {
             return Changed {
-                answer: BookAnswer::Refused(refusal),
+                answer: Err(refusal),
                 book: self,
             };
         }
         let book = without_sample(self, i);
         Changed {
-            answer: BookAnswer::Struck(number_of(book)),
+            answer: Ok(BookAnswer::Struck(book.summary.k)),
             book,
         }
     }
@@ -213,44 +188,29 @@ impl Book {
         requires { Consistent self }
         ensures { result ≡ sums_of (samples_in self) }
     {
-        let summary = self.summary;
-        sums_by_pairs(self.n, summary.k as usize, &self.dilutions, &self.counts)
+        sums_by_pairs(
+            self.n,
+            self.summary.k as usize,
+            &self.dilutions,
+            &self.counts,
+        )
     }
 
-    // The answer to a call that asks for the summary or for a rebuild.
-    pub fn summary_answer(self) -> BookAnswer
-        ensures { (result ≡ book_answer self read_summary) × (result ≡ book_answer self rebuild) }
+    // Whether a call that asks for the summary or for a rebuild is refused.
+    #[tactic(auto, unfolding(crate::specs::Calls::book_refusal))]
+    pub fn summary_answer(self) -> Result<(), Refusal>
+        ensures read { result ≡ judged (book_refusal self.n self.summary.k read_summary) (record {}) }
+        ensures rebuilt { result ≡ judged (book_refusal self.n self.summary.k rebuild) (record {}) }
     {
-        let refusal = channels_refusal(self.n, 0);
-        if refusal != 0 {
-            return BookAnswer::Refused(refusal);
-        }
-        BookAnswer::Summed
+        check_channels(self.n)
     }
 
     // The table, by the summary alone: 'a table from such a summary gets 3, from any other it is document 01's'.
-    pub fn table(self) -> Tabled
+    pub fn table(self) -> Result<Table, Refusal>
         requires { Consistent self }
-        ensures { Tables self result }
+        ensures { result ≡ table_to self }
     {
-        let n = self.n;
-        let summary = self.summary;
-        let refusal = table_refusal(n, summary.k);
-        if refusal != 0 {
-            let entries = [0i64; 64];
-            let scatter = [0i64; 64];
-            return Tabled {
-                answer: BookAnswer::Refused(refusal),
-                table: Table {
-                    e: 0,
-                    entries,
-                    scatter,
-                },
-            };
-        }
-        Tabled {
-            answer: BookAnswer::Tabled,
-            table: scatter::table::table_of(n, summary),
-        }
+        check_table(self.n, self.summary.k)?;
+        Ok(scatter::table::table_of(self.n, self.summary))
     }
 }

@@ -9,7 +9,10 @@ use Rattle.integer.specs.Within.{all_within, within}
 use Rattle.readings.specs.Ranges.{values_within}
 use Rattle.readings.specs.Refusal.{are_counted}
 use Rattle.readings.specs.Samples.{Sample}
-use Rattle.book.specs.Calls.{BookCall, add, begin, book_refusal, make_table, read_summary, rebuild, strike, without}
+use Rattle.refusal.specs.Refusal.{judged}
+use Rattle.book.specs.Calls.{BookCall, add, answer_then, begin, book_answer, book_refusal, make_table, read_summary, rebuild, strike, without}
+use Rattle.book.specs.declared.Book.{Book}
+use Rattle.book.specs.declared.BookAnswer.TheVariants.{Summed, Tabled}
 
 -- 'striking the i-th, after which the later ones move up one place'
 module _ (i : ℕ) (ss : List Sample) (first : 1 ≤ i) (last : i ≤ length ss) where
@@ -71,6 +74,20 @@ not-begun k (strike i) f = refl
 not-begun k read_summary f = refl
 not-begun k rebuild f = refl
 not-begun k make_table f = refl
+
+-- the calls that only ask: their answers, and the table, are refused alike
+module _ (b : Book) where
+  pub summary-answer : book_answer b read_summary ≡ judged (book_refusal b.n b.summary.k read_summary) Summed
+  unfolding book_answer answer_then
+  summary-answer = refl
+
+  pub rebuild-answer : book_answer b rebuild ≡ judged (book_refusal b.n b.summary.k rebuild) Summed
+  unfolding book_answer answer_then
+  rebuild-answer = refl
+
+  pub table-answer : book_answer b make_table ≡ judged (book_refusal b.n b.summary.k make_table) Tabled
+  unfolding book_answer answer_then
+  table-answer = refl
 
 -- ---- worked examples: n of 1 and 9; a 256th and a 257th sample; striking 0, the first, the last and the one after it; tables of 1 and of 2 samples
 examples : (book_refusal 0 0 (begin 1) ≡ 2) × (book_refusal 0 0 (begin 2) ≡ 0) × (book_refusal 0 0 (begin 9) ≡ 2) ×

@@ -1,0 +1,17 @@
+-- `book::Book::add` meets its contract.
+use Rattle.std.specs.Prelude.{refl}
+use Rattle.std.proofs.Common.{sym, ◌∙◌}
+use Rattle.book.specs.Calls.{add, answer_then}
+use Rattle.book.proofs.Answering.{not-refused, refused, taken}
+use Rattle.book.proofs.Book.add.Goals as goal
+
+pub returns-in-Err : goal.returns-in-Err
+returns-in-Err c = refused c.args.self (add c.args.dilution c.args.counts.now) c.requires c.in-Err.ensures
+
+pub with_sample-book-requires : goal.with_sample-book-requires
+with_sample-book-requires c = (c.requires, not-refused _ _ _ (sym c.in_default.is ∙ c.check_add.ensures))
+
+pub returns : goal.returns
+unfolding answer_then
+returns c =
+    taken c.args.self (add c.args.dilution c.args.counts.now) c.requires (sym c.in_default.is ∙ c.check_add.ensures) c.with_sample-book.ensures refl
