@@ -10,8 +10,8 @@ ghost use Rattle.job_table.specs.Table.{PutsTable, table_text};
 ghost use Rattle.limits.specs.Limits.{most_samples};
 
 use crate::rows;
-use job::Job;
-use job::reply::Reply;
+use job::{Job, RefusedLine};
+use refusal::Refusal;
 use scatter::table::Table;
 
 fn text_length(head: &[i64; 3], n: usize, rows: &[[i64; 11]; 8]) -> usize
@@ -30,7 +30,7 @@ fn put_text(buf: &mut [u8], head: &[i64; 3], n: usize, rows: &[[i64; 11]; 8]) ->
 }
 
 // The length is known before the first byte is written, so a buffer that is too short stays as it is.
-fn table_job(job: Job, buf: &mut [u8]) -> Reply
+fn table_job(job: Job, buf: &mut [u8]) -> Result<usize, RefusedLine>
     requires { Held job }
     ensures { Answers table_text (accepted (job_in job)) buf.old buf.new result }
 {
@@ -41,9 +41,12 @@ fn table_job(job: Job, buf: &mut [u8]) -> Reply
     let rows = rows::rows_of(n, &sums);
     let length = text_length(&head, n, &rows);
     if buf.len() < length {
-        return Reply::Refused(12, 0);
+        return Err(RefusedLine {
+            refusal: Refusal::ShortBuffer,
+            line: 0,
+        });
     }
-    Reply::Written(put_text(buf, &head, n, &rows))
+    Ok(put_text(buf, &head, n, &rows))
 }
 
 // The text of a table of k samples of n channels.
@@ -59,15 +62,10 @@ pub fn put_table(buf: &mut [u8; 2048], n: usize, k: usize, table: Table) -> usiz
     length
 }
 
-pub(crate) fn table_text(text: &[u8], buf: &mut [u8]) -> Reply
+pub(crate) fn table_text(text: &[u8], buf: &mut [u8]) -> Result<usize, RefusedLine>
     ensures { Replies table_text text.now buf.old buf.new result }
 {
-    let reading = job::read(text);
-    let outcome = reading.outcome;
-    if let job::Outcome::Refused(number, line) = outcome {
-        return Reply::Refused(number, line);
-    }
-    let job = reading.job;
+    let job = job::read(text)?;
     table_job(job, buf)
 }
 
@@ -75,9 +73,8 @@ pub(crate) fn table_text(text: &[u8], buf: &mut [u8]) -> Reply
 pub fn answer(text: &[u8], out: &mut [u8; 2048]) -> usize
     ensures { Put (printed_of table_text text.now) 0 out.old out.new result }
 {
-    let tabled = table_text(text, out);
-    match tabled {
-        Reply::Written(length) => length,
-        Reply::Refused(number, line) => text::line::put_refusal(out, number, line),
+    match table_text(text, out) {
+        Ok(length) => length,
+        Err(refused) => text::line::put_refusal(out, refused.refusal, refused.line),
     }
 }

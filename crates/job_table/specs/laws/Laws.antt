@@ -1,5 +1,5 @@
 -- Laws of jobs: the shift of a proper one, and that the job of an accepted text is held by its arrays.
-use Rattle.std.specs.Prelude.{ℕ, ◌*◌, ◌≤◌, ◌<◌, refl, List, length}
+use Rattle.std.specs.Prelude.{ℕ, ◌*◌, ◌≤◌, ◌<◌, refl, List, Ok, length}
 use Rattle.std.proofs.Math.Path.{◌≡◌, ap}
 use Rattle.std.proofs.Common.{sym, ◌∙◌, mul-le-mul, arith, length-take-le}
 use Rattle.job.specs.Job.{Job, Answer, refused, accepted, job_of}
@@ -8,7 +8,7 @@ use Rattle.job.specs.Reading.{in_arrays, reading_of}
 use Rattle.job.specs.Values.{Proper}
 use Rattle.job.specs.laws.Proper.{channels, number, readings}
 use Rattle.job.specs.declared.Job as arrays
-use Rattle.job.specs.declared.Outcome.TheVariants.{Accepted}
+use Rattle.job.specs.declared.RefusedLine.{RefusedLine}
 use Rattle.job.proofs.Accepted.{accepted-proper}
 use Rattle.scatter.specs.laws.Bounds.{readings-shift}
 use Rattle.job_table.specs.Held.{Held, job_in, samples_of, table_for}
@@ -45,14 +45,16 @@ pub record Read (text : List ℕ) (a : arrays.Job) : Type 0 where
   pub held : Held a
   pub is : job_of text ≡ accepted (job_in a)
 
-pub accepted-read : (text : List ℕ) → (reading_of (job_of text)).outcome ≡ Accepted → Read text (reading_of (job_of text)).job
-accepted-read text e = by (job_of text) refl e
+pub accepted-read : (text : List ℕ) (a : arrays.Job) → reading_of (job_of text) ≡ Ok a → Read text a
+accepted-read text a = by (job_of text) refl
   where
-    by : (a : Answer) → job_of text ≡ a → (reading_of a).outcome ≡ Accepted → Read text (reading_of a).job
+    by : (answer : Answer) → job_of text ≡ answer → reading_of answer ≡ Ok a → Read text a
     by (refused number line) q e = unfold reading_of in (let z : ◌≡◌ {A = ℕ} 0 1 = cc in absurd (omega arith))
     by (accepted j) q e =
         let p = accepted-proper text j q in
-        unfold reading_of in record {
+        let same : in_arrays j ≡ a = unfold reading_of in cc in
+        let read : Read text (in_arrays j)
+        = record {
           held =
               record {
                 proper = rw (held_in j p) p;
@@ -60,4 +62,5 @@ accepted-read text e = by (job_of text) refl e
                 counts = unfold in_arrays in rw (← p.counted) (padded-size 2048 0 j.counts);
               };
           is = q ∙ ap accepted (sym (held_in j p));
-        }
+        } in
+        rw same at read

@@ -45,6 +45,26 @@ module _ {X : Type 0} (refusal : ℕ) (text entry : List X) where
   unfolding lent_after
   buffer-written e p = rw (eq-eqb refusal 0 e) p.leaves
 
+-- ---- what a test of the values answered
+
+module _ {X : Type 0} (number : ℕ) (x y : X) where
+  pub not-judged : judged number x ≡ Ok y → number ≡ 0
+  unfolding judged
+  not-judged = by (eqb number 0) refl
+    where
+      by : (test : Bool) → eqb number 0 ≡ test → cond test (Ok x) (Err (numbered number)) ≡ Ok y → number ≡ 0
+      by true q e = eqb-true number 0 q
+      by false q e = let z : ◌≡◌ {A = ℕ} 0 1 = cc in absurd (omega arith)
+
+module _ {X : Type 0} (number : ℕ) (x : X) where
+  pub judged-refused : (k : Refusal) → judged number x ≡ Err k → (number ≡ 0 → ⊥) × (k ≡ numbered number)
+  unfolding judged
+  judged-refused k = by (eqb number 0) refl
+    where
+      by : (test : Bool) → eqb number 0 ≡ test → cond test (Ok x) (Err (numbered number)) ≡ Err k → (number ≡ 0 → ⊥) × (k ≡ numbered number)
+      by true q e = let z : ◌≡◌ {A = ℕ} 0 1 = cc in absurd (omega arith)
+      by false q e = (eqb-false number 0 q, cc)
+
 -- ---- the three ends of a writer
 
 module _ (refusal : ℕ) (text entry : List ℕ) where
@@ -59,6 +79,12 @@ module _ (refusal : ℕ) (text entry : List ℕ) where
 
   pub refused : (number : ℕ) → number ≡ refusal → (number ≡ 0 → ⊥) → Writes refusal text entry entry (Err (numbered number))
   refused number e f = not_written number (refused-first refusal (length text) (length entry) (λ z. f (e ∙ z)) ∙ sym e) f
+
+  -- refused by a test of the values
+  pub not_taken : {X : Type 0} (x : X) (k : Refusal) → judged refusal x ≡ Err k → Writes refusal text entry entry (Err k)
+  not_taken x k e =
+      let j = judged-refused refusal x k e in
+      rw j.1 (refused refusal refl j.0)
 
   pub short : refusal ≡ 0 → length entry < length text → Writes refusal text entry entry (Err (numbered 12))
   short e h = not_written 12 (short-last refusal (length text) (length entry) e h) (λ (z : 12 ≡ 0). omega arith)
