@@ -9,8 +9,8 @@ ghost use Rattle.text.specs.Put.{Put, Sized};
 ghost use Rattle.job_text.specs.Writer.{WritesJobText};
 ghost use Rattle.job_text.specs.inner.Lines.{text_of_lines};
 
+use refusal::Refusal;
 use samples::{put_samples, samples_length};
-use text::Written;
 use text::line::{numbers_length, put_line};
 
 // The length of the text, whose first line has the three numbers of `first`, and whose last has the one of `last`.
@@ -59,18 +59,15 @@ pub fn write_job(
     dilutions: &[u32],
     counts: &[u32],
     out: &mut [u8],
-) -> Written
+) -> Result<usize, Refusal>
     ensures { WritesJobText n limit tolerance dilutions.now counts.now out.old out.new result }
 {
-    let number = readings::job_refusal(n, limit, tolerance, dilutions, counts);
-    if number != 0 {
-        return Written::Refused(number);
-    }
+    readings::check_job(n, limit, tolerance, dilutions, counts)?;
     let first = [n as i64, limit as i64, tolerance as i64];
     let last = [dilutions.len() as i64];
     let length = text_length(&first, n, dilutions, counts, &last);
     if out.len() < length {
-        return Written::Refused(12);
+        return Err(Refusal::ShortBuffer);
     }
-    Written::Length(put_text(out, &first, n, dilutions, counts, &last))
+    Ok(put_text(out, &first, n, dilutions, counts, &last))
 }
