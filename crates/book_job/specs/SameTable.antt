@@ -1,5 +1,5 @@
 -- Document 02, W7: 'a table .. from any other it is document 01's': a book's table is that of a job with an S line for each of its samples.
-use Rattle.std.specs.Prelude.{◌≡◌, true, ℕ}
+use Rattle.std.specs.Prelude.{◌≡◌, true, ℕ, Ok}
 use Rattle.book.specs.Book.{counts_of, dilutions_of, samples_in}
 use Rattle.book.specs.Calls.{book_refusal, make_table}
 use Rattle.book.specs.Consistent.{Consistent}
@@ -18,7 +18,7 @@ pub record TableOfJob (b : Book) (j : Job) : Type 0 where
   -- the text with those S lines is accepted as that job
   pub text : job_of (job_text_of j) ≡ accepted j
   pub samples : samples_of j ≡ samples_in b
-  pub table : table_to b ≡ table_for j
+  pub table : table_to b ≡ Ok (table_for j)
 
 -- for every book that the calls make, where its table is not refused
 abbrev pub SameTable : Type 0

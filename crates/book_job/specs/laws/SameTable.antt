@@ -1,5 +1,5 @@
 -- A book's table is that of the job with its samples.
-use Rattle.std.specs.Prelude.{◌≡◌, true, List, [], ◌++◌, ℕ, ◌*◌, ◌≤◌, leb, length}
+use Rattle.std.specs.Prelude.{◌≡◌, true, List, [], ◌++◌, ℕ, ◌*◌, ◌≤◌, leb, length, Ok}
 use Rattle.std.proofs.Common.{sym, ap₂, ◌∙◌, append-nil, arith}
 use Rattle.std.proofs.Math.Path.{ap}
 use Rattle.std.proofs.Math.Nat.{mul_comm}
@@ -13,6 +13,7 @@ use Rattle.integer.specs.Within.{within}
 use Rattle.readings.specs.Ranges.{parameters_in_range}
 use Rattle.readings.specs.Samples.{Sample, sample_at, samples}
 use Rattle.scatter.specs.Table.{table_of}
+use Rattle.refusal.specs.Refusal.{judged}
 use Rattle.job.specs.Values.{Proper, in_range}
 use Rattle.job_table.specs.Held.{samples_of, table_for}
 use Rattle.job_text.proofs.Reading.{reads-back}
@@ -62,9 +63,9 @@ module _ (b : Book) (c : Consistent b) (e : book_refusal b.n b.summary.k make_ta
     unfolding samples_of
     those = handed-over b.n (samples_in b) c.proper
 
-    tables : table_to b ≡ table_for (job_with_those b limit tolerance)
-    unfolding table_to table_for
-    tables = rw (eq-eqb (book_refusal b.n b.summary.k make_table) 0 e) (ap (table_of b.n) (sym those))
+    tables : table_to b ≡ Ok (table_for (job_with_those b limit tolerance))
+    unfolding table_to table_for judged
+    tables = rw (eq-eqb (book_refusal b.n b.summary.k make_table) 0 e) (ap (λ ss. Ok (table_of b.n ss)) (sym those))
 
 pub same-table : SameTable
 same-table b c e limit tolerance r =
