@@ -1,7 +1,7 @@
 -- The sums of the first samples of readings: that a further sample can be added, and what its sums then are.
 use mathlib.Core.Path.{◌≡◌, ap, ◌∙◌}
 use mathlib.Core.List.{List}
-use Prim.Native.Nat.{ℕ, ◌+◌, ◌-◌, ◌*◌, ◌<◌, ◌≤◌}
+use Prim.Native.Nat.{ℕ, suc, ◌+◌, ◌-◌, ◌*◌, ◌<◌, ◌≤◌}
 use native.Mathlib.Nat.{le_trans, mul-le-mul_right, mul-le-mul_left, mul-suc}
 use native.Mathlib.Numerals.{add-one}
 use native.Mathlib.Omega.{arith}
@@ -18,30 +18,27 @@ use Rattle.sums.specs.inner.Ranges.{InRange, Room}
 use Rattle.sums.specs.laws.Bounds.{sample-in-range, all-in-range, totals-bound}
 use Rattle.limits.specs.Limits.{most_samples}
 
-module _ (n : ℕ) (dilutions counts : List ℕ) (r : Readings n dilutions counts) (s start : ℕ) (more : s < length dilutions) (e : start ≡ n * s) where
-  pub next_start : start + n ≡ n * (s + 1)
-  next_start = rw (add-one, mul-suc, e)
-
-  pub part-fits : start + n ≤ length counts
-  part-fits = rw next_start (omega (arith, mul-le-mul_left n (add-le more), r.counted))
+module _ (n : ℕ) (dilutions counts : List ℕ) (r : Readings n dilutions counts) (s : ℕ) (more : s < length dilutions) where
+  pub part-fits : n * s + n ≤ length counts
+  part-fits = omega (arith, mul-suc n s, mul-le-mul_left n (next more), r.counted)
     where
-      add-le : s < length dilutions → s + 1 ≤ length dilutions
-      add-le h = omega arith
+      next : s < length dilutions → suc s ≤ length dilutions
+      next h = omega arith
 
   -- the part of the counts that is lent
-  the-sample : sample (get_or dilutions s 0) (take (start + n - start) (drop start counts)) ≡ sample_at n dilutions counts s
+  the-sample : sample (get_or dilutions s 0) (take (n * s + n - n * s) (drop (n * s) counts)) ≡ sample_at n dilutions counts s
   unfolding sample_at
-  the-sample = ap (λ m. sample (get_or dilutions s 0) (take m (drop start counts))) (sub start n) ∙ rw e
+  the-sample = ap (λ m. sample (get_or dilutions s 0) (take m (drop (n * s) counts))) (sub (n * s) n)
     where
       sub : (a b : ℕ) → a + b - a ≡ b
       sub a b = omega arith
 
-  pub in-range : InRange (sample (get_or dilutions s 0) (take (start + n - start) (drop start counts)))
+  pub in-range : InRange (sample (get_or dilutions s 0) (take (n * s + n - n * s) (drop (n * s) counts)))
   in-range = rw the-sample (sample-in-range n dilutions counts r s)
 
   -- what the samples give at each of m places
   module _ (m : ℕ) (v : Sample → ℕ → ℕ) {xs : List ℕ} (f : xs ≡ totals m v (tabulate s (sample_at n dilutions counts))) where
-    pub sums_next : {ys : List ℕ} → ys ≡ raised m (v (sample (get_or dilutions s 0) (take (start + n - start) (drop start counts)))) xs →
+    pub sums_next : {ys : List ℕ} → ys ≡ raised m (v (sample (get_or dilutions s 0) (take (n * s + n - n * s) (drop (n * s) counts)))) xs →
         ys ≡ totals m v (tabulate (s + 1) (sample_at n dilutions counts))
     sums_next g = g ∙ rw (f, the-sample, add-one, tabulate-suc)
         (totals-more m v (tabulate s (sample_at n dilutions counts)) (sample_at n dilutions counts s))

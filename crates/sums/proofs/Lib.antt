@@ -1,3 +1,2 @@
 pub mod Raised
-pub mod Placewise
 pub mod First

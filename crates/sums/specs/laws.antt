@@ -1,3 +1,4 @@
 pub mod Sums
 pub mod Bounds
 pub mod Combined
+pub mod Made

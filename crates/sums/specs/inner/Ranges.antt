@@ -1,5 +1,5 @@
 -- What samples and sums of readings within the ranges keep to.
-use Rattle.std.specs.Prelude.{◌≡◌, List, ℕ, ◌+◌, ◌*◌, ◌^◌, ◌<◌, ◌≤◌, length, get_or}
+use Rattle.std.specs.Prelude.{◌≡◌, List, ℕ, ◌*◌, ◌≤◌, length, get_or}
 use Rattle.limits.specs.Limits.{most_channels, most_samples, most_dilution, most_count}
 use Rattle.readings.specs.Samples.{Sample}
 use Rattle.sums.specs.declared.Sums.{Sums}
@@ -24,13 +24,3 @@ pub record Bounded (t : Sums) : Type 0 where
   pub number : t.k ≤ most_samples
   pub channel : (i : ℕ) → get_or t.channel i 0 ≤ t.k * z_limit
   pub cross : (p : ℕ) → get_or t.cross p 0 ≤ t.k * (z_limit * z_limit)
-
--- What two lists have at each place, added up, is a number of 64 bits.
-pub record SumsFit (xs ys : List ℕ) : Type 0 where
-  pub size : length ys ≡ length xs
-  pub fit : (p : ℕ) → get_or xs p 0 + get_or ys p 0 < 2 ^ 64
-
--- What the second has at each place is at most what the first has there.
-pub record NoneAbove (xs ys : List ℕ) : Type 0 where
-  pub size : length ys ≡ length xs
-  pub most : (p : ℕ) → get_or ys p 0 ≤ get_or xs p 0
