@@ -17,9 +17,10 @@ use Rattle.record.specs.declared.query.Answer.TheVariants.{Refused}
 use Rattle.record.specs.declared.solver.Solver.{Solver}
 use Rattle.record.specs.inner.Named.{counts_left, left_with}
 use Rattle.record.specs.laws.Named.{bench-answers, bench-leaves, named-kept, no-bench-answers, no-bench-leaves, refused-answer}
+use Rattle.refusal.specs.Refusal.{numbered}
 
 module _ (r : Record) (bench : ℕ) (call : Call) (k : Kept r) where
-  pub no-bench : is_bench bench ≡ false → (answer : Answer) (next : Record) → answer ≡ Refused 15 → next ≡ r → Done r (by bench call) answer next
+  pub no-bench : is_bench bench ≡ false → (answer : Answer) (next : Record) → answer ≡ Refused (numbered 15) → next ≡ r → Done r (by bench call) answer next
   no-bench b answer next a e =
       let leaves : next ≡ record_after r (by bench call) = e ∙ sym (no-bench-leaves r (by bench call) b) in
       record {

@@ -1,9 +1,8 @@
 -- A call refused and a call accepted, as the methods of the state end them.
-use mathlib.Core.Path.{◌≡◌, sym, ap, ◌∙◌}
-use mathlib.Core.List.{List}
-use Prim.Native.Nat.{ℕ}
-use lib.IntN.{ℤ}
-use borrow.Author.Tests.{eq-eqb, ne_eqb}
+use Rattle.std.specs.Prelude.{◌≡◌, refl, Bool, true, false, cond, ℕ, eqb, List, ℤ, Result, Ok, Err, is_ok}
+use Rattle.std.proofs.Common.{sym, ap, ◌∙◌, eq-eqb, eqb-true, true≢false}
+use Rattle.refusal.specs.Refusal.{judged, numbered}
+use Rattle.refusal.specs.declared.Refusal.{Refusal}
 use Rattle.ledger.specs.Call.{Call}
 use Rattle.ledger.specs.Refusal.{refusal_of}
 use Rattle.turn.specs.Size.{Small}
@@ -20,21 +19,50 @@ use Rattle.record.specs.declared.solver.Solver.{Solver}
 use Rattle.record.specs.declared.solver.SolverStep.{SolverStep}
 use Rattle.record.specs.laws.Fill.{shaped-rows}
 
+-- a check of a number that finds a refusal, and one that passes
+abbrev pub Finds : ℕ → Refusal → Type 0
+Finds number refusal = ◌≡◌ {A = Result Unit Refusal} (Err refusal) (judged number (record {}))
+
+abbrev pub Passes : ℕ → Type 0
+Passes number = ◌≡◌ {A = Result Unit Refusal} (Ok (record {})) (judged number (record {}))
+
+pub found : (number : ℕ) (refusal : Refusal) → Finds number refusal → (eqb number 0 ≡ false) × (refusal ≡ numbered number)
+unfolding judged
+found number refusal = by-test (eqb number 0) refl
+  where
+    by-test : (t : Bool) → eqb number 0 ≡ t → ◌≡◌ {A = Result Unit Refusal} (Err refusal) (cond t (Ok (record {})) (Err (numbered number))) →
+        (eqb number 0 ≡ false) × (refusal ≡ numbered number)
+    by-test true z e = absurd (true≢false (sym (ap is_ok e)))
+    by-test false z e = (z, cc)
+
+pub passed : (number : ℕ) → Passes number → number ≡ 0
+unfolding judged
+passed number = by-test (eqb number 0) refl
+  where
+    by-test : (t : Bool) → eqb number 0 ≡ t → ◌≡◌ {A = Result Unit Refusal} (Ok (record {})) (cond t (Ok (record {})) (Err (numbered number))) →
+        number ≡ 0
+    by-test true z e = eqb-true number 0 z
+    by-test false z e = absurd (true≢false (ap is_ok e))
+
+-- a call whose check, of its number, found a refusal, and one whose check passed
 module _ (r : Solver) (call : Call) (k : KeptSolver r) (number : ℕ) (e : number ≡ refusal_of r.n r.m call) where
-  pub refused : (next : Solver) → (number ≡ 0 → ⊥) → next ≡ r → Solved r call (Refused number) next
+  pub refuses : (refusal : Refusal) (z : SolverStep) → Finds number refusal →
+      (z.answer ≡ Refused refusal) × (z.next ≡ r) → Solved r call z.answer z.next
   unfolding answer_of after_of_under
-  refused next f h =
-      let test = ne_eqb (refusal_of r.n r.m call) 0 (λ z. f (e ∙ z)) in
-      let leaves : next ≡ after_of r call = h ∙ rw test in
-      record { answers = ap Refused e ∙ rw test; leaves = leaves; keeps = rw leaves (after_kept r call k) }
+  refuses refusal z f h =
+      let test = rw e at (found number refusal f).0 in
+      let leaves : z.next ≡ after_of r call = h.1 ∙ rw test in
+      record {
+        answers = h.0 ∙ ap Refused (rw e at (found number refusal f).1) ∙ rw test;
+        leaves = leaves;
+        keeps = rw leaves (after_kept r call k);
+      }
 
-  pub refuses : (z : SolverStep) → (number ≡ 0 → ⊥) → (z.answer ≡ Refused number) × (z.next ≡ r) → Solved r call z.answer z.next
-  refuses z f h = rw h.0 (refused z.next f h.1)
-
-  pub accepted : (answer : Answer) (next : Solver) → number ≡ 0 → answer ≡ value_of r call → next ≡ accepted_of r call → Solved r call answer next
+  pub accepted : (answer : Answer) (next : Solver) → Passes number → answer ≡ value_of r call →
+      next ≡ accepted_of r call → Solved r call answer next
   unfolding answer_of after_of_under
-  accepted answer next z a h =
-      let test = eq-eqb (refusal_of r.n r.m call) 0 (sym e ∙ z) in
+  accepted answer next f a h =
+      let test = eq-eqb (refusal_of r.n r.m call) 0 (sym e ∙ passed number f) in
       let leaves : next ≡ after_of r call = h ∙ rw test in
       record { answers = a ∙ rw test; leaves = leaves; keeps = rw leaves (after_kept r call k) }
 

@@ -23,6 +23,7 @@ use Rattle.record.specs.declared.AxisAnswer.{AxisAnswer}
 use Rattle.record.specs.declared.Record.{Record}
 use Rattle.record.specs.declared.query.Answer.TheVariants.{Refused}
 use Rattle.record.specs.laws.Named.{fresh_kept, named-kept, refused-answer}
+use Rattle.refusal.specs.Refusal.{numbered}
 
 -- the counts: a call raises that of its own bench if it is refused, and no other
 module _ (r : Record) (c : NamedCall) (bench : ℕ) (k : Kept r) (b : is_bench bench ≡ true) where
@@ -56,7 +57,7 @@ module _ (r : Record) (c : NamedCall) (bench : ℕ) (k : Kept r) (b : is_bench b
 
       by-bench : (t : Bool) → is_bench c.bench ≡ t → Dec (c.bench ≡ bench) →
           refused_by (cond t (called_under entry_limit r c) r) bench ≡
-          cond (eqb c.bench bench && is_refused (cond t (answer_of r.solver c.call) (Refused 15))) (counted (refused_by r bench))
+          cond (eqb c.bench bench && is_refused (cond t (answer_of r.solver c.call) (Refused (numbered 15)))) (counted (refused_by r bench))
           (refused_by r bench)
       by-bench true f d = rw (refused-answer r.solver c.call) (by-refusal f (eqb (refusal_of r.solver.n r.solver.m c.call) 0) d)
       by-bench false f (yes e) = absurd (true≢false (sym b ∙ ap is_bench (sym e) ∙ f))

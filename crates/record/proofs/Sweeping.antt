@@ -8,18 +8,18 @@ use Rattle.ledger.specs.Pairs.{Pair}
 use Rattle.turn.specs.laws.Eight.{shaped-square}
 use Rattle.turn.specs.Shape.{Shaped}
 use Rattle.turn.specs.Turn.{array, turn_axes, turn_matrix}
-use Rattle.choice.specs.declared.Choice.{Choice}
-use Rattle.choice.specs.declared.Choice.TheVariants.{NoTurn, Turn}
+use Rattle.choice.specs.declared.Turn.{Turn}
+use Rattle.std.specs.Prelude.{Option, Some, None}
 use Rattle.record.specs.KeptWork.{KeptWork}
 use Rattle.record.specs.laws.Turning.{work-grows, work-keeps}
 use Rattle.record.specs.Work.{Work, chosen, work_by, work_pair, work_pairs}
 
 -- after a turn the rows have their shape, as before it
 module _ (n : ℕ) (w : Work) (pair : Pair) (matrix : Shaped w.a) (axes : Shaped w.v) where
-  by-shaped : (choice : Choice) → Shaped (work_by n w pair choice).a × Shaped (work_by n w pair choice).v
+  by-shaped : (choice : Option Turn) → Shaped (work_by n w pair choice).a × Shaped (work_by n w pair choice).v
   unfolding work_by turn_matrix turn_axes array
-  by-shaped NoTurn = (matrix, axes)
-  by-shaped (Turn l minus) = (shaped-square _, shaped-square _)
+  by-shaped None = (matrix, axes)
+  by-shaped (Some picked) = (shaped-square _, shaped-square _)
 
   pub pair-shaped : Shaped (work_pair n w pair).a × Shaped (work_pair n w pair).v
   unfolding work_pair

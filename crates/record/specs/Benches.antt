@@ -7,6 +7,7 @@ use Rattle.record.specs.Record.{after, answer_to, fresh, is_refused, record_afte
 use Rattle.record.specs.declared.Record.{Record}
 use Rattle.record.specs.declared.AxisAnswer.{AxisAnswer}
 use Rattle.record.specs.declared.query.Answer.TheVariants.{Refused}
+use Rattle.refusal.specs.Refusal.{numbered}
 
 -- the answers of a list of calls, each with its row, on the record that those before it leave
 unfoldable pub answers_from : Record → List NamedCall → List AxisAnswer
@@ -15,7 +16,7 @@ answers_from r (c ∷ calls) = record { value = answer_to r c; row = row_to r c 
 
 -- 'A bench outside 1 to 4 gives 15, tried before everything else, and raises no count': nor does it change anything else
 abbrev pub Outside-benches : Type 0
-Outside-benches = (r : Record) (c : NamedCall) → ((1 ≤ c.bench) × (c.bench ≤ benches) → ⊥) → (answer_to r c ≡ Refused 15) × (record_after r c ≡ r)
+Outside-benches = (r : Record) (c : NamedCall) → ((1 ≤ c.bench) × (c.bench ≤ benches) → ⊥) → (answer_to r c ≡ Refused (numbered 15)) × (record_after r c ≡ r)
 
 -- how many calls of a bench are refused
 unfoldable pub refusals : ℕ → Record → List NamedCall → ℕ

@@ -8,6 +8,7 @@ use Rattle.record.specs.Solver.{after_of_under, answer_of, row_of, unloaded}
 use Rattle.record.specs.declared.Record.{Record}
 use Rattle.record.specs.declared.query.Answer.{Answer}
 use Rattle.record.specs.declared.query.Answer.TheVariants.{Loaded, SamplesLoaded, Turned, Swept, TournamentSwept, Pair, NoPair, Axis, Refused}
+use Rattle.refusal.specs.Refusal.{numbered}
 
 -- 'A fresh record holds no matrix and a count of 0 refused calls', for each bench
 unfoldable pub fresh : Record
@@ -27,7 +28,7 @@ raised bench counts = set counts (bench - 1) (counted (get_or counts (bench - 1)
 
 -- 'A bench outside 1 to 4 gives 15, tried before everything else'
 unfoldable pub answer_to : Record → NamedCall → Answer
-answer_to r c = cond (is_bench c.bench) (answer_of r.solver c.call) (Refused 15)
+answer_to r c = cond (is_bench c.bench) (answer_of r.solver c.call) (Refused (numbered 15))
 
 -- row i of v, with the answer of an axis call
 unfoldable pub row_to : Record → NamedCall → List ℤ
@@ -71,4 +72,4 @@ is_refused (TournamentSwept made) = false
 is_refused (Pair p q) = false
 is_refused NoPair = false
 is_refused (Axis entry error) = false
-is_refused (Refused number) = true
+is_refused (Refused refusal) = true

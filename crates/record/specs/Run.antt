@@ -28,7 +28,7 @@ no_pair (TournamentSwept made) = false
 no_pair (Pair p q) = false
 no_pair NoPair = true
 no_pair (Axis entry error) = false
-no_pair (Refused number) = false
+no_pair (Refused refusal) = false
 
 -- a cyclic sweep answers that it made no turn; a run sweeps in cyclic order
 unfoldable pub no_turn : Answer → Bool
@@ -40,7 +40,7 @@ no_turn (TournamentSwept made) = false
 no_turn (Pair p q) = false
 no_turn NoPair = false
 no_turn (Axis entry error) = false
-no_turn (Refused number) = false
+no_turn (Refused refusal) = false
 
 abbrev pub stop : Outcome → ℕ → Record → Run
 stop outcome sweeps r = record { outcome = outcome; sweeps = sweeps; last = r }

@@ -20,6 +20,7 @@ use Rattle.record.specs.declared.query.Answer.TheVariants.{Loaded, SamplesLoaded
 use Rattle.integer.specs.Matrix.{diagonal, matrix_of}
 use Rattle.record.specs.Flat.{kept_entry, entries_of, rows_of, flat_of}
 use Rattle.record.specs.declared.solver.Solver.{Solver}
+use Rattle.refusal.specs.Refusal.{numbered}
 
 -- 'A fresh record holds no matrix'
 unfoldable pub unloaded : Solver
@@ -94,7 +95,7 @@ value_of s (axis i) = Axis (kept_entry s.a (i - 1) (i - 1)) (error_of s.n s.e (k
 unfoldable pub answer_of : Solver → Call → Answer
 answer_of s call =
     let number = refusal_of s.n s.m call in
-    cond (eqb number 0) (value_of s call) (Refused number)
+    cond (eqb number 0) (value_of s call) (Refused (numbered number))
 
 -- row i of v, with the answer of an axis call; zeros where it is refused
 unfoldable pub axis_of : Solver → ℕ → List ℤ

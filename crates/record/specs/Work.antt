@@ -1,11 +1,10 @@
 -- The kept matrix and axes while pairs are turned: 8 by 8 arrays of arrays, and m.
-use Rattle.std.specs.Prelude.{ℕ, suc, Bool, true, false, List, [], ◌∷◌, ℤ}
+use Rattle.std.specs.Prelude.{ℕ, suc, Bool, true, false, List, [], ◌∷◌, ℤ, Option, Some, None}
 use Rattle.ledger.specs.Pairs.{Pair}
 use Rattle.turn.specs.Rotation.{rotation_of}
 use Rattle.turn.specs.Turn.{at, turn_matrix, turn_axes}
 use Rattle.choice.specs.Choice.{choose}
-use Rattle.choice.specs.declared.Choice.{Choice}
-use Rattle.choice.specs.declared.Choice.TheVariants.{NoTurn, Turn}
+use Rattle.choice.specs.declared.Turn.{Turn}
 
 pub record Work : Type 0 where
   pub a : List (List ℤ)
@@ -13,22 +12,22 @@ pub record Work : Type 0 where
   pub m : ℕ
 
 -- choose, then turn if one was chosen
-unfoldable pub work_by : ℕ → Work → Pair → Choice → Work
-work_by n w pair NoTurn = w
-work_by n w pair (Turn l minus) =
+unfoldable pub work_by : ℕ → Work → Pair → Option Turn → Work
+work_by n w pair None = w
+work_by n w pair (Some picked) =
     record {
-      a = turn_matrix n (rotation_of l minus) pair.p pair.q w.a;
-      v = turn_axes n (rotation_of l minus) pair.p pair.q w.v;
+      a = turn_matrix n (rotation_of picked.l picked.minus) pair.p pair.q w.a;
+      v = turn_axes n (rotation_of picked.l picked.minus) pair.p pair.q w.v;
       m = suc w.m;
     }
 
-unfoldable pub chosen : Work → Pair → Choice
+unfoldable pub chosen : Work → Pair → Option Turn
 chosen w pair = choose (at w.a pair.p pair.p) (at w.a pair.q pair.q) (at w.a pair.p pair.q)
 
 -- whether a turn was chosen
-unfoldable pub is_turn : Choice → Bool
-is_turn NoTurn = false
-is_turn (Turn l minus) = true
+unfoldable pub is_turn : Option Turn → Bool
+is_turn None = false
+is_turn (Some picked) = true
 
 unfoldable pub work_pair : ℕ → Work → Pair → Work
 work_pair n w pair = work_by n w pair (chosen w pair)

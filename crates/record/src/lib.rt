@@ -10,9 +10,11 @@ ghost use Rattle.record.specs.Record.{counted, raised};
 ghost use Rattle.record.specs.RunDone.{RunDone, Runnable};
 ghost use Rattle.record.specs.declared.query.Answer.TheVariants.{Refused};
 ghost use Rattle.record.specs.inner.Named.{counts_left, left_with};
+ghost use Rattle.refusal.specs.Refusal.{numbered};
 ghost use Rattle.std.specs.Prelude.{true, ◌≡◌};
 
 use ledger::Order;
+use refusal::Refusal;
 
 pub mod lent;
 pub mod load;
@@ -270,7 +272,7 @@ impl Record {
         if !is_bench(bench) {
             return AxisStep {
                 answer: AxisAnswer {
-                    value: Answer::Refused(15),
+                    value: Answer::Refused(Refusal::NoSuchBench),
                     row: [0; 8],
                 },
                 next: self,
@@ -307,10 +309,10 @@ impl Record {
 
     // Document 02, W8: 'A bench outside 1 to 4 gives 15, tried before everything else, and raises no count.' An axis call has its own.
     fn no_bench(self) -> Step
-        ensures { (result.answer ≡ Refused 15) × (result.next ≡ self) }
+        ensures { (result.answer ≡ Refused (numbered 15)) × (result.next ≡ self) }
     {
         Step {
-            answer: Answer::Refused(15),
+            answer: Answer::Refused(Refusal::NoSuchBench),
             next: self,
         }
     }

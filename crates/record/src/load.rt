@@ -4,21 +4,20 @@ ghost use Rattle.integer.specs.Range.{all};
 ghost use Rattle.ledger.specs.Call.{load};
 ghost use Rattle.limits.specs.Limits.{entry_limit, units, whole};
 ghost use Rattle.ledger.specs.Refusal.{equal, refusal_of, symmetric, entries_within};
+ghost use Rattle.refusal.specs.Refusal.{judged};
 ghost use Rattle.turn.specs.Turn.{square};
 ghost use Rattle.turn.specs.InUse.{in_use};
 ghost use Rattle.integer.specs.Matrix.{diagonal, matrix_of};
 ghost use Rattle.record.specs.Blank.{blank};
 
 use crate::Record;
+use refusal::Refusal;
 
 // Whether x is not beyond ±2,097,152.
 fn is_within(x: i64) -> bool
     ensures { result ≡ leb (nat_abs x) entry_limit }
 {
-    if x < 0 - Record::ENTRY_LIMIT {
-        return false;
-    }
-    x <= Record::ENTRY_LIMIT
+    -Record::ENTRY_LIMIT <= x && x <= Record::ENTRY_LIMIT
 }
 
 fn all_within(numbers: &[i64]) -> bool
@@ -63,26 +62,22 @@ fn is_symmetric(n: usize, numbers: &[i64]) -> bool
     true
 }
 
-// The refusal's number, or 0.
-pub fn load_refusal(n: usize, numbers: &[i64]) -> u32
-    ensures { result ≡ refusal_of 0 0 (load n numbers.now) }
+pub fn check_load(n: usize, numbers: &[i64]) -> Result<(), Refusal>
+    ensures { result ≡ judged (refusal_of 0 0 (load n numbers.now)) (record {}) }
 {
-    if n < Record::LEAST_CHANNELS {
-        return 5;
-    }
-    if Record::MOST_CHANNELS < n {
-        return 5;
+    if n < Record::LEAST_CHANNELS || Record::MOST_CHANNELS < n {
+        return Err(Refusal::ChannelCount);
     }
     if numbers.len() != n * n {
-        return 6;
+        return Err(Refusal::ListLength);
     }
     if !all_within(numbers) {
-        return 8;
+        return Err(Refusal::EntryLimit);
     }
     if !is_symmetric(n, numbers) {
-        return 7;
+        return Err(Refusal::Unsymmetric);
     }
-    0
+    Ok(())
 }
 
 // The kept entry in row i and column j.

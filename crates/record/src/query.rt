@@ -5,15 +5,17 @@ ghost use Rattle.ledger.specs.Call.{loose_pair, axis};
 ghost use Rattle.limits.specs.Limits.{turn_limit};
 ghost use Rattle.ledger.specs.Pairs.{cyclic};
 ghost use Rattle.ledger.specs.Refusal.{refusal_of};
+ghost use Rattle.refusal.specs.Refusal.{judged};
 ghost use Rattle.turn.specs.Size.{Small};
 ghost use Rattle.turn.specs.Turn.{at};
 ghost use Rattle.record.specs.Loose.{loose_of};
 ghost use Rattle.record.specs.Record.{is_refused};
 
 use crate::Record;
+use refusal::Refusal;
 
 // What a call answers.
-#[derive(Clone, Copy)]
+#[derive(Clone, Copy, Debug, PartialEq, Eq)]
 pub enum Answer {
     Loaded,
     SamplesLoaded(u32),
@@ -23,45 +25,38 @@ pub enum Answer {
     Pair { p: usize, q: usize },
     NoPair,
     Axis { entry: i64, error: u64 },
-    Refused(u32),
+    Refused(Refusal),
 }
 
 // Whether a call was refused.
 pub(crate) fn is_refused(answer: Answer) -> bool
     ensures { result ≡ is_refused answer }
 {
-    if let Answer::Refused(_) = answer {
-        true
-    } else {
-        false
-    }
+    matches!(answer, Answer::Refused(_))
 }
 
-pub(crate) fn loose_pair_refusal(n: usize, t: u64) -> u32
-    ensures { result ≡ refusal_of n 0 (loose_pair t) }
+pub(crate) fn check_loose_pair(n: usize, t: u64) -> Result<(), Refusal>
+    ensures { result ≡ judged (refusal_of n 0 (loose_pair t)) (record {}) }
 {
     if n == 0 {
-        return 10;
+        return Err(Refusal::NoMatrix);
     }
     if Record::TOLERANCE_LIMIT < t {
-        return 2;
+        return Err(Refusal::OutOfRange);
     }
-    0
+    Ok(())
 }
 
-pub(crate) fn axis_refusal(n: usize, i: usize) -> u32
-    ensures { result ≡ refusal_of n 0 (axis i) }
+pub(crate) fn check_axis(n: usize, i: usize) -> Result<(), Refusal>
+    ensures { result ≡ judged (refusal_of n 0 (axis i)) (record {}) }
 {
     if n == 0 {
-        return 10;
+        return Err(Refusal::NoMatrix);
     }
-    if i < 1 {
-        return 9;
+    if i < 1 || n < i {
+        return Err(Refusal::OutsideMatrix);
     }
-    if n < i {
-        return 9;
-    }
-    0
+    Ok(())
 }
 
 // |a_ij|, i and j from 0.

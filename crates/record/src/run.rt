@@ -14,7 +14,7 @@ use ledger::Order;
 pub const OWN_BENCH: usize = 1;
 
 // How a run ends.
-#[derive(Clone, Copy)]
+#[derive(Clone, Copy, Debug, PartialEq, Eq)]
 pub enum Outcome {
     Settled,
     Still,
@@ -42,12 +42,7 @@ fn is_settled(matrix: &[[i64; 8]; 8], n: usize, tolerance: u64) -> bool
     requires { n ≤ 8 }
     ensures { result ≡ no_pair (loose_of (at matrix.now) tolerance (cyclic n)) }
 {
-    let answer = query::loose_pair_of(matrix, n, tolerance);
-    if let Answer::NoPair = answer {
-        true
-    } else {
-        false
-    }
+    matches!(query::loose_pair_of(matrix, n, tolerance), Answer::NoPair)
 }
 
 // Sweeps until no pair is loose, a sweep makes no turn, or the limit is reached. Sixteen sweeps make at most 448 turns, so that none is refused.

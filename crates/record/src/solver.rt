@@ -12,6 +12,7 @@ use crate::query::Answer;
 use crate::run::Outcome;
 use crate::{AxisAnswer, load, query, rows, run, sweep};
 use ledger::Order;
+use refusal::Refusal;
 
 // Channels n, 0 where there is no matrix; turns made m; the shift e of a table made from readings, else 0; the kept matrix and axes, row after
 // row, 8 to a row.
@@ -93,9 +94,8 @@ impl Solver {
         requires { KeptSolver self }
         ensures { Solved self (load n numbers.now) result.answer result.next }
     {
-        let number = load::load_refusal(n, numbers);
-        if number != 0 {
-            return self.refuse(number);
+        if let Err(refusal) = load::check_load(n, numbers) {
+            return self.refuse(refusal);
         }
         SolverStep {
             answer: Answer::Loaded,
@@ -108,17 +108,13 @@ impl Solver {
         requires { KeptSolver self }
         ensures { Solved self (load_samples n dilutions.now counts.now) result.answer result.next }
     {
-        let number = readings::samples_refusal(n, dilutions, counts);
-        if number != 0 {
-            return self.refuse(number);
+        if let Err(refusal) = readings::check_samples(n, dilutions, counts) {
+            return self.refuse(refusal);
         }
         let table = scatter::table::table_of_readings(n, dilutions, counts);
-        let entries = table.entries;
-        let e = table.e;
-        let size = n * n;
         SolverStep {
-            answer: Answer::SamplesLoaded(e),
-            next: Solver::of_table(n, &entries[..size], e),
+            answer: Answer::SamplesLoaded(table.e),
+            next: Solver::of_table(n, &table.entries[..n * n], table.e),
         }
     }
 
@@ -126,17 +122,14 @@ impl Solver {
         requires { KeptSolver self }
         ensures { Solved self (turn p q) result.answer result.next }
     {
-        let n = self.n;
-        let m = self.m;
-        let number = sweep::turn_refusal(n, m, p, q);
-        if number != 0 {
-            return self.refuse(number);
+        if let Err(refusal) = sweep::check_turn(self.n, self.m, p, q) {
+            return self.refuse(refusal);
         }
         let mut matrix = rows::unpacked(&self.a);
         let mut axes = rows::unpacked(&self.v);
-        let made = sweep::work_pair(&mut matrix, &mut axes, n, m, p - 1, q - 1);
+        let made = sweep::work_pair(&mut matrix, &mut axes, self.n, self.m, p - 1, q - 1);
         SolverStep {
-            answer: Answer::Turned(m < made),
+            answer: Answer::Turned(self.m < made),
             next: self.with_rows(matrix, axes, made),
         }
     }
@@ -146,17 +139,14 @@ impl Solver {
         requires { KeptSolver self }
         ensures { Solved self (sweep_in order) result.answer result.next }
     {
-        let n = self.n;
-        let m = self.m;
-        let number = sweep::sweep_refusal(n, m);
-        if number != 0 {
-            return self.refuse(number);
+        if let Err(refusal) = sweep::check_sweep(self.n, self.m) {
+            return self.refuse(refusal);
         }
         let mut matrix = rows::unpacked(&self.a);
         let mut axes = rows::unpacked(&self.v);
-        let made = sweep::work_pairs(&mut matrix, &mut axes, n, m, order);
+        let made = sweep::work_pairs(&mut matrix, &mut axes, self.n, self.m, order);
         SolverStep {
-            answer: sweep::swept(order, made - m),
+            answer: sweep::swept(order, made - self.m),
             next: self.with_rows(matrix, axes, made),
         }
     }
@@ -166,33 +156,29 @@ impl Solver {
         requires { KeptSolver self }
         ensures { result ≡ answer_of self (loose_pair t) }
     {
-        let n = self.n;
-        let number = query::loose_pair_refusal(n, t);
-        if number != 0 {
-            return Answer::Refused(number);
+        if let Err(refusal) = query::check_loose_pair(self.n, t) {
+            return Answer::Refused(refusal);
         }
-        let matrix = rows::unpacked(&self.a);
-        query::loose_pair_of(&matrix, n, t)
+        query::loose_pair_of(&rows::unpacked(&self.a), self.n, t)
     }
 
     pub(crate) fn axis(self, i: usize) -> AxisAnswer
         requires { KeptSolver self }
         ensures { (result.value ≡ answer_of self (axis i)) × (result.row ≡ axis_of self i) }
     {
-        let n = self.n;
-        let number = query::axis_refusal(n, i);
-        if number != 0 {
+        if let Err(refusal) = query::check_axis(self.n, i) {
             return AxisAnswer {
-                value: Answer::Refused(number),
+                value: Answer::Refused(refusal),
                 row: [0; 8],
             };
         }
         let matrix = rows::unpacked(&self.a);
-        let entry = matrix[i - 1][i - 1];
-        let error = query::error_of(&matrix, n, self.e, self.m, i - 1);
+        let at = i - 1;
+        let entry = matrix[at][at];
+        let error = query::error_of(&matrix, self.n, self.e, self.m, at);
         AxisAnswer {
             value: Answer::Axis { entry, error },
-            row: rows::row(&self.v, i - 1),
+            row: rows::row(&self.v, at),
         }
     }
 
@@ -213,11 +199,11 @@ impl Solver {
     }
 
     // What a refused call answers and leaves.
-    fn refuse(self, number: u32) -> SolverStep
-        ensures { (result.answer ≡ Refused number) × (result.next ≡ self) }
+    fn refuse(self, refusal: Refusal) -> SolverStep
+        ensures { (result.answer ≡ Refused refusal) × (result.next ≡ self) }
     {
         SolverStep {
-            answer: Answer::Refused(number),
+            answer: Answer::Refused(refusal),
             next: self,
         }
     }

@@ -5,6 +5,7 @@ ghost use Rattle.ledger.specs.Order.{pairs_in};
 ghost use Rattle.ledger.specs.declared.Order.TheVariants.{Tournament};
 ghost use Rattle.limits.specs.Limits.{turn_limit};
 ghost use Rattle.ledger.specs.Refusal.{refusal_of};
+ghost use Rattle.refusal.specs.Refusal.{judged};
 ghost use Rattle.turn.specs.Size.{Small};
 ghost use Rattle.turn.specs.Turn.{at};
 ghost use Rattle.choice.specs.Choice.{choose};
@@ -15,43 +16,38 @@ ghost use Rattle.record.specs.Solver.{swept_in};
 
 use crate::Record;
 use crate::query::Answer;
-use choice::Choice;
+use choice::Turn;
 use ledger::Order;
+use refusal::Refusal;
 use turn::pair::Rotation;
 
-pub(crate) fn turn_refusal(n: usize, m: u64, p: usize, q: usize) -> u32
-    ensures { result ≡ refusal_of n m (turn p q) }
+pub(crate) fn check_turn(n: usize, m: u64, p: usize, q: usize) -> Result<(), Refusal>
+    ensures { result ≡ judged (refusal_of n m (turn p q)) (record {}) }
 {
     if n == 0 {
-        return 10;
+        return Err(Refusal::NoMatrix);
     }
-    if p < 1 {
-        return 9;
-    }
-    if q <= p {
-        return 9;
-    }
-    if n < q {
-        return 9;
+    if p < 1 || q <= p || n < q {
+        return Err(Refusal::OutsideMatrix);
     }
     if Record::TURN_LIMIT <= m {
-        return 11;
+        return Err(Refusal::TurnLimit);
     }
-    0
+    Ok(())
 }
 
 // A sweep's refusal does not depend on its order.
-pub(crate) fn sweep_refusal(n: usize, m: u64) -> u32
+pub(crate) fn check_sweep(n: usize, m: u64) -> Result<(), Refusal>
     requires { (n ≤ 8) × (m ≤ turn_limit) }
-    ensures { result ≡ refusal_of n m sweep }
+    ensures { result ≡ judged (refusal_of n m sweep) (record {}) }
 {
     if n == 0 {
-        return 10;
+        return Err(Refusal::NoMatrix);
     }
     if Record::TURN_LIMIT < m + (n * (n - 1) / 2) as u64 {
-        return 11;
+        return Err(Refusal::TurnLimit);
     }
-    0
+    Ok(())
 }
 
 // What a sweep answers that made so many turns.
@@ -65,7 +61,7 @@ pub(crate) fn swept(order: Order, made: u64) -> Answer
 }
 
 // The choice for the pair p < q, in rows and columns from 0.
-fn choice_at(a: &[[i64; 8]; 8], p: usize, q: usize) -> Choice
+fn choice_at(a: &[[i64; 8]; 8], p: usize, q: usize) -> Option<Turn>
     requires { (p < 8) × (q < 8) × Small a.now }
     ensures { result ≡ choose (at a.now p p) (at a.now q q) (at a.now p q) }
 {
@@ -85,10 +81,10 @@ pub(crate) fn work_pair(
     ensures { work_at matrix.new axes.new result ≡ work_pair n (work_at matrix.old axes.old m)
         (record { p = p; q = q }) }
 {
-    let Choice::Turn { l, minus } = choice_at(matrix, p, q) else {
+    let Some(turn) = choice_at(matrix, p, q) else {
         return m;
     };
-    let r = Rotation::of(l, minus);
+    let r = Rotation::of(turn.l, turn.minus);
     turn::turn_axes(axes, n, r, p, q);
     let turned = turn::turn_matrix(*matrix, n, r, p, q);
     *matrix = turned;

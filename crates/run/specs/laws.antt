@@ -1,3 +1,4 @@
 pub mod Course
 pub mod Calls
 pub mod Table
+pub mod Word

@@ -1,30 +1,15 @@
 // The word of an outcome: settled, still or spent.
-ghost use Rattle.run.specs.Word.{Spells};
+ghost use Rattle.std.specs.Prelude.{◌≡◌};
+ghost use Rattle.run.specs.Word.{outcome_word};
 
 use record::Outcome;
 
-// The word is the first `length` bytes.
-#[derive(Clone, Copy)]
-pub struct Word {
-    pub bytes: [u8; 7],
-    pub length: usize,
-}
-
-pub fn word_of(outcome: Outcome) -> Word
-    ensures { Spells outcome result }
+pub fn word_of(outcome: Outcome) -> &'static [u8]
+    ensures { result.now ≡ outcome_word outcome }
 {
     match outcome {
-        Outcome::Settled => Word {
-            bytes: [b's', b'e', b't', b't', b'l', b'e', b'd'],
-            length: 7,
-        },
-        Outcome::Still => Word {
-            bytes: [b's', b't', b'i', b'l', b'l', 0, 0],
-            length: 5,
-        },
-        Outcome::Spent => Word {
-            bytes: [b's', b'p', b'e', b'n', b't', 0, 0],
-            length: 5,
-        },
+        Outcome::Settled => b"settled",
+        Outcome::Still => b"still",
+        Outcome::Spent => b"spent",
     }
 }

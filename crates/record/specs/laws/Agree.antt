@@ -1,5 +1,5 @@
 -- The record and the ledger, call by call: the same n, m, e, matrix and axes.
-use Rattle.std.specs.Prelude.{◌≡◌, refl, Bool, true, false, cond, List, [], ◌∷◌, eqb, ℤ}
+use Rattle.std.specs.Prelude.{◌≡◌, refl, Bool, true, false, cond, List, [], ◌∷◌, eqb, ℤ, Option, Some, None}
 use Rattle.std.proofs.Common.{sym, subst, ◌∙◌, arith, eqb-true}
 use Rattle.std.proofs.Math.Path.{ap}
 use Prim.Native.Nat.{ℕ, suc, ◌-◌, ◌≤◌}
@@ -22,8 +22,7 @@ use Rattle.record.specs.KeptWork.{KeptWork}
 use Rattle.turn.specs.laws.InUse.{at-array, in_use-inside}
 use Rattle.record.specs.laws.Turning.{work-keeps}
 use Rattle.record.specs.Work.{Work, chosen, work_by, work_pair, work_pairs}
-use Rattle.choice.specs.declared.Choice.{Choice}
-use Rattle.choice.specs.declared.Choice.TheVariants.{NoTurn, Turn}
+use Rattle.choice.specs.declared.Turn.{Turn}
 use Rattle.record.specs.laws.Fill.{at-rows_of, kept-flat_of}
 use Rattle.record.specs.Flat.{kept_entry}
 use Rattle.record.specs.Kept.{KeptSolver}
@@ -39,18 +38,18 @@ pub record AgreeWork (n e : ℕ) (w : Work) (s : State) : Type 0 where
   pub axes : Same n (at w.v) s.axes
 
 module _ (n e : ℕ) (w : Work) (s : State) (pair : Pair) (b : n ≤ 8) (k : KeptWork n w) (a : AgreeWork n e w s) (o : Ordered n pair) where
-  by-choice : (choice : Choice) → AgreeWork n e (work_by n w pair choice) (take s pair choice)
+  by-choice : (choice : Option Turn) → AgreeWork n e (work_by n w pair choice) (take s pair choice)
   unfolding work_by take turn_matrix turn_axes
-  by-choice NoTurn = a
-  by-choice (Turn l minus) =
+  by-choice None = a
+  by-choice (Some picked) =
       record {
         size = a.size;
         shift = a.shift;
         turns = ap suc a.turns;
         matrix = λ i j h g. at-array n _ (at w.a) b k.outside i j ∙ in_use-inside n _ i j h g
-            ∙ turned_same n pair.p pair.q o.ordered o.within (at w.a) s.B a.matrix (rotation_of l minus) i j h g;
+            ∙ turned_same n pair.p pair.q o.ordered o.within (at w.a) s.B a.matrix (rotation_of picked.l picked.minus) i j h g;
         axes = λ i j h g. at-array n _ (at w.v) b k.axes-outside i j ∙ in_use-inside n _ i j h g
-            ∙ turned_axes-same n pair.p pair.q o.ordered o.within (at w.v) s.axes a.axes (rotation_of l minus) i j h g;
+            ∙ turned_axes-same n pair.p pair.q o.ordered o.within (at w.v) s.axes a.axes (rotation_of picked.l picked.minus) i j h g;
       }
 
   agree-pair : AgreeWork n e (work_pair n w pair) (turn_pair s pair)

@@ -1,9 +1,8 @@
 -- What a turn and a sweep answer is what they add to m: 'm counts turns made', 'The answer is how many turns it made'; and a load of samples answers
 -- the e that the record then has.
-use Rattle.std.specs.Prelude.{◌≡◌, refl, Bool, true, false, ℕ, ◌+◌, ◌-◌, List}
+use Rattle.std.specs.Prelude.{◌≡◌, refl, Bool, true, false, ℕ, ◌+◌, ◌-◌, List, Option, Some, None}
 use Rattle.std.proofs.Common.{arith, eq-eqb}
-use Rattle.choice.specs.declared.Choice.{Choice}
-use Rattle.choice.specs.declared.Choice.TheVariants.{NoTurn, Turn}
+use Rattle.choice.specs.declared.Turn.{Turn}
 use Rattle.ledger.specs.Call.{load_samples, sweep_in, turn}
 use Rattle.ledger.specs.Order.{pairs_in}
 use Rattle.ledger.specs.Pairs.{Pair}
@@ -42,11 +41,11 @@ unfoldable pub made : Bool → ℕ
 made true = 1
 made false = 0
 
-by-choice : (n : ℕ) (w : Work) (pair : Pair) (choice : Choice) (b : Bool) → Turned (is_turn choice) ≡ Turned b →
+by-choice : (n : ℕ) (w : Work) (pair : Pair) (choice : Option Turn) (b : Bool) → Turned (is_turn choice) ≡ Turned b →
     (work_by n w pair choice).m ≡ w.m + made b
 unfolding work_by is_turn made
-by-choice n w pair NoTurn b h = let e : false ≡ b = cc in rw (← e) (omega arith)
-by-choice n w pair (Turn l minus) b h = let e : true ≡ b = cc in rw (← e) (omega arith)
+by-choice n w pair None b h = let e : false ≡ b = cc in rw (← e) (omega arith)
+by-choice n w pair (Some picked) b h = let e : true ≡ b = cc in rw (← e) (omega arith)
 
 -- a turn call that is not refused
 pub turn-counts : (r : Solver) (p q : ℕ) → refusal_of r.n r.m (turn p q) ≡ 0 → (b : Bool) → answer_of r (turn p q) ≡ Turned b →

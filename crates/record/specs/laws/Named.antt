@@ -27,6 +27,7 @@ use Rattle.record.specs.declared.Record.{Record}
 use Rattle.record.specs.declared.query.Answer.TheVariants.{Pair as PairIs, Refused}
 use Rattle.record.specs.declared.solver.Solver.{Solver}
 use Rattle.record.specs.laws.After.{after-kept-under, unloaded-kept}
+use Rattle.refusal.specs.Refusal.{numbered}
 
 raised-length : (bench : ℕ) (counts : List ℕ) → length (raised bench counts) ≡ length counts
 unfolding raised
@@ -61,7 +62,7 @@ named-kept r c k = by-bench-kept entry_limit some-entry (le_refl entry_limit) r 
 
 -- 'a bench outside 1 to 4 gives 15 .. and raises no count'; a call of one of the four answers and does what the call does
 module _ (r : Record) (c : NamedCall) where
-  pub no-bench-answers : is_bench c.bench ≡ false → answer_to r c ≡ Refused 15
+  pub no-bench-answers : is_bench c.bench ≡ false → answer_to r c ≡ Refused (numbered 15)
   unfolding answer_to
   no-bench-answers e = rw e
 
@@ -141,6 +142,6 @@ pub refused-answer : (s : Solver) (call : Call) → is_refused (answer_of s call
 unfolding answer_of is_refused
 refused-answer s call = by-refusal (eqb (refusal_of s.n s.m call) 0)
   where
-    by-refusal : (b : Bool) → is_refused (cond b (value_of s call) (Refused (refusal_of s.n s.m call))) ≡ not b
+    by-refusal : (b : Bool) → is_refused (cond b (value_of s call) (Refused (numbered (refusal_of s.n s.m call)))) ≡ not b
     by-refusal true = value-given s call
     by-refusal false = refl

@@ -1,5 +1,5 @@
 -- A turn keeps what is kept: the matrix stays symmetric and 0 outside, and the bounds grow with m. And what is kept is small enough to turn.
-use Rattle.std.specs.Prelude.{◌≡◌, List, [], ◌∷◌, ℕ, suc, ◌+◌, ◌*◌, ◌≤◌, ◌<◌, ltb, length}
+use Rattle.std.specs.Prelude.{◌≡◌, List, [], ◌∷◌, ℕ, suc, ◌+◌, ◌*◌, ◌≤◌, ◌<◌, ltb, length, Option, Some, None}
 use Rattle.std.proofs.Math.Path.{sym}
 use Rattle.std.proofs.Common.{ap, ◌∙◌, arith, lt-ltb, le-ltb}
 use Rattle.std.proofs.Math.Decide.{dec_lt}
@@ -25,16 +25,15 @@ use Rattle.turn.specs.InUse.{in_use}
 use Rattle.turn.specs.laws.InUse.{Use, at-array, in_use-inside, in_use-outside, in_use-symmetric, inside, outside, use-of}
 use Rattle.choice.specs.Widest.{widest}
 use Rattle.limits.specs.Limits.{turn_limit}
-use Rattle.choice.specs.declared.Choice.{Choice}
-use Rattle.choice.specs.declared.Choice.TheVariants.{NoTurn, Turn}
+use Rattle.choice.specs.declared.Turn.{Turn}
 use Rattle.record.specs.KeptWork.{KeptWork}
 use Rattle.record.specs.Work.{Work, chosen, is_turn, work_by, work_pair, work_pairs}
 
 module _ (n : ℕ) (w : Work) (pair : Pair) (b : n ≤ 8) (k : KeptWork n w) (pq : pair.p < pair.q) (qn : pair.q < n) where
-  keeps : (choice : Choice) → KeptWork n (work_by n w pair choice)
+  keeps : (choice : Option Turn) → KeptWork n (work_by n w pair choice)
   unfolding work_by turn_matrix turn_axes
-  keeps NoTurn = k
-  keeps (Turn l minus) =
+  keeps None = k
+  keeps (Some picked) =
       record {
         symmetric = λ i j. matrix i j ∙ in_use-symmetric n _
             (λ i j o m. turned-symmetric r pair.p pair.q (at w.a) pq i j (k.symmetric i j)) i j ∙ sym (matrix j i);
@@ -45,7 +44,7 @@ module _ (n : ℕ) (w : Work) (pair : Pair) (b : n ≤ 8) (k : KeptWork n w) (pq
       }
     where
       r : Rotation
-      r = rotation_of l minus
+      r = rotation_of picked.l picked.minus
 
       matrix : (i j : ℕ) → at (turn_matrix n r pair.p pair.q w.a) i j ≡ in_use n (turned r pair.p pair.q (at w.a)) i j
       matrix i j = at-array n _ (at w.a) b k.outside i j
@@ -56,7 +55,7 @@ module _ (n : ℕ) (w : Work) (pair : Pair) (b : n ≤ 8) (k : KeptWork n w) (pq
       bound : squares n (turned r pair.p pair.q (at w.a)) ≤ matrix_bound (suc w.m) * matrix_bound (suc w.m)
       bound =
           rw grown at
-          (turned-squares r n pair.p pair.q pq qn (rotation_of-whole l minus) b (at w.a) (λ i j o m. k.symmetric i j) (matrix_bound w.m)
+          (turned-squares r n pair.p pair.q pq qn (rotation_of-whole picked.l picked.minus) b (at w.a) (λ i j o m. k.symmetric i j) (matrix_bound w.m)
           k.norm)
         where
           grown : matrix_bound w.m + 4 ≡ matrix_bound (suc w.m)
@@ -66,7 +65,7 @@ module _ (n : ℕ) (w : Work) (pair : Pair) (b : n ≤ 8) (k : KeptWork n w) (pq
           sumℕ n (λ i. sq (at (turn_axes n r pair.p pair.q w.v) i j)) ≤ axes_bound (suc w.m) * axes_bound (suc w.m)
       column j (yes h) =
           rw (sumℕ-cong n (λ i l. ap sq (axes i j ∙ in_use-inside n _ i j l h)))
-          (rw grown at (axes-column r n pair.p pair.q pq qn (rotation_of-whole l minus) (at w.v) j (axes_bound w.m) (k.columns j)))
+          (rw grown at (axes-column r n pair.p pair.q pq qn (rotation_of-whole picked.l picked.minus) (at w.v) j (axes_bound w.m) (k.columns j)))
         where
           grown : axes_bound w.m + 1 ≡ axes_bound (suc w.m)
           grown = omega arith
@@ -90,9 +89,9 @@ pub work-grows : (n : ℕ) (w : Work) (pair : Pair) → (work_pair n w pair).m �
 unfolding work_pair work_by
 work-grows n w pair = grows (chosen w pair)
   where
-    grows : (choice : Choice) → (work_by n w pair choice).m ≤ w.m + 1
-    grows NoTurn = omega arith
-    grows (Turn l minus) = omega arith
+    grows : (choice : Option Turn) → (work_by n w pair choice).m ≤ w.m + 1
+    grows None = omega arith
+    grows (Some picked) = omega arith
 
 pub works-grow : (n : ℕ) (w : Work) (pairs : List Pair) → (work_pairs n w pairs).m ≤ w.m + length pairs
 unfolding work_pairs
@@ -104,9 +103,9 @@ work-least : (n : ℕ) (w : Work) (pair : Pair) → w.m ≤ (work_pair n w pair)
 unfolding work_pair work_by
 work-least n w pair = least (chosen w pair)
   where
-    least : (choice : Choice) → w.m ≤ (work_by n w pair choice).m
-    least NoTurn = omega arith
-    least (Turn l minus) = omega arith
+    least : (choice : Option Turn) → w.m ≤ (work_by n w pair choice).m
+    least None = omega arith
+    least (Some picked) = omega arith
 
 pub works-least : (n : ℕ) (w : Work) (pairs : List Pair) → w.m ≤ (work_pairs n w pairs).m
 unfolding work_pairs
@@ -118,9 +117,9 @@ pub work-turned : (n : ℕ) (w : Work) (pair : Pair) → ltb w.m (work_pair n w 
 unfolding work_pair work_by is_turn
 work-turned n w pair = told (chosen w pair)
   where
-    told : (choice : Choice) → ltb w.m (work_by n w pair choice).m ≡ is_turn choice
-    told NoTurn = le-ltb w.m w.m (omega arith)
-    told (Turn l minus) = lt-ltb w.m (suc w.m) (omega arith)
+    told : (choice : Option Turn) → ltb w.m (work_by n w pair choice).m ≡ is_turn choice
+    told None = le-ltb w.m w.m (omega arith)
+    told (Some picked) = lt-ltb w.m (suc w.m) (omega arith)
 
 -- what is kept is small enough to choose and to turn
 module _ (n : ℕ) (w : Work) (k : KeptWork n w) (few : w.m ≤ turn_limit) where

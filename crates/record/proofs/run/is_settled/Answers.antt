@@ -6,7 +6,7 @@ use Rattle.record.proofs.run.is_settled.Goals as goal
 
 pub returns-in-NoPair : goal.returns-in-NoPair
 unfolding no_pair
-returns-in-NoPair c = ap no_pair (sym c.in-NoPair.is ∙ c.loose_pair_of-answer.ensures)
+returns-in-NoPair c = ap no_pair (sym c.in-NoPair.is ∙ c.loose_pair_of.ensures)
 
 pub returns-in_default : goal.returns-in_default
-returns-in_default c = not_none _ c.in_default.not-NoPair ∙ ap no_pair c.loose_pair_of-answer.ensures
+returns-in_default c = not_none _ c.in_default.not-NoPair ∙ ap no_pair c.loose_pair_of.ensures
