@@ -18,7 +18,8 @@ use Rattle.record.specs.Kept.{Kept}
 use Rattle.scatter.specs.declared.table.Table.{Table}
 use Rattle.scatter.specs.laws.Table.{table_is}
 use Rattle.text.specs.Written.{Writes}
-use Rattle.text.specs.declared.written.Written.{Written}
+use Rattle.std.specs.Prelude.{Result}
+use Rattle.refusal.specs.declared.Refusal.{Refusal}
 use Rattle.report.specs.Done.{ReportsRun, TableReportable, TableRunnable, run_of_table}
 use Rattle.report.specs.Report.{load_for, report_of, run_for}
 
@@ -63,7 +64,7 @@ module _ (j : Job) (p : Proper j) where
         record { allowed = r.allowed; size = r.size; samples = rw (← many) (number j p).1 }
 
     -- its report is the job's
-    pub table-reports : {entry exit : List ℕ} {w : Written} → ReportsRun (run_of_table j.n j.limit j.tolerance t) k entry exit w →
+    pub table-reports : {entry exit : List ℕ} {w : Result ℕ Refusal} → ReportsRun (run_of_table j.n j.limit j.tolerance t) k entry exit w →
         Writes 0 (report_of j) entry exit w × (length (report_of j) ≤ 2048)
     unfolding report_of
     table-reports r = let held = rw (e, table-is-run, ← many) at r in (held.writes, held.short)

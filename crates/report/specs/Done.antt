@@ -1,12 +1,12 @@
 -- What the reports of a run and of a table require, and what they ensure; and what runs do.
-use Rattle.std.specs.Prelude.{ℕ, ◌*◌, ◌≤◌, ◌≡◌, List, length, take}
+use Rattle.std.specs.Prelude.{ℕ, ◌*◌, ◌≤◌, ◌≡◌, List, Result, length, take}
 use Rattle.limits.specs.Limits.{most_samples, most_sweeps}
 use Rattle.record.specs.Kept.{Kept}
 use Rattle.record.specs.declared.run.Run.{Run}
 use Rattle.run.specs.Run.{Allowed, table_run}
 use Rattle.scatter.specs.declared.table.Table.{Table}
 use Rattle.text.specs.Written.{Writes}
-use Rattle.text.specs.declared.written.Written.{Written}
+use Rattle.refusal.specs.declared.Refusal.{Refusal}
 use Rattle.report.specs.Report.{run_report}
 
 -- a run that is over, on the table of at most 256 samples
@@ -16,7 +16,7 @@ pub record Reportable (z : Run) (k : ℕ) : Type 0 where
   pub samples : k ≤ most_samples
 
 -- the report is written, or refused 12; it has at most 2048 bytes
-pub record ReportsRun (z : Run) (k : ℕ) (entry exit : List ℕ) (r : Written) : Type 0 where
+pub record ReportsRun (z : Run) (k : ℕ) (entry exit : List ℕ) (r : Result ℕ Refusal) : Type 0 where
   pub writes : Writes 0 (run_report k z) entry exit r
   pub short : length (run_report k z) ≤ 2048
 

@@ -10,9 +10,10 @@ use record::{Answer, Record};
 fn numbers_of(number: i64, entry: i64, error: i64, row: [i64; 8]) -> [i64; 11]
     ensures { result ≡ number ∷ entry ∷ error ∷ row }
 {
-    [
-        number, entry, error, row[0], row[1], row[2], row[3], row[4], row[5], row[6], row[7],
-    ]
+    let mut numbers = [0; 11];
+    numbers[..3].copy_from_slice(&[number, entry, error]);
+    numbers[3..].copy_from_slice(&row);
+    numbers
 }
 
 // i, a_ii, r_i and row i of v.
@@ -37,11 +38,8 @@ pub fn axes_numbers(r: Record) -> [[i64; 11]; 8]
 {
     let n = r.channels();
     let mut numbers = [[0i64; 11]; 8];
-    let mut i = 0;
-    while i < n {
-        let number = i + 1;
-        numbers[i] = axis_numbers(r, number);
-        i = number;
+    for i in 0..n {
+        numbers[i] = axis_numbers(r, i + 1);
     }
     numbers
 }

@@ -12,15 +12,14 @@ ghost use Rattle.text.specs.Put.{Put};
 ghost use Rattle.report.specs.Done.{Ran, Reportable, ReportsRun, TableReportable, TableRunnable, run_of_table};
 ghost use Rattle.report.specs.Report.{report_of, run_for};
 
-use job::Job;
-use job::reply::Reply;
+use job::{Job, RefusedLine};
 use record::Run;
+use refusal::Refusal;
 use scatter::table::Table;
-use text::Written;
 
 // The report of a run on the table of k samples. The length is known before the first byte is written, so a buffer that is too short stays as it
 // is.
-pub fn report_run(run: Run, k: usize, buf: &mut [u8]) -> Written
+pub fn report_run(run: Run, k: usize, buf: &mut [u8]) -> Result<usize, Refusal>
     requires { Reportable run k }
     ensures { ReportsRun run k buf.old buf.new result }
 {
@@ -38,9 +37,9 @@ pub fn report_run(run: Run, k: usize, buf: &mut [u8]) -> Written
     ];
     let length = lines::text_length(&head, outcome, &listed, n);
     if buf.len() < length {
-        return Written::Refused(12);
+        return Err(Refusal::ShortBuffer);
     }
-    Written::Length(lines::put_text(buf, &head, outcome, &listed, n))
+    Ok(lines::put_text(buf, &head, outcome, &listed, n))
 }
 
 // The run on a table's first n × n entries and its e.
@@ -61,7 +60,7 @@ pub fn report_table(
     tolerance: u64,
     table: Table,
     buf: &mut [u8],
-) -> Written
+) -> Result<usize, Refusal>
     requires { TableReportable n k limit tolerance table }
     ensures { ReportsRun (run_of_table n limit tolerance table) k buf.old buf.new result }
 {
@@ -81,27 +80,21 @@ pub fn run_of_job(job: Job) -> Run
     run_of_table(n, limit, tolerance, table)
 }
 
-fn report_job(job: Job, buf: &mut [u8]) -> Reply
+fn report_job(job: Job, buf: &mut [u8]) -> Result<usize, RefusedLine>
     requires { Held job }
     ensures { Answers report_of (accepted (job_in job)) buf.old buf.new result }
 {
     let table = job_table::table_of(job);
-    let done = report_table(job.n, job.k, job.limit, job.tolerance, table, buf);
-    match done {
-        Written::Length(length) => Reply::Written(length),
-        Written::Refused(_) => Reply::Refused(12, 0),
-    }
+    report_table(job.n, job.k, job.limit, job.tolerance, table, buf).map_err(|refusal| RefusedLine {
+        refusal,
+        line: 0,
+    })
 }
 
-pub fn report(text: &[u8], buf: &mut [u8]) -> Reply
+pub fn report(text: &[u8], buf: &mut [u8]) -> Result<usize, RefusedLine>
     ensures { Replies report_of text.now buf.old buf.new result }
 {
-    let reading = job::read(text);
-    let outcome = reading.outcome;
-    if let job::Outcome::Refused(number, line) = outcome {
-        return Reply::Refused(number, line);
-    }
-    let job = reading.job;
+    let job = job::read(text)?;
     report_job(job, buf)
 }
 
@@ -109,9 +102,8 @@ pub fn report(text: &[u8], buf: &mut [u8]) -> Reply
 pub fn answer(text: &[u8], out: &mut [u8; 2048]) -> usize
     ensures { Put (printed_of report_of text.now) 0 out.old out.new result }
 {
-    let done = report(text, out);
-    match done {
-        Reply::Written(length) => length,
-        Reply::Refused(number, line) => text::line::put_refusal(out, number, line),
+    match report(text, out) {
+        Ok(length) => length,
+        Err(refused) => text::line::put_refusal(out, refused.refusal, refused.line),
     }
 }

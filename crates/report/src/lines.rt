@@ -13,7 +13,7 @@ pub(crate) fn text_length(head: &[i64], outcome: Outcome, axes: &[[i64; 11]; 8],
     ensures { Sized (text_of head.now outcome axes.now n) 2048 result }
 {
     let word = run::word::word_of(outcome);
-    let first = text::line::numbers_length(head, head.len()) + word.length + 3;
+    let first = text::line::numbers_length(head, head.len()) + word.len() + 3;
     first + text::rows::rows_length(axes, n, n + 3)
 }
 
@@ -21,10 +21,7 @@ fn put_head(buf: &mut [u8], head: &[i64], outcome: Outcome) -> usize
     requires { length (word_line 82 head.now (outcome_word outcome)) ≤ length buf.old }
     ensures { Put (word_line 82 head.now (outcome_word outcome)) 0 buf.old buf.new result }
 {
-    let word = run::word::word_of(outcome);
-    let bytes = word.bytes;
-    let length = word.length;
-    text::line::put_word_line(buf, b'R', head, head.len(), &bytes[..length])
+    text::line::put_word_line(buf, b'R', head, head.len(), run::word::word_of(outcome))
 }
 
 // The A lines are written after the R line.

@@ -1,20 +1,18 @@
--- `report::report` meets its contract: what the text was read as picks the branch.
-use Rattle.job_table.specs.laws.Laws.{Read, accepted-read}
+-- `report::report` meets its contract: the job's refusal is the answer, or the report of the job that was read.
+use Rattle.std.proofs.Common.{◌∙◌, sym}
+use Rattle.std.proofs.lemmas.Result.{err_from_is_err_and}
+use Rattle.job_table.specs.laws.Laws.{accepted-read}
 use Rattle.job.specs.laws.Replying.{replies-answered, replies-refused}
 use Rattle.report.proofs.report.Goals as goal
 
-pub returns-in-Refused : goal.returns-in-Refused
-returns-in-Refused c = replies-refused _ _ _ _ _ (rw c.read-reading.ensures at c.in-Refused.is)
-
 -- The job that was read is the text's.
 pub report_job-requires : goal.report_job-requires
-report_job-requires c =
-    let read : Read c.args.text.now c.read-reading.result.job =
-    rw c.read-reading.ensures (accepted-read _ (rw c.read-reading.ensures at c.in_default.is)) in
-    read.held
+report_job-requires c = (accepted-read _ _ (sym c.read.ensures ∙ c.in_ok-job.was)).held
+
+pub returns-in_err-job : goal.returns-in_err-job
+returns-in_err-job c =
+    let p = err_from_is_err_and c.from_residual.result c.from_residual.ensures.1 in
+    rw (p.1, p.2) (replies-refused _ c.args.text.now c.args.buf.now _ (sym c.read.ensures ∙ c.in_err-job.was))
 
 pub returns : goal.returns
-returns c =
-    let read : Read c.args.text.now c.read-reading.result.job =
-    rw c.read-reading.ensures (accepted-read _ (rw c.read-reading.ensures at c.in_default.is)) in
-    replies-answered _ _ _ _ _ _ read.is c.report_job.ensures
+returns c = replies-answered _ _ _ _ _ _ (accepted-read _ _ (sym c.read.ensures ∙ c.in_ok-job.was)).is c.report_job.ensures
