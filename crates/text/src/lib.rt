@@ -18,7 +18,7 @@ pub(crate) fn natural_length(x: u64) -> usize
     let mut rest = x;
     let mut n = 1;
     while 10 <= rest {
-        rest = rest / 10;
+        rest /= 10;
         n += 1;
     }
     n
@@ -41,16 +41,20 @@ pub fn put_byte(buf: &mut [u8], at: usize, b: u8) -> usize
     at + 1
 }
 
+pub(crate) fn put<T: Copy>(buf: &mut [T], at: usize, text: &[T]) -> usize
+    requires { at + length text.now ≤ length buf.old }
+    ensures { Put text.now at buf.old buf.new result }
+{
+    let end = at + text.len();
+    buf[at..end].copy_from_slice(text);
+    end
+}
+
 pub fn put_bytes(buf: &mut [u8], at: usize, text: &[u8]) -> usize
     requires { at + length text.now ≤ length buf.old }
     ensures { Put text.now at buf.old buf.new result }
 {
-    let mut i = 0;
-    while i < text.len() {
-        buf[at + i] = text[i];
-        i += 1;
-    }
-    at + i
+    put(buf, at, text)
 }
 
 // The digits before the last one are written first.

@@ -17,10 +17,8 @@ pub fn numbers_length(values: &[i64], n: usize) -> usize
     ensures { Sized (numbers (take n values.now)) (21 * n) result }
 {
     let mut total = 0;
-    let mut i = 0;
-    while i < n {
-        total = total + 1 + number_length(values[i]);
-        i += 1;
+    for value in &values[..n] {
+        total += 1 + number_length(*value);
     }
     total
 }
@@ -31,11 +29,9 @@ pub fn put_numbers(buf: &mut [u8], at: usize, values: &[i64], n: usize) -> usize
     ensures { Put (numbers (take n values.now)) at buf.old buf.new result }
 {
     let mut next = at;
-    let mut i = 0;
-    while i < n {
+    for value in &values[..n] {
         next = put_byte(buf, next, TAB);
-        next = put_number(buf, next, values[i]);
-        i += 1;
+        next = put_number(buf, next, *value);
     }
     next
 }

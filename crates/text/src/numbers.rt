@@ -7,10 +7,5 @@ pub fn put(out: &mut [i64], at: usize, values: &[i64]) -> usize
     requires { at + length values.now ≤ length out.old }
     ensures { Put values.now at out.old out.new result }
 {
-    let mut i = 0;
-    while i < values.len() {
-        out[at + i] = values[i];
-        i += 1;
-    }
-    at + i
+    crate::put(out, at, values)
 }

@@ -4,17 +4,16 @@ ghost use Rattle.text.specs.Put.{Put};
 ghost use Rattle.text.specs.Lines.{lines};
 ghost use Rattle.text.specs.Rows.{RowsSized, Wide, row_line};
 
+use crate::line::{numbers_length, put_line};
+
 // The length of the lines of the first n rows, `width` numbers each.
 pub fn rows_length(rows: &[[i64; 11]; 8], n: usize, width: usize) -> usize
     requires { (n ≤ 8) × (width ≤ 11) × Wide rows.now }
     ensures { RowsSized width rows.now n result }
 {
     let mut total = 0;
-    let mut i = 0;
-    while i < n {
-        let row = rows[i];
-        total = total + crate::line::numbers_length(&row, width) + 2;
-        i += 1;
+    for row in &rows[..n] {
+        total += numbers_length(row, width) + 2;
     }
     total
 }
@@ -32,11 +31,8 @@ pub fn put_rows(
     ensures { Put (lines (row_line tag width rows.now) n) from buf.old buf.new result }
 {
     let mut at = from;
-    let mut i = 0;
-    while i < n {
-        let row = rows[i];
-        at += crate::line::put_line(&mut buf[at..], tag, &row, width);
-        i += 1;
+    for row in &rows[..n] {
+        at += put_line(&mut buf[at..], tag, row, width);
     }
     at
 }
