@@ -49,7 +49,8 @@ module _ (r : Record) where
       let i = axis_at n (diagonal_of r) p in
       let within = (axis-found n (diagonal_of r) p l).0 in
       rw (
-        get_d-eight (λ k. cond (ltb k n) (get_or (axes_numbers r) (axis_at n (entry_in (axes_numbers r)) k) []) (replicate 11 (pos 0))) p [] (omega arith),
+        get_d-eight (λ k. cond (ltb k n) (get_or (axes_numbers r) (axis_at n (entry_in (axes_numbers r)) k) []) (replicate 11 (pos 0))) p []
+            (omega arith),
         lt-ltb p n l,
         listed-axis h p,
       )

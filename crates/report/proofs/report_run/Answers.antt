@@ -19,8 +19,8 @@ use Rattle.report.proofs.Same.{axes-wide, ordered-wide, text_same}
 use Rattle.report.proofs.report_run.Goals as goal
 
 -- the numbers of a run that is over, as they are asked for
-module _ (z : Run) (k : ℕ) (h : Reportable z k) {n : ℕ} (n-is : n ≡ z.last.solver.n) {axes listed : List (List ℤ)} (numbered : axes ≡ axes_numbers z.last)
-    (ordered : listed ≡ ordered_rows n axes) where
+module _ (z : Run) (k : ℕ) (h : Reportable z k) {n : ℕ} (n-is : n ≡ z.last.solver.n) {axes listed : List (List ℤ)}
+    (numbered : axes ≡ axes_numbers z.last) (ordered : listed ≡ ordered_rows n axes) where
   wide : Wide listed
   wide = rw (ordered, numbered, n-is) (ordered-wide z.last h.keeps.solver.size)
 

@@ -20,5 +20,12 @@ returns c =
             take-length c.args.head.now,
           )
           (omega (arith, c.rows_length.ensures.exact 65));
-      bounded = omega (arith, ap length c.word_of-word.ensures, short-word c.args.outcome, c.numbers_length.ensures.bounded, c.rows_length.ensures.bounded);
+      bounded =
+          omega (
+            arith,
+            ap length c.word_of-word.ensures,
+            short-word c.args.outcome,
+            c.numbers_length.ensures.bounded,
+            c.rows_length.ensures.bounded,
+          );
     }
