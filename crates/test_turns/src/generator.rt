@@ -32,16 +32,12 @@ fn size_from(wide: u64, mode: u64, most: u64) -> u64
     requires { (3 ≤ most) × (most < 2 ^ 63) }
     ensures { result ≡ size_from wide mode most }
 {
-    if mode % 4 == 0 {
-        return wide % 4;
+    match mode % 4 {
+        0 => wide % 4,
+        1 => most - wide % 4,
+        2 => wide % (most + 1),
+        _ => (wide >> (mode / 4 % 62)) % (most + 1),
     }
-    if mode % 4 == 1 {
-        return most - wide % 4;
-    }
-    if mode % 4 == 2 {
-        return wide % (most + 1);
-    }
-    (wide >> (mode / 4 % 62)) % (most + 1)
 }
 
 pub fn size(k: u64, most: u64) -> u64

@@ -2,7 +2,7 @@
 ghost use Rattle.std.specs.Prelude.{◌<◌, ◌≤◌, ◌+◌, ◌/◌, ◌^◌, nat_abs};
 
 use crate::{generator, text};
-use choice::Choice;
+use choice::Turn;
 use std::io;
 use turn::pair::Rotation;
 
@@ -12,32 +12,48 @@ pub fn rounded(rt: &impl Print, k: u64) -> io::Result<()>
 {
     let u = generator::value(8 * k, 0x4010_0000_0000_0000);
     let w = generator::size(8 * k + 1, 0x7ff_ffff_ffff) + 1;
-    print!(rt; "R")?;
-    text::number(rt, u)?;
-    text::natural(rt, w)?;
-    text::number(rt, rounding::nearest(u, w))?;
-    text::end(rt)
+    rounded_of(rt, "R", u, w)
 }
 
-// R u w rnd(u/w), of every u and w that rounding takes
-fn rounded_of(rt: &impl Print, u: i64, w: u64) -> io::Result<()>
+// A letter, u w rnd(u/w), of every u and w that rounding takes
+fn rounded_of(rt: &impl Print, letter: &str, u: i64, w: u64) -> io::Result<()>
     requires { (0 < w) × (w < 2 ^ 63) × (nat_abs u + w / 2 < 2 ^ 63) }
 {
-    print!(rt; "R")?;
+    print!(rt; "{letter}")?;
     text::number(rt, u)?;
-    text::natural(rt, w)?;
+    text::number(rt, w)?;
     text::number(rt, rounding::nearest(u, w))?;
     text::end(rt)
 }
 
 // The largest u for the smallest w, and for the largest w the least u that is rounded away from zero and the greatest that is not.
 pub fn largest_rounded(rt: &impl Print) -> io::Result<()> {
-    rounded_of(rt, 9_223_372_036_854_775_807, 1)?;
-    rounded_of(rt, -9_223_372_036_854_775_807, 1)?;
-    rounded_of(rt, 4_611_686_018_427_387_904, 9_223_372_036_854_775_807)?;
-    rounded_of(rt, -4_611_686_018_427_387_904, 9_223_372_036_854_775_807)?;
-    rounded_of(rt, 4_611_686_018_427_387_903, 9_223_372_036_854_775_807)?;
-    rounded_of(rt, -4_611_686_018_427_387_903, 9_223_372_036_854_775_807)
+    rounded_of(rt, "R", 9_223_372_036_854_775_807, 1)?;
+    rounded_of(rt, "R", -9_223_372_036_854_775_807, 1)?;
+    rounded_of(
+        rt,
+        "R",
+        4_611_686_018_427_387_904,
+        9_223_372_036_854_775_807,
+    )?;
+    rounded_of(
+        rt,
+        "R",
+        -4_611_686_018_427_387_904,
+        9_223_372_036_854_775_807,
+    )?;
+    rounded_of(
+        rt,
+        "R",
+        4_611_686_018_427_387_903,
+        9_223_372_036_854_775_807,
+    )?;
+    rounded_of(
+        rt,
+        "R",
+        -4_611_686_018_427_387_903,
+        9_223_372_036_854_775_807,
+    )
 }
 
 // H u w rnd(u/w), with w even and u a multiple of w/2: a half where it is an odd one
@@ -47,11 +63,7 @@ pub fn half(rt: &impl Print, k: u64) -> io::Result<()>
     let h = generator::size(8 * k + 2, 0x3ff_ffff_ffff) + 1;
     let size = generator::product(generator::size(8 * k + 3, 0x4_0000), h);
     let u = generator::with_sign(8 * k + 3, size);
-    print!(rt; "H")?;
-    text::number(rt, u)?;
-    text::natural(rt, 2 * h)?;
-    text::number(rt, rounding::nearest(u, 2 * h))?;
-    text::end(rt)
+    rounded_of(rt, "H", u, 2 * h)
 }
 
 fn sign(rt: &impl Print, minus: bool) -> io::Result<()> {
@@ -63,15 +75,13 @@ fn sign(rt: &impl Print, minus: bool) -> io::Result<()> {
 }
 
 // l and f of a choice, or none
-fn chosen(rt: &impl Print, choice: Choice) -> io::Result<()> {
+fn chosen(rt: &impl Print, choice: Option<Turn>) -> io::Result<()> {
     match choice {
-        Choice::Turn { l, minus } => {
-            text::natural(rt, l as u64)?;
-            sign(rt, minus)?;
+        Some(turn) => {
+            text::number(rt, turn.l)?;
+            sign(rt, turn.minus)?;
         }
-        Choice::NoTurn => {
-            print!(rt; "\tnone")?;
-        }
+        None => print!(rt; "\tnone")?,
     }
     text::end(rt)
 }
@@ -129,13 +139,13 @@ fn turned(
     let mut v = generator::axes(4096 * k + 1024);
     turn::turn_axes(&mut v, n, r, p, q);
     print!(rt; "T")?;
-    text::natural(rt, n as u64)?;
-    text::natural(rt, p as u64 + 1)?;
-    text::natural(rt, q as u64 + 1)?;
-    text::natural(rt, l as u64)?;
+    text::number(rt, n)?;
+    text::number(rt, p + 1)?;
+    text::number(rt, q + 1)?;
+    text::number(rt, l)?;
     sign(rt, minus)?;
-    text::natural(rt, text::digest(&a))?;
-    text::natural(rt, text::digest(&v))?;
+    text::number(rt, text::digest(&a))?;
+    text::number(rt, text::digest(&v))?;
     text::end(rt)?;
     if k % 32 == 0 {
         text::array(rt, &a)?;

@@ -1,12 +1,9 @@
 // Lines of text: a letter, then numbers, each after a tab.
 
+use std::fmt::Display;
 use std::io;
 
-pub fn number(rt: &impl Print, x: i64) -> io::Result<()> {
-    print!(rt; "\t{x}")
-}
-
-pub fn natural(rt: &impl Print, x: u64) -> io::Result<()> {
+pub fn number(rt: &impl Print, x: impl Display + Drop) -> io::Result<()> {
     print!(rt; "\t{x}")
 }
 
@@ -32,11 +29,11 @@ fn folded(sum: u64, x: i64) -> u64 {
 
 // One number for the 64 of an array, taken row after row.
 pub fn digest(a: &[[i64; 8]; 8]) -> u64 {
-    let mut sum: u64 = 0;
-    let mut k: usize = 0;
-    while k < 64 {
-        sum = folded(sum, a[k / 8][k % 8]);
-        k += 1;
+    let mut sum = 0;
+    for row in a {
+        for x in row {
+            sum = folded(sum, *x);
+        }
     }
     sum
 }
