@@ -1,3 +1,4 @@
 pub mod Places
 pub mod Assembled
 pub mod Symmetric
+pub mod Greatest

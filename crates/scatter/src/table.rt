@@ -27,7 +27,7 @@ fn place_of(i: usize, j: usize) -> usize
     requires { (i < 8) × (j < 8) }
     ensures { result ≡ 8 * min i j + max i j }
 {
-    if i <= j { 8 * i + j } else { 8 * j + i }
+    8 * i.min(j) + i.max(j)
 }
 
 // k × c − a × b
@@ -43,18 +43,12 @@ fn scatter_of(n: usize, t: Sums) -> [i64; 64]
     requires { (n ≤ 8) × Bounded t }
     ensures { result ≡ padded 64 (pos 0) (scatter_by_sums n t) }
 {
-    let mut s = [0i64; 64];
-    let mut at = 0;
-    let mut i = 0;
-    while i < n {
-        let mut j = 0;
-        while j < n {
+    let mut s = [0; 64];
+    for i in 0..n {
+        for j in 0..n {
             let place = place_of(i, j);
-            s[at] = difference(t.k, t.cross[place], t.channel[i], t.channel[j]);
-            at += 1;
-            j += 1;
+            s[i * n + j] = difference(t.k, t.cross[place], t.channel[i], t.channel[j]);
         }
-        i += 1;
     }
     s
 }
@@ -64,19 +58,15 @@ fn largest_of(s: &[i64; 64], size: usize) -> u64
     requires { ZeroFrom size s.now }
     ensures { result ≡ largest s.now }
 {
-    let mut m = 0;
-    let mut p = 0;
-    while p < size {
-        let a = integer::magnitude(s[p]);
-        if m < a {
-            m = a;
-        }
-        p += 1;
-    }
-    m
+    s[..size]
+        .iter()
+        .map(|x| x.unsigned_abs())
+        .max()
+        .unwrap_or(0)
 }
 
 // The shift for the greatest |S_ij|.
+// no plainer: the turns aren't counted ahead, the bound doubles until it is enough.
 fn shift_of(m: u64) -> u32
     requires { m < 2 ^ 62 }
     ensures { LeastShift entry_limit m result }
@@ -96,11 +86,9 @@ fn entries_of(s: &[i64; 64], size: usize, e: u32) -> [i64; 64]
     ensures { result ≡ tabulate 64 (λ p. rnd (get_or s.now p (pos 0)) (2 ^ e)) }
 {
     let w = 1u64 << e;
-    let mut entries = [0i64; 64];
-    let mut p = 0;
-    while p < size {
+    let mut entries = [0; 64];
+    for p in 0..size {
         entries[p] = rounding::nearest(s[p], w);
-        p += 1;
     }
     entries
 }

@@ -61,7 +61,8 @@ module _ (n : ℕ) (h : n ≤ 8) where
     shift-least e w = (shift-smallest some (scatter n ss)).least e (everywhere e w)
 
     rounded-in-array : (e : ℕ) → InArray n (λ i j. rnd (S ss i j) (2 ^ e)) (padded 64 (pos 0) (map (λ u. rnd u (2 ^ e)) (scatter n ss)))
-    rounded-in-array e = padded-in-array (map (λ u. rnd u (2 ^ e)) (scatter n ss)) (length-map (scatter n ss) _ ∙ length-scatter n ss) (rounded-at n ss e)
+    rounded-in-array e =
+        padded-in-array (map (λ u. rnd u (2 ^ e)) (scatter n ss)) (length-map (scatter n ss) _ ∙ length-scatter n ss) (rounded-at n ss e)
 
     scatter-in-array : InArray n (S ss) (padded 64 (pos 0) (scatter n ss))
     scatter-in-array = padded-in-array (scatter n ss) (length-scatter n ss) (scatter-at n ss)
