@@ -18,7 +18,10 @@ use Rattle.season_report.specs.Text.{season_line}
 use Rattle.season_report.specs.Texts.{SeasonOf, WritesSeason, ends_refusal, ends_within, texts_from, texts_line}
 use Rattle.season_report.proofs.Reported.{reported-all}
 use Rattle.season_report.specs.Done.{WritesLine}
-use Rattle.text.specs.declared.written.Written.{Written}
+use Rattle.refusal.specs.Refusal.{judged}
+use Rattle.refusal.specs.declared.Refusal.{Refusal}
+use Rattle.refusal.specs.declared.Refusal.TheVariants.{OutOfRange, TooManyJobs}
+use Rattle.std.specs.Prelude.{Result, Ok, Err}
 use Rattle.season_report.specs.declared.Season.{Season}
 
 pub texts-count : (start : ℕ) (bytes ends : List ℕ) → length (texts_from start bytes ends) ≡ length ends
@@ -79,16 +82,19 @@ module _ (bytes ends : List ℕ) where
 
 -- the refusal of the ends
 module _ (size : ℕ) (ends : List ℕ) where
-  pub refusal-2 : ends_within 0 size ends ≡ false → 2 ≡ ends_refusal size ends
-  unfolding ends_refusal
+  abbrev pub checked : Result (Unit {0}) Refusal
+  checked = judged (ends_refusal size ends) (record {})
+
+  pub refusal-2 : ends_within 0 size ends ≡ false → Err OutOfRange ≡ checked
+  unfolding ends_refusal judged
   refusal-2 e = rw e
 
-  pub refusal-16 : ends_within 0 size ends ≡ true → most_jobs < length ends → 16 ≡ ends_refusal size ends
-  unfolding ends_refusal
+  pub refusal-16 : ends_within 0 size ends ≡ true → most_jobs < length ends → Err TooManyJobs ≡ checked
+  unfolding ends_refusal judged
   refusal-16 e h = rw (e, lt-leb (length ends) most_jobs h)
 
-  pub refusal-none : ends_within 0 size ends ≡ true → length ends ≤ most_jobs → 0 ≡ ends_refusal size ends
-  unfolding ends_refusal
+  pub refusal-none : ends_within 0 size ends ≡ true → length ends ≤ most_jobs → Ok tt ≡ checked
+  unfolding ends_refusal judged
   refusal-none e h = rw (e, le-leb (length ends) most_jobs h)
 
   pub taken : ends_refusal size ends ≡ 0 → (ends_within 0 size ends ≡ true) × (length ends ≤ most_jobs)
@@ -106,7 +112,7 @@ unfolding texts_line
 line_of bytes ends z o h =
     ap season_line (o.is ∙ reported-all most_jobs (texts_from 0 bytes ends) (rw (texts-count 0 bytes ends) h))
 
-pub all-written : (bytes ends : List ℕ) (z : Season) {entry exit : List ℕ} {r : Written} → ends_refusal (length bytes) ends ≡ 0 →
+pub all-written : (bytes ends : List ℕ) (z : Season) {entry exit : List ℕ} {r : Result ℕ Refusal} → ends_refusal (length bytes) ends ≡ 0 →
     SeasonOf bytes ends z → WritesLine z entry exit r → WritesSeason bytes ends entry exit r
 all-written bytes ends z e o w =
     let l = line_of bytes ends z o (taken (length bytes) ends e).1 in

@@ -1,18 +1,19 @@
 -- The figures of a list and of one job more: those of the list, with the job added.
 use Prim.Native.Nat.{ℕ, zero, suc, ◌+◌, ◌<◌, ◌≤◌}
-use Rattle.std.specs.Prelude.{◌≡◌, Bool, true, false}
+use Rattle.std.specs.Prelude.{◌≡◌, Bool, true, false, Option, Some}
 use Rattle.std.proofs.Math.Path.{refl, ap}
-use Rattle.std.proofs.Common.{sym, ap₂, ◌∙◌, length-append}
+use Rattle.std.proofs.Common.{sym, ap₂, ◌∙◌, length-append, eqb, ne_eqb}
 use Rattle.std.proofs.Math.Bool.{cond}
 use mathlib.Core.List.{List, [], ◌∷◌, ◌++◌}
 use Rattle.std.proofs.Math.Decide.{dec_lt}
 use native.Mathlib.Omega.{arith}
 use Rattle.std.proofs.Math.ListN.{length, get_or-append}
 use Rattle.std.proofs.Math.Seq.{get_or-append_seam}
-use Rattle.season_report.specs.Figures.{figures_of, first_job, job_numbered, largest_error, lowest_axis}
+use Rattle.season_report.specs.Figures.{by_number, figures_of, first_job, job_numbered, largest_error, lowest_axis, named}
 use Rattle.season_report.specs.Job.{JobEnd, ended_as, errors_of, is_refused_under, is_settled, is_spent, is_still, refused_under, job_turns}
 use Rattle.season_report.specs.Lists.{largest_of}
-use Rattle.season_report.specs.Season.{added, leads, overtakes}
+use Rattle.season_report.specs.Season.{added, larger, overtakes}
+use Rattle.season_report.specs.declared.LargestError.{LargestError}
 use Rattle.season_report.specs.laws.Lists.{first_found, total-more}
 use Rattle.season_report.specs.laws.Overtakes.{first_goes, larger-goes, no-larger-stays}
 use Rattle.season_report.specs.laws.Step as step
@@ -23,6 +24,13 @@ pub record Placed (jobs : List JobEnd) (job : JobEnd) (t : Bool) : Type 0 where
   pub number : first_job (jobs ++ job ∷ []) ≡ cond t (length jobs + 1) (first_job jobs)
   pub errors : errors_of (job_numbered (jobs ++ job ∷ []) (first_job (jobs ++ job ∷ []))) ≡
       cond t (errors_of job) (errors_of (job_numbered jobs (first_job jobs)))
+
+-- the lowest axis, and the largest error with its job
+abbrev axis_of : List JobEnd → ℕ
+axis_of jobs = lowest_axis (largest_error jobs) (errors_of (job_numbered jobs (first_job jobs)))
+
+abbrev largest : List JobEnd → Option LargestError
+largest jobs = named (largest_error jobs) (first_job jobs) (axis_of jobs)
 
 module _ (jobs : List JobEnd) (job : JobEnd) where
   -- the job of a number that is not above the number of jobs
@@ -72,47 +80,52 @@ module _ (jobs : List JobEnd) (job : JobEnd) where
     no-larger-more h l = keeps (step.top-stays errors_of jobs job y ys q h l) (step.place-stays errors_of jobs job y ys q h l)
 
     some_more : Dec (0 < first_job jobs) → Dec (largest_error jobs < largest_of (y ∷ ys)) →
-        Placed jobs job (overtakes (first_job jobs) (largest_error jobs) (largest_of (y ∷ ys)))
+        Placed jobs job (overtakes (largest jobs) (largest_of (y ∷ ys)))
     some_more (no h) d =
         let e : first_job jobs ≡ 0 = omega arith in
-        rw (first_goes (first_job jobs) (largest_error jobs) (largest_of (y ∷ ys)) e) (first_more e)
-    some_more (yes h) (yes l) = rw (larger-goes (first_job jobs) (largest_error jobs) (largest_of (y ∷ ys)) h l) (larger-more l)
+        rw (first_goes (largest_error jobs) (first_job jobs) (axis_of jobs) (largest_of (y ∷ ys)) e) (first_more e)
+    some_more (yes h) (yes l) = rw (larger-goes (largest_error jobs) (first_job jobs) (axis_of jobs) (largest_of (y ∷ ys)) h l) (larger-more l)
     some_more (yes h) (no l) =
         let most : largest_of (y ∷ ys) ≤ largest_error jobs = omega arith in
-        rw (no-larger-stays (first_job jobs) (largest_error jobs) (largest_of (y ∷ ys)) h most) (no-larger-more h most)
-
-  pub placed : Placed jobs job (leads (figures_of jobs) (errors_of job))
-  unfolding leads figures_of
-  placed = by (errors_of job) refl
-    where
-      by : (l : List ℕ) → errors_of job ≡ l → Placed jobs job (leads (figures_of jobs) (errors_of job))
-      by [] q = rw q (none_more q)
-      by (y ∷ ys) q = rw q (some_more y ys q (dec_lt 0 (first_job jobs)) (dec_lt (largest_error jobs) (largest_of (y ∷ ys))))
+        rw (no-larger-stays (largest_error jobs) (first_job jobs) (axis_of jobs) (largest_of (y ∷ ys)) h most) (no-larger-more h most)
 
   -- the lowest axis, by the job that leads
-  axis-by : (t : Bool) → Placed jobs job t →
-      lowest_axis (largest_error (jobs ++ job ∷ [])) (errors_of (job_numbered (jobs ++ job ∷ []) (first_job (jobs ++ job ∷ [])))) ≡
-      cond t (lowest_axis (largest_of (errors_of job)) (errors_of job))
-      (lowest_axis (largest_error jobs) (errors_of (job_numbered jobs (first_job jobs))))
+  axis-by : (t : Bool) → Placed jobs job t → axis_of (jobs ++ job ∷ []) ≡ cond t (lowest_axis (largest_of (errors_of job)) (errors_of job)) (axis_of jobs)
   axis-by true p = ap₂ lowest_axis p.error p.errors
   axis-by false p = ap₂ lowest_axis p.error p.errors
+
+  -- and the largest error
+  named-by : (t : Bool) → Placed jobs job t →
+      (let error = largest_of (errors_of job) in
+      largest (jobs ++ job ∷ []) ≡
+      cond t (Some (record { error = error; job = length jobs + 1; axis = lowest_axis error (errors_of job) })) (largest jobs))
+  unfolding named
+  named-by true p =
+      let some : eqb (length jobs + 1) 0 ≡ false = ne_eqb (length jobs + 1) 0 (λ (e : length jobs + 1 ≡ 0). omega arith) in
+      rw (axis-by true p, p.number, p.error, some)
+  named-by false p = rw (axis-by false p, p.number, p.error)
+
+  largest-more : largest (jobs ++ job ∷ []) ≡ larger (largest jobs) (length jobs + 1) (errors_of job)
+  unfolding larger
+  largest-more = by (errors_of job) refl
+    where
+      by : (l : List ℕ) → errors_of job ≡ l → largest (jobs ++ job ∷ []) ≡ larger (largest jobs) (length jobs + 1) l
+      by [] q = named-by false (none_more q)
+      by (y ∷ ys) q =
+          rw q at
+          (named-by (overtakes (largest jobs) (largest_of (y ∷ ys)))
+          (some_more y ys q (dec_lt 0 (first_job jobs)) (dec_lt (largest_error jobs) (largest_of (y ∷ ys)))))
 
   pub figures-more : figures_of (jobs ++ job ∷ []) ≡ added (figures_of jobs) job
   unfolding figures_of added
   figures-more =
-      let p = placed in
       λ i.
       record {
         jobs = (length-append jobs (job ∷ [])) i;
         settled = total-more (λ j. cond (ended_as is_settled j) 1 0) jobs job i;
         still = total-more (λ j. cond (ended_as is_still j) 1 0) jobs job i;
         spent = total-more (λ j. cond (ended_as is_spent j) 1 0) jobs job i;
-        refused1 = total-more (λ j. cond (is_refused_under 1 j) 1 0) jobs job i;
-        refused2 = total-more (λ j. cond (is_refused_under 2 j) 1 0) jobs job i;
-        refused3 = total-more (λ j. cond (is_refused_under 3 j) 1 0) jobs job i;
-        refused4 = total-more (λ j. cond (is_refused_under 4 j) 1 0) jobs job i;
+        refused = by_number (λ number. total-more (λ j. cond (is_refused_under number j) 1 0) jobs job i);
         turns = total-more job_turns jobs job i;
-        error = p.error i;
-        job = p.number i;
-        axis = axis-by (leads (figures_of jobs) (errors_of job)) p i;
+        largest = largest-more i;
       }

@@ -1,15 +1,15 @@
 -- The figures of the largest error are as `LargestFirst` says, and only they are. The errors of an accepted job are those that its report prints.
 use Prim.Native.Nat.{ℕ, zero, suc, ◌-◌, ◌<◌, ◌≤◌}
-use Rattle.std.specs.Prelude.{◌≡◌, true, ℤ, pos, get_or, length}
+use Rattle.std.specs.Prelude.{◌≡◌, true, ℤ, pos, get_or, length, None, Some, MatchOption}
 use Rattle.std.proofs.Math.Path.{refl, ap}
 use Rattle.std.proofs.Common.{subst, sym, ◌∙◌, le_antisymm}
 use mathlib.Core.List.{List, [], ◌∷◌, ◌++◌, flat_map}
 use Rattle.std.proofs.Math.Decide.{dec_lt}
 use native.Mathlib.Omega.{arith}
-use borrow.Author.Tests.{eq-eqb, eqb-true}
+use borrow.Author.Tests.{eq-eqb, eqb-true, ne_eqb}
 use Rattle.std.proofs.Math.Dec.{eqb}
 use Rattle.std.proofs.Math.ListN.{take}
-use Rattle.season_report.specs.Figures.{figures_of, first_job, job_numbered, largest_error, lowest_axis}
+use Rattle.season_report.specs.Figures.{figures_of, first_job, job_numbered, largest_error, lowest_axis, named}
 use Rattle.integer.specs.laws.Tabulate.{get_d_tabulate, length-tabulate}
 use Rattle.job.proofs.Accepted.{accepted-proper}
 use Rattle.job.specs.Job.{Job, accepted, job_of, refused}
@@ -28,9 +28,8 @@ use Rattle.report.specs.Report.{line_a, run_for}
 use Rattle.report.specs.laws.AxisNumbers.{axis-answer}
 use Rattle.season_report.specs.Job.{JobEnd, end_by, end_of, error_at, error_in, errors_of, record_errors, refused_under}
 use Rattle.season_report.specs.Largest.{HasError, JobErrors, LargestFirst, PrintedError, The-errors, The-largest}
-use Rattle.season_report.specs.Lists.{first_from, is_among, largest_of}
+use Rattle.season_report.specs.Lists.{is_among}
 use Rattle.season_report.specs.laws.Lists.{among-found, among-most, at-among, first_found, first-least, flat-among, flat-found, largest-there}
-use Rattle.season_report.specs.laws.Step.{none-empty}
 use Rattle.text.specs.Line.{number_line}
 
 module _ (jobs : List JobEnd) where
@@ -121,8 +120,7 @@ module _ (jobs : List JobEnd) where
     first-there =
         flat-found errors_of (largest_error jobs) 1 jobs (omega arith) (largest-there error (flat_map errors_of jobs) (among-all job axis error h))
 
-    figures-say : LargestFirst jobs (figures_of jobs).error (figures_of jobs).job (figures_of jobs).axis
-    unfolding figures_of
+    figures-say : LargestFirst jobs (largest_error jobs) (first_job jobs) (lowest_axis (largest_error jobs) (errors_at (first_job jobs)))
     figures-say =
         record {
           has = lowest-has (largest_error jobs) (first_job jobs) (first-has first-there);
@@ -130,6 +128,15 @@ module _ (jobs : List JobEnd) where
           first = first_says;
           lowest = lowest-says (first_job jobs) (largest_error jobs);
         }
+
+    -- so there is a largest
+    is-named : (figures_of jobs).largest ≡
+        Some (record { error = largest_error jobs; job = first_job jobs; axis = lowest_axis (largest_error jobs) (errors_at (first_job jobs)) })
+    unfolding figures_of named
+    is-named = rw (ne_eqb (first_job jobs) 0 (λ (e : first_job jobs ≡ 0). omega (arith, first-there)))
+
+    named-says : MatchOption (figures_of jobs).largest ⊥ (λ largest. LargestFirst jobs largest.error largest.job largest.axis)
+    named-says = rw is-named figures-say
 
   -- two that are so are the same
   same : (e g i e' g' i' : ℕ) → LargestFirst jobs e g i → LargestFirst jobs e' g' i' → (e ≡ e') × (g ≡ g') × (i ≡ i')
@@ -139,29 +146,23 @@ module _ (jobs : List JobEnd) where
       (error, job, le_antisymm (p.lowest i' (rw (error, job) q.has)) (q.lowest i (rw (← error, ← job) p.has)))
 
   only-these : (error job axis : ℕ) → LargestFirst jobs error job axis →
-      (error ≡ (figures_of jobs).error) × (job ≡ (figures_of jobs).job) × (axis ≡ (figures_of jobs).axis)
-  only-these error job axis p = same error job axis _ _ _ p (figures-say job axis error p.has)
+      (figures_of jobs).largest ≡ Some (record { error = error; job = job; axis = axis })
+  only-these error job axis p =
+      let e = same error job axis _ _ _ p (figures-say job axis error p.has) in
+      is-named job axis error p.has ∙ (λ i. Some (record { error = sym e.0 i; job = sym e.1 i; axis = sym e.2 i }))
 
   module _ (never : (job axis error : ℕ) → HasError jobs job axis error → ⊥) where
     no-job : Dec (0 < first_job jobs) → first_job jobs ≡ 0
     no-job (yes h) = absurd (never _ _ _ (lowest-has (largest_error jobs) (first_job jobs) (first-has h)))
     no-job (no h) = omega arith
 
-    no-largest : largest_error jobs ≡ 0
-    unfolding largest_error first_job largest_of
-    no-largest = rw (none-empty errors_of jobs (no-job (dec_lt 0 (first_job jobs))))
-
-    no-axis : lowest_axis (largest_error jobs) (errors_at (first_job jobs)) ≡ 0
-    unfolding lowest_axis first_from
-    no-axis = rw (no-job (dec_lt 0 (first_job jobs)), nobody)
-
-    no-error : ((figures_of jobs).error ≡ 0) × ((figures_of jobs).job ≡ 0) × ((figures_of jobs).axis ≡ 0)
-    unfolding figures_of
-    no-error = (no-largest, no-job (dec_lt 0 (first_job jobs)), no-axis)
+    no-error : (figures_of jobs).largest ≡ None
+    unfolding figures_of named
+    no-error = rw (eq-eqb (first_job jobs) 0 (no-job (dec_lt 0 (first_job jobs))))
 
 pub largest-named : The-largest
 unfolding The-largest
-largest-named jobs = record { some = figures-say jobs; only = only-these jobs; none = no-error jobs }
+largest-named jobs = record { some = named-says jobs; only = only-these jobs; none = no-error jobs }
 
 -- ---- the errors of a text
 

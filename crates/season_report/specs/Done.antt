@@ -1,8 +1,8 @@
 -- What a season's constructor and its calls ensure.
-use Rattle.std.specs.Prelude.{ℕ, ◌≤◌, ◌≡◌, List, length}
+use Rattle.std.specs.Prelude.{ℕ, ◌≤◌, ◌≡◌, List, Result, length}
 use Rattle.limits.specs.Limits.{most_jobs}
 use Rattle.text.specs.Written.{Writes}
-use Rattle.text.specs.declared.written.Written.{Written}
+use Rattle.refusal.specs.declared.Refusal.{Refusal}
 use Rattle.season_report.specs.Limits.{SeasonLimits}
 use Rattle.season_report.specs.Season.{empty_season, season_after_under, taken_as_under}
 use Rattle.season_report.specs.Text.{season_line}
@@ -19,6 +19,6 @@ pub record Takes (s : Season) (text : List ℕ) (z : Taken) : Type 0 where
   pub held : SeasonLimits z.next
 
 -- the line is written, or refused 12; it has at most 252 bytes
-pub record WritesLine (s : Season) (entry exit : List ℕ) (r : Written) : Type 0 where
+pub record WritesLine (s : Season) (entry exit : List ℕ) (r : Result ℕ Refusal) : Type 0 where
   pub writes : Writes 0 (season_line s) entry exit r
   pub few : length (season_line s) ≤ 252

@@ -1,6 +1,6 @@
 -- Document 02, W14: what 'the largest r_i, the first job that has it and the lowest axis number in that job that has it' are, and that only they are
 -- so; and that r_i is the one that a job's report prints. Jobs and axes are numbered from 1.
-use Rattle.std.specs.Prelude.{ℕ, ◌-◌, ◌≤◌, ◌≡◌, List, [], ◌∷◌, ℤ, pos, get_or, length}
+use Rattle.std.specs.Prelude.{ℕ, ◌-◌, ◌≤◌, ◌≡◌, List, [], ◌∷◌, ℤ, pos, get_or, length, None, Some, MatchOption}
 use Rattle.season_report.specs.Figures.{figures_of, job_numbered}
 use Rattle.job.specs.Job.{Job, accepted, job_of, refused}
 use Rattle.record.specs.declared.Record.{Record}
@@ -24,15 +24,14 @@ pub record LargestFirst (jobs : List JobEnd) (error job axis : ℕ) : Type 0 whe
   pub lowest : (other_axis : ℕ) → HasError jobs job other_axis error → axis ≤ other_axis
 
 pub record LargestNamed (jobs : List JobEnd) : Type 0 where
-  -- where some job has an error, 0 though it may be, the figures are these
+  -- where some job has an error, 0 though it may be, there is a largest, and its figures are these
   pub some : (job axis error : ℕ) → HasError jobs job axis error →
-      LargestFirst jobs (figures_of jobs).error (figures_of jobs).job (figures_of jobs).axis
+      MatchOption (figures_of jobs).largest ⊥ (λ largest. LargestFirst jobs largest.error largest.job largest.axis)
   -- and no others are
   pub only : (error job axis : ℕ) → LargestFirst jobs error job axis →
-      (error ≡ (figures_of jobs).error) × (job ≡ (figures_of jobs).job) × (axis ≡ (figures_of jobs).axis)
-  -- 'If no job was accepted, the largest error, its job and its axis are printed as 0'
-  pub none : ((job axis error : ℕ) → HasError jobs job axis error → ⊥) →
-      ((figures_of jobs).error ≡ 0) × ((figures_of jobs).job ≡ 0) × ((figures_of jobs).axis ≡ 0)
+      (figures_of jobs).largest ≡ Some (record { error = error; job = job; axis = axis })
+  -- 'If no job was accepted, the largest error, its job and its axis are printed as 0', which `largest_numbers` says of none
+  pub none : ((job axis error : ℕ) → HasError jobs job axis error → ⊥) → (figures_of jobs).largest ≡ None
 
 -- this is r_i of a record: line `A` i of its report, which is '`A` i a_ii r_i and row i of v', has it after an entry and before a row; 65 is `A`
 pub record PrintedError (r : Record) (i error : ℕ) : Type 0 where

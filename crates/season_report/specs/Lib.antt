@@ -7,5 +7,4 @@ pub mod Limits
 pub mod Text
 pub mod Done
 pub mod Texts
-pub mod inner
 pub mod laws

@@ -1,11 +1,11 @@
 -- The texts of a season one after another in one buffer, and the end of each. An end below the one before it or beyond the buffer gives 2, then
 -- more than 10,000 ends 16.
-use Rattle.std.specs.Prelude.{ℕ, ◌-◌, ◌≤◌, ◌≡◌, Bool, true, cond, ◌&&◌, List, [], ◌∷◌, leb, drop, length, take}
+use Rattle.std.specs.Prelude.{ℕ, ◌-◌, ◌≤◌, ◌≡◌, Bool, true, cond, ◌&&◌, List, [], ◌∷◌, Result, leb, drop, length, take}
 use Rattle.integer.specs.Within.{within}
 use Rattle.limits.specs.Limits.{most_jobs}
 use Rattle.limits.specs.Unless.{unless}
 use Rattle.text.specs.Written.{Writes}
-use Rattle.text.specs.declared.written.Written.{Written}
+use Rattle.refusal.specs.declared.Refusal.{Refusal}
 use Rattle.season_report.specs.Figures.{text_figures}
 use Rattle.season_report.specs.Limits.{SeasonLimits}
 use Rattle.season_report.specs.Season.{empty_season, season_from_under}
@@ -35,6 +35,6 @@ pub record SeasonOf (bytes ends : List ℕ) (z : Season) : Type 0 where
   pub held : SeasonLimits z
 
 -- the line is written, or refused 2, 16 or 12; it has at most 252 bytes
-pub record WritesSeason (bytes ends entry exit : List ℕ) (r : Written) : Type 0 where
+pub record WritesSeason (bytes ends entry exit : List ℕ) (r : Result ℕ Refusal) : Type 0 where
   pub writes : Writes (ends_refusal (length bytes) ends) (texts_line bytes ends) entry exit r
   pub few : ends_refusal (length bytes) ends ≡ 0 → length (texts_line bytes ends) ≤ 252

@@ -8,22 +8,25 @@ pub mod texts;
 ghost use Rattle.season_report.specs.Done.{Opens, Takes, WritesLine};
 ghost use Rattle.season_report.specs.Limits.{SeasonLimits};
 
-use job::Outcome;
-use text::Written;
+use job::RefusedLine;
+use refusal::Refusal;
 
-// How many jobs were taken, how they ended or under which number they were refused, the turns of all, and the largest error of an axis with the
-// first job and the lowest axis in it that have it; jobs and axes are numbered from 1, and 0 stands for none.
+// How many jobs were taken, how they ended or under which number from 1 to 4 they were refused, the turns of all, and the largest error of an axis,
+// of which there is none before a job is accepted.
 #[derive(Drop)]
 pub struct Season {
     jobs: u64,
     settled: u64,
     still: u64,
     spent: u64,
-    refused1: u64,
-    refused2: u64,
-    refused3: u64,
-    refused4: u64,
+    refused: [u64; 4],
     turns: u64,
+    largest: Option<LargestError>,
+}
+
+// The largest error of an axis, with the first job and the lowest axis in it that have it; both are numbered from 1.
+#[derive(Clone, Copy)]
+pub struct LargestError {
     error: u64,
     job: u64,
     axis: u64,
@@ -32,7 +35,7 @@ pub struct Season {
 // What a job's text is answered with, and the season that it leaves.
 #[derive(Drop)]
 pub struct Taken {
-    pub answer: Outcome,
+    pub answer: Result<(), RefusedLine>,
     pub next: Season,
 }
 
@@ -48,14 +51,9 @@ impl Season {
             settled: 0,
             still: 0,
             spent: 0,
-            refused1: 0,
-            refused2: 0,
-            refused3: 0,
-            refused4: 0,
+            refused: [0; 4],
             turns: 0,
-            error: 0,
-            job: 0,
-            axis: 0,
+            largest: None,
         }
     }
 
@@ -65,29 +63,36 @@ impl Season {
         ensures { Takes self text.now result }
     {
         if Season::MOST_JOBS <= self.jobs {
-            let answer = Outcome::Refused(16, 0);
-            return Taken { answer, next: self };
+            let refused = RefusedLine {
+                refusal: Refusal::TooManyJobs,
+                line: 0,
+            };
+            return Taken {
+                answer: Err(refused),
+                next: self,
+            };
         }
-        let reading = job::read(text);
-        let answer = reading.outcome;
-        if let Outcome::Refused(number, _) = answer {
-            let next = job_end::with_refused(self, number);
-            return Taken { answer, next };
+        match job::read(text) {
+            Ok(job) => Taken {
+                answer: Ok(()),
+                next: job_end::with_run(self, report::run_of_job(job)),
+            },
+            Err(refused) => Taken {
+                answer: Err(refused),
+                next: job_end::with_refused(self, refused.refusal),
+            },
         }
-        let run = report::run_of_job(reading.job);
-        let next = job_end::with_run(self, run);
-        Taken { answer, next }
     }
 
     // The line of the figures, into a lent buffer.
-    pub fn write_line(self, out: &mut [u8]) -> Written
+    pub fn write_line(self, out: &mut [u8]) -> Result<usize, Refusal>
         requires { SeasonLimits self }
         ensures { WritesLine self out.old out.new result }
     {
         let numbers = line::numbers_of(self);
         if out.len() < line::line_length(&numbers) {
-            return Written::Refused(12);
+            return Err(Refusal::ShortBuffer);
         }
-        Written::Length(line::put_line(out, &numbers))
+        Ok(line::put_line(out, &numbers))
     }
 }

@@ -6,28 +6,34 @@ ghost use Rattle.text.specs.Decimal.{number};
 ghost use Rattle.text.specs.Line.{line};
 ghost use Rattle.text.specs.Put.{Put, Sized};
 
-use crate::Season;
+use crate::{LargestError, Season};
 use text::{put_byte, put_number};
 
 const LINE_FEED: u8 = b'\n';
 
+// Where there is no largest error, it is printed as 0 of job 0 and axis 0.
 pub(crate) fn numbers_of(s: Season) -> [i64; 12]
     requires { SeasonLimits s }
     ensures { result ≡ map pos (season_numbers s) }
 {
+    let largest = s.largest.unwrap_or(LargestError {
+        error: 0,
+        job: 0,
+        axis: 0,
+    });
     [
         s.jobs as i64,
         s.settled as i64,
         s.still as i64,
         s.spent as i64,
-        s.refused1 as i64,
-        s.refused2 as i64,
-        s.refused3 as i64,
-        s.refused4 as i64,
+        s.refused[0] as i64,
+        s.refused[1] as i64,
+        s.refused[2] as i64,
+        s.refused[3] as i64,
         s.turns as i64,
-        s.error as i64,
-        s.job as i64,
-        s.axis as i64,
+        largest.error as i64,
+        largest.job as i64,
+        largest.axis as i64,
     ]
 }
 

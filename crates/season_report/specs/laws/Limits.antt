@@ -1,5 +1,5 @@
 -- No figure wraps: the limits of a season hold with one job more, and r_i and m of a kept record are small.
-use Rattle.std.specs.Prelude.{ℕ, zero, suc, ◌+◌, ◌-◌, ◌^◌, ◌<◌, ◌≤◌, Bool, true, false, cond, List, eqb, length}
+use Rattle.std.specs.Prelude.{ℕ, zero, suc, ◌+◌, ◌-◌, ◌^◌, ◌<◌, ◌≤◌, refl, Bool, true, false, cond, List, [], ◌∷◌, eqb, get_or, length, Option, None, Some, IfSome}
 use Rattle.std.proofs.Math.Decide.{dec_lt}
 use Rattle.std.proofs.Math.Nat.{max-le}
 use Rattle.std.proofs.Common.{arith}
@@ -18,10 +18,11 @@ use Rattle.season_report.specs.Figures.{lowest_axis}
 use Rattle.season_report.specs.Job.{JobEnd, error_at, error_in, errors_of, ended_as}
 use Rattle.season_report.specs.Job.{is_refused_under, is_settled, is_spent, is_still, ran, record_errors}
 use Rattle.season_report.specs.Job.{refused_under, job_turns}
-use Rattle.season_report.specs.Limits.{SeasonLimits}
+use Rattle.season_report.specs.Limits.{LargestLimits, SeasonLimits}
 use Rattle.season_report.specs.Lists.{first_from, largest_of}
-use Rattle.season_report.specs.Season.{added, counting, leads}
+use Rattle.season_report.specs.Season.{added, counting, larger, overtakes}
 use Rattle.season_report.specs.laws.Lists.{first_found}
+use Rattle.season_report.specs.declared.LargestError.{LargestError}
 use Rattle.season_report.specs.declared.Season.{Season}
 
 -- the lowest axis is one of them
@@ -43,33 +44,43 @@ one_more : (t : Bool) (count jobs : ℕ) → count ≤ jobs → counting t count
 one_more true count jobs h = omega arith
 one_more false count jobs h = omega arith
 
-either-below : (t : Bool) (a b n : ℕ) → a < n → b < n → cond t a b < n
-either-below true a b n p q = p
-either-below false a b n p q = q
+refused-more : (s : Season) (e : JobEnd) → ((i : ℕ) → get_or s.refused i 0 ≤ s.jobs) → (i : ℕ) → get_or (added s e).refused i 0 ≤ s.jobs + 1
+unfolding added
+refused-more s e l zero = one_more (is_refused_under 1 e) (get_or s.refused 0 0) s.jobs (l 0)
+refused-more s e l (suc zero) = one_more (is_refused_under 2 e) (get_or s.refused 1 0) s.jobs (l 1)
+refused-more s e l (suc (suc zero)) = one_more (is_refused_under 3 e) (get_or s.refused 2 0) s.jobs (l 2)
+refused-more s e l (suc (suc (suc zero))) = one_more (is_refused_under 4 e) (get_or s.refused 3 0) s.jobs (l 3)
+refused-more s e l (suc (suc (suc (suc i)))) = omega arith
 
-either-most : (t : Bool) (a b n : ℕ) → a ≤ n → b ≤ n → cond t a b ≤ n
-either-most true a b n p q = p
-either-most false a b n p q = q
+-- the largest stays, or is one of the job's
+largest-stays : (l : Option LargestError) (jobs : ℕ) → IfSome l (LargestLimits jobs) → IfSome l (LargestLimits (jobs + 1))
+largest-stays None jobs h = tt
+largest-stays (Some x) jobs h = record { error = h.error; job = omega (arith, h.job); axis = h.axis }
+
+largest-more : (l : Option LargestError) (jobs : ℕ) (xs : List ℕ) → IfSome l (LargestLimits jobs) → largest_of xs < 2 ^ 63 → length xs ≤ most_channels →
+    IfSome (larger l (jobs + 1) xs) (LargestLimits (jobs + 1))
+unfolding larger
+largest-more l jobs [] h small few = largest-stays l jobs h
+largest-more l jobs (x ∷ xs) h small few = by (overtakes l (largest_of (x ∷ xs)))
+  where
+    by : (t : Bool) →
+        (let error = largest_of (x ∷ xs) in
+        IfSome (cond t (Some (record { error = error; job = jobs + 1; axis = lowest_axis error (x ∷ xs) })) l) (LargestLimits (jobs + 1)))
+    by true = record { error = small; job = omega arith; axis = omega (arith, axis-within (largest_of (x ∷ xs)) (x ∷ xs), few) }
+    by false = largest-stays l jobs h
 
 pub limits-more : (s : Season) (e : JobEnd) → SeasonLimits s → s.jobs < most_jobs → JobLimits e → SeasonLimits (added s e)
 unfolding added
 limits-more s e l h j =
-    let t = leads s (errors_of e) in
     record {
       jobs = omega arith;
       settled = one_more (ended_as is_settled e) s.settled s.jobs l.settled;
       still = one_more (ended_as is_still e) s.still s.jobs l.still;
       spent = one_more (ended_as is_spent e) s.spent s.jobs l.spent;
-      refused1 = one_more (is_refused_under 1 e) s.refused1 s.jobs l.refused1;
-      refused2 = one_more (is_refused_under 2 e) s.refused2 s.jobs l.refused2;
-      refused3 = one_more (is_refused_under 3 e) s.refused3 s.jobs l.refused3;
-      refused4 = one_more (is_refused_under 4 e) s.refused4 s.jobs l.refused4;
+      four = refl;
+      refused = refused-more s e l.refused;
       turns = omega (arith, l.turns, j.turns);
-      error = either-below t (largest_of (errors_of e)) s.error (2 ^ 63) j.error l.error;
-      job = either-most t (s.jobs + 1) s.job (s.jobs + 1) (omega arith) (omega (arith, l.job));
-      axis =
-          either-most t (lowest_axis (largest_of (errors_of e)) (errors_of e)) s.axis 8
-          (omega (arith, axis-within (largest_of (errors_of e)) (errors_of e), j.axes)) l.axis;
+      largest = largest-more s.largest s.jobs (errors_of e) l.largest j.error j.axes;
     }
 
 pub refused-limits : (number : ℕ) → JobLimits (refused_under number)

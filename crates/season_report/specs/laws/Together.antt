@@ -1,5 +1,5 @@
 -- Outcomes and refusals together make the number of jobs: a text is refused under 1 to 4, or its run ends in one of three ways.
-use Rattle.std.specs.Prelude.{ℕ, zero, suc, ◌+◌, ◌≤◌, ◌≡◌, refl, Bool, true, false, cond, ◌&&◌, List, [], ◌∷◌, eqb, ltb, get_or, length}
+use Rattle.std.specs.Prelude.{ℕ, zero, suc, ◌+◌, ◌≤◌, ◌≡◌, refl, Bool, true, false, cond, ◌&&◌, List, [], ◌∷◌, eqb, ltb, get_or, length, sum}
 use Rattle.std.proofs.Math.Option.{Option, none, some}
 use Rattle.std.proofs.Common.{arith}
 use Rattle.job.specs.Job.{Answer, Job, accepted, begun, ended, job_after, job_of, job_of_lines, judged, next_line, nothing, refused, with_sample}
@@ -110,7 +110,7 @@ one_each (refused number line) p = omega (arith, number-once number p.0 p.1)
 one_each (accepted j) p = omega (arith, outcome-once (run_for j).outcome)
 
 pub together : (texts : List (List ℕ)) →
-    (let s = text_figures texts in s.settled + s.still + s.spent + s.refused1 + s.refused2 + s.refused3 + s.refused4 ≡ s.jobs)
+    (let s = text_figures texts in s.settled + s.still + s.spent + sum s.refused ≡ s.jobs)
 unfolding text_figures figures_of total_of counts end_of
 together [] = refl
 together (text ∷ texts) = omega (arith, together texts, one_each (job_of text) (text-numbered text))
