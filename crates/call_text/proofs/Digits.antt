@@ -1,45 +1,30 @@
 -- What the digits of a field come to, byte by byte.
 use Prim.Native.Nat.{ℕ, zero, suc, ◌+◌, ◌-◌, ◌*◌, ◌^◌, ◌≤◌, ◌<◌}
 use mathlib.Core.Path.{◌≡◌, refl, sym, ap, ◌∙◌}
-use mathlib.Core.Bool.{Bool, true, false, cond, not, ◌&&◌, and-true}
+use mathlib.Core.Bool.{Bool, true, false, cond, not, ◌&&◌, and-true, true≢false}
 use mathlib.Core.List.{List, [], ◌∷◌}
-use mathlib.Core.Option.{Option, none, some}
+use Rattle.std.proofs.Common.{None, Option, Some}
 use native.Mathlib.Nat.{pow-suc, pow-le-pow_right, mul-le-mul_right}
 use native.Mathlib.Numerals.{add-one}
 use native.Mathlib.Omega.{arith}
 use borrow.Author.Tests.{eq-eqb, ne_eqb, lt-leb, le-leb, lt-ltb, le-ltb, leb-true}
 use lib.Dec.{eqb, leb, ltb, lit<}
 use lib.IntN.{ℤ}
-use lib.ListN.{length, drop, get_or, drop_of_length-le}
+use lib.ListN.{length, take, drop, get_or, drop_of_length-le}
 use lib.Seq.{drop-cons}
 use Rattle.integer.specs.Signed.{signed}
 use Rattle.text.specs.Numeral.{leading_zero, value_from}
 use Rattle.integer.specs.Within.{all_within, within}
 use Rattle.integer.specs.laws.Within.{both, is_within}
-use Rattle.call_text.specs.Numbers.{beyond, digit_limit, numeral, signed_is, signed_of, stands_for, unsigned_of, with_minus, without_minus}
-use Rattle.call_text.specs.inner.Read.{unsigned_is}
-use Rattle.call_text.specs.declared.field.Unsigned.{Unsigned}
-use Rattle.call_text.specs.declared.field.Unsigned.TheVariants.{Is, No}
-use Rattle.call_text.specs.declared.field.Signed.TheVariants as Signed
+use Rattle.call_text.specs.Numbers.{beyond, digit_limit, numeral, signed_of, stands_for, unsigned_of, with_minus, without_minus}
+use Rattle.std.specs.Cmp.Lexicographic.{pointwise}
+use Rattle.std.specs.List.{list_all}
 
--- whether all bytes are digits, where those before byte i are: r
-module _ (r : Bool) (f : List ℕ) (i : ℕ) (q : r ≡ all_within 48 57 (drop i f)) where
-  pub digits-end : length f ≤ i → true ≡ r
-  unfolding all_within
-  digits-end h = sym (q ∙ simp (drop_of_length-le f h))
-
-  module _ (h : i < length f) where
-    pub digits_low : get_or f i 0 < 48 → false ≡ r
-    unfolding all_within within
-    digits_low e = sym (q ∙ simp (drop-cons f i 0 h, lt-leb 48 _ e))
-
-    pub digits-high : 48 ≤ get_or f i 0 → 57 < get_or f i 0 → false ≡ r
-    unfolding all_within within
-    digits-high d e = sym (q ∙ simp (drop-cons f i 0 h, le-leb 48 _ d, lt-leb _ 57 e))
-
-    pub digits_more : 48 ≤ get_or f i 0 → get_or f i 0 ≤ 57 → r ≡ all_within 48 57 (drop (i + 1) f)
-    unfolding all_within within
-    digits_more d e = q ∙ simp (drop-cons f i 0 h, le-leb 48 _ d, le-leb _ 57 e, add-one)
+-- whether all bytes are digits
+pub digits-all : (f : List ℕ) → list_all (within 48 57) f ≡ all_within 48 57 f
+unfolding all_within
+digits-all [] = refl
+digits-all (b ∷ bs) = rw (digits-all bs)
 
 -- the value r of a field of digits, of which those before byte i have the value v
 module _ (r : ℕ) (f : List ℕ) (i v : ℕ) (q : r ≡ value_from v (drop i f)) where
@@ -75,36 +60,28 @@ nine-digits i n v h e k =
     let small : 10 ^ i ≤ 10 ^ 9 = pow-le-pow_right (lit< tt) nine in
     omega arith
 
-pub zero-short : (f : List ℕ) → length f < 2 → false ≡ leading_zero f
+-- whether a field has a leading zero, by its first two bytes
+pub zero_short : (f : List ℕ) → length f < 2 → false ≡ leading_zero f
 unfolding leading_zero
-zero-short [] h = refl
-zero-short (b ∷ []) h = by (eqb b 48)
+zero_short [] h = refl
+zero_short (b ∷ []) h = by (eqb b 48)
   where
     by : (t : Bool) → false ≡ (t && ltb 0 0)
     by true = refl
     by false = refl
-zero-short (b ∷ d ∷ bs) h = absurd (omega arith)
+zero_short (b ∷ d ∷ bs) h = absurd (omega arith)
 
-pub zero-long : (f : List ℕ) → 2 ≤ length f → eqb (get_or f 0 0) 48 ≡ leading_zero f
+pub zero_first : (f : List ℕ) → 2 ≤ length f → get_or f 0 0 ≡ 48 → true ≡ leading_zero f
 unfolding leading_zero
-zero-long [] h = absurd (omega arith)
-zero-long (b ∷ []) h = absurd (omega arith)
-zero-long (b ∷ d ∷ bs) h = simp (lt-ltb 0 (suc (length bs)) (omega arith), and-true)
+zero_first [] h e = absurd (omega arith)
+zero_first (b ∷ []) h e = absurd (omega arith)
+zero_first (b ∷ d ∷ bs) h e = rw e (simp (lt-ltb 0 (suc (length bs)) (omega arith)))
 
--- whether a field is a numeral, test by test
-module _ (f : List ℕ) where
-  pub numeral-empty : length f < 1 → false ≡ numeral f
-  unfolding numeral
-  numeral-empty h = simp (le-ltb 0 (length f) (omega arith))
-
-  module _ (h : 1 ≤ length f) (z : Bool) (q : z ≡ leading_zero f) where
-    pub numeral-zero : z ≡ true → false ≡ numeral f
-    unfolding numeral
-    numeral-zero e = simp (lt-ltb 0 (length f) h, ← q, e)
-
-    pub numeral-digits : z ≡ false → (r : Bool) → r ≡ all_within 48 57 f → r ≡ numeral f
-    unfolding numeral
-    numeral-digits e r p = p ∙ simp (lt-ltb 0 (length f) h, ← q, e)
+pub zero_no : (f : List ℕ) → 2 ≤ length f → (get_or f 0 0 ≡ 48 → ⊥) → false ≡ leading_zero f
+unfolding leading_zero
+zero_no [] h e = absurd (omega arith)
+zero_no (b ∷ []) h e = absurd (omega arith)
+zero_no (b ∷ d ∷ bs) h e = simp (ne_eqb b 48 e)
 
 numeral-only : (f : List ℕ) → numeral f ≡ true → all_within 48 57 f ≡ true
 unfolding numeral
@@ -112,31 +89,23 @@ numeral-only f e =
     let d = (both (ltb 0 (length f)) (not (leading_zero f) && all_within 48 57 f) e).1 in
     (both (not (leading_zero f)) (all_within 48 57 f) d).1
 
--- a field's number, by whether it is a numeral: t
-module _ (f : List ℕ) (t : Bool) (q : t ≡ numeral f) where
-  pub natural-none : not t ≡ true → No ≡ unsigned_is (unsigned_of f)
-  unfolding unsigned_of unsigned_is
-  natural-none e = simp (← q, is_false t e)
-    where
-      is_false : (t : Bool) → not t ≡ true → t ≡ false
-      is_false true e = sym e
-      is_false false e = refl
+-- a field's number, by whether it is a numeral
+module _ (f : List ℕ) where
+  pub natural_none : numeral f ≡ false → None ≡ unsigned_of f
+  unfolding unsigned_of
+  natural_none e = rw e
 
-  is_true : (t : Bool) → not t ≡ false → t ≡ true
-  is_true true e = refl
-  is_true false e = sym e
+  module _ (e : numeral f ≡ true) where
+    pub natural_long : digit_limit < length f → Some beyond ≡ unsigned_of f
+    unfolding unsigned_of stands_for
+    natural_long h = simp (e, lt-leb (length f) digit_limit h)
 
-  module _ (e : not t ≡ false) where
-    pub natural-long : digit_limit < length f → Is beyond ≡ unsigned_is (unsigned_of f)
-    unfolding unsigned_of unsigned_is stands_for
-    natural-long h = simp (← q, is_true t e, lt-leb (length f) digit_limit h)
+    pub natural_short : length f ≤ digit_limit → (v : ℕ) → v ≡ value_from 0 f → Some v ≡ unsigned_of f
+    unfolding unsigned_of stands_for
+    natural_short h v p = simp (e, le-leb (length f) digit_limit h, p)
 
-    pub natural-short : length f ≤ digit_limit → (v : ℕ) → v ≡ value_from 0 f → Is v ≡ unsigned_is (unsigned_of f)
-    unfolding unsigned_of unsigned_is stands_for
-    natural-short h v p = simp (← q, is_true t e, le-leb (length f) digit_limit h, p)
-
-    pub of-digits : all_within 48 57 f ≡ true
-    of-digits = numeral-only f (sym q ∙ is_true t e)
+    pub of_digits : all_within 48 57 f ≡ true
+    of_digits = numeral-only f e
 
 -- digits have a value below a power of ten
 value-below : (f : List ℕ) (v : ℕ) → all_within 48 57 f ≡ true → value_from v f < (v + 1) * 10 ^ length f
@@ -160,70 +129,54 @@ stands-low f d = by (leb (length f) digit_limit) refl
         omega (arith, value-below f 0 d)
     by false e = omega arith
 
-unsigned-low : (f : List ℕ) (x : ℕ) → unsigned_of f ≡ some x → x ≤ beyond
+unsigned-low : (f : List ℕ) (x : ℕ) → unsigned_of f ≡ Some x → x ≤ beyond
 unfolding unsigned_of
 unsigned-low f x e = by (numeral f) refl e
   where
-    by : (t : Bool) → numeral f ≡ t → cond t (some (stands_for f)) none ≡ some x → x ≤ beyond
+    by : (t : Bool) → numeral f ≡ t → cond t (Some (stands_for f)) None ≡ Some x → x ≤ beyond
     by true p e = let v : stands_for f ≡ x = cc in rw (← v) (stands-low f (numeral-only f p))
     by false p e = absurd (let z : ◌≡◌ {A = ℕ} 0 1 = cc in omega arith)
 
--- u is what was read of o
-module _ (u : Unsigned) (o : Option ℕ) (q : u ≡ unsigned_is o) where
-  pub read_some : (x : ℕ) → u ≡ Is x → o ≡ some x
-  unfolding unsigned_is
-  read_some x e = by o (sym q ∙ e)
-    where
-      by : (o : Option ℕ) → unsigned_is o ≡ Is x → o ≡ some x
-      by none p = absurd (let z : ◌≡◌ {A = ℕ} 0 1 = cc in omega arith)
-      by (some y) p = cc
+pub number-below : (f : List ℕ) (x : ℕ) → Some x ≡ unsigned_of f → x < 2 ^ 63
+number-below f x e = omega (arith, unsigned-low f x (sym e))
 
-  pub read_none : u ≡ No → o ≡ none
-  unfolding unsigned_is
-  read_none e = by o (sym q ∙ e)
-    where
-      by : (o : Option ℕ) → unsigned_is o ≡ No → o ≡ none
-      by none p = refl
-      by (some y) p = absurd (let z : ◌≡◌ {A = ℕ} 0 1 = cc in omega arith)
+-- a field, by its first byte: with a minus its digits stand after it
+module _ (f : List ℕ) where
+  module _ (e : pointwise eqb (take 1 f) (45 ∷ []) ≡ true) where
+    minus : signed_of f ≡ with_minus (unsigned_of (drop 1 f))
+    unfolding signed_of
+    minus = by f e
+      where
+        by : (f : List ℕ) → pointwise eqb (take 1 f) (45 ∷ []) ≡ true → signed_of f ≡ with_minus (unsigned_of (drop 1 f))
+        by [] e = absurd (true≢false (sym e))
+        by (b ∷ bs) e = rw (both (eqb b 45) true e).0
 
-pub reads-below : (u : Unsigned) (f : List ℕ) → u ≡ unsigned_is (unsigned_of f) → (x : ℕ) → u ≡ Is x → x < 2 ^ 63
-reads-below u f q x e = omega (arith, unsigned-low f x (read_some u (unsigned_of f) q x e))
+    pub minus-none : None ≡ unsigned_of (drop 1 f) → None ≡ signed_of f
+    unfolding with_minus
+    minus-none n = sym (minus ∙ rw (← n))
 
-pub signed-empty : (f : List ℕ) → length f < 1 → Signed.No ≡ signed_is (signed_of f)
-unfolding signed_of signed_is
-signed-empty [] h = refl
-signed-empty (b ∷ bs) h = absurd (omega arith)
+    pub minus-zero : (x : ℕ) → Some x ≡ unsigned_of (drop 1 f) → x ≡ 0 → None ≡ signed_of f
+    unfolding with_minus
+    minus-zero x n z = sym (minus ∙ rw (← n, z))
 
-minus : (f : List ℕ) → 1 ≤ length f → get_or f 0 0 ≡ 45 → signed_of f ≡ with_minus (unsigned_of (drop 1 f))
-unfolding signed_of
-minus [] h e = absurd (omega arith)
-minus (b ∷ bs) h e = simp (eq-eqb b 45 e)
-
-plain : (f : List ℕ) → 1 ≤ length f → (get_or f 0 0 ≡ 45 → ⊥) → signed_of f ≡ without_minus (unsigned_of f)
-unfolding signed_of
-plain [] h e = absurd (omega arith)
-plain (b ∷ bs) h e = simp (ne_eqb b 45 e)
-
-module _ (f g : List ℕ) (h : 1 ≤ length f) (u : Unsigned) (q : u ≡ unsigned_is (unsigned_of g)) where
-  module _ (e : get_or f 0 0 ≡ 45) (s : g ≡ drop 1 f) where
-    pub minus-none : u ≡ No → Signed.No ≡ signed_is (signed_of f)
-    unfolding with_minus signed_is
-    minus-none n = rw (minus f h e, ← s, read_none u (unsigned_of g) q n)
-
-    pub minus-zero : (x : ℕ) → u ≡ Is x → x ≡ 0 → Signed.No ≡ signed_is (signed_of f)
-    unfolding with_minus signed_is
-    minus-zero x n z = rw (minus f h e, ← s, read_some u (unsigned_of g) q x n, z)
-
-    pub minus-some : (x : ℕ) (y : ℤ) → u ≡ Is x → (x ≡ 0 → ⊥) → y ≡ signed true x → Signed.Is y ≡ signed_is (signed_of f)
-    unfolding with_minus signed_is signed
+    pub minus-some : (x : ℕ) (y : ℤ) → Some x ≡ unsigned_of (drop 1 f) → (x ≡ 0 → ⊥) → y ≡ signed true x → Some y ≡ signed_of f
+    unfolding with_minus signed
     minus-some zero y n z w = absurd (z refl)
-    minus-some (suc x) y n z w = rw (minus f h e, ← s, read_some u (unsigned_of g) q (suc x) n, w)
+    minus-some (suc x) y n z w = sym (minus ∙ rw (← n, w))
 
-  module _ (e : get_or f 0 0 ≡ 45 → ⊥) (s : g ≡ f) where
-    pub plain-none : u ≡ No → Signed.No ≡ signed_is (signed_of f)
-    unfolding without_minus signed_is
-    plain-none n = rw (plain f h e, ← s, read_none u (unsigned_of g) q n)
+  module _ (e : pointwise eqb (take 1 f) (45 ∷ []) ≡ false) where
+    plain : signed_of f ≡ without_minus (unsigned_of f)
+    unfolding signed_of unsigned_of numeral without_minus
+    plain = by f e
+      where
+        by : (f : List ℕ) → pointwise eqb (take 1 f) (45 ∷ []) ≡ false → signed_of f ≡ without_minus (unsigned_of f)
+        by [] e = refl
+        by (b ∷ bs) e = rw (rw and-true at e)
 
-    pub plain-some : (x : ℕ) (y : ℤ) → u ≡ Is x → y ≡ signed false x → Signed.Is y ≡ signed_is (signed_of f)
-    unfolding without_minus signed_is signed
-    plain-some x y n w = rw (plain f h e, ← s, read_some u (unsigned_of g) q x n, w)
+    pub plain-none : None ≡ unsigned_of f → None ≡ signed_of f
+    unfolding without_minus
+    plain-none n = sym (plain ∙ rw (← n))
+
+    pub plain-some : (x : ℕ) (y : ℤ) → Some x ≡ unsigned_of f → y ≡ signed false x → Some y ≡ signed_of f
+    unfolding without_minus signed
+    plain-some x y n w = sym (plain ∙ rw (← n, w))

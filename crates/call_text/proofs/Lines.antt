@@ -3,7 +3,7 @@ use Prim.Native.Nat.{ℕ, suc, ◌+◌, ◌-◌, ◌≤◌, ◌<◌}
 use mathlib.Core.Path.{◌≡◌, refl, sym, ap, ◌∙◌}
 use mathlib.Core.Bool.{Bool, true, false, cond}
 use mathlib.Core.List.{List, [], ◌∷◌, ◌++◌, append-nil, append_assoc}
-use mathlib.Core.Option.{Option, none, some}
+use Rattle.std.proofs.Common.{None, Option, Some, option_map}
 use native.Mathlib.Numerals.{add-one}
 use native.Mathlib.Omega.{arith}
 use borrow.Author.Tests.{le-leb, lt-leb}
@@ -11,34 +11,33 @@ use lib.Dec.{leb}
 use lib.IntN.{ℤ}
 use lib.ListN.{length, take, drop, get_or, set, length-append, length-set, take-append-drop}
 use lib.Seq.{drop-drop, drop-set-lt, get_or-take, length-take-le, take-nil, take-suc-set}
-use Rattle.text.specs.Parts.{before, split}
-use Rattle.call_text.specs.Numbers.{each_number, signed_is, signed_of}
+use Rattle.text.specs.Parts.{split}
+use Rattle.call_text.specs.Fields.{of_fields, with_numbers}
+use Rattle.call_text.specs.Numbers.{each_number, signed_of}
 use Rattle.call_text.specs.Requests.{leading, left_by, left_in, onward}
 use Rattle.call_text.specs.inner.Parts.{front}
 use Rattle.call_text.specs.inner.Read.{FieldsRead, counted, fields_by}
-use Rattle.call_text.specs.declared.field.Signed.{Signed}
-use Rattle.call_text.specs.declared.field.Signed.TheVariants.{Is, No}
 use Rattle.call_text.specs.declared.line.Fields.{Fields}
 use Rattle.call_text.proofs.Splitting.{parts_after, parts-end, parts_more, split-front, take-front}
 
 -- numbers that follow others
 unfoldable pub prepend : List ℤ → Option (List ℤ) → Option (List ℤ)
-prepend xs none = none
-prepend xs (some ys) = some (xs ++ ys)
+prepend xs None = None
+prepend xs (Some ys) = Some (xs ++ ys)
 
-prepend-one : (xs : List ℤ) (x : ℤ) (o : Option (List ℤ)) → prepend xs (before (some x) o) ≡ prepend (xs ++ (x ∷ [])) o
-unfolding prepend before
-prepend-one xs x none = refl
-prepend-one xs x (some ys) = ap some (sym (append_assoc xs (x ∷ []) ys))
+prepend-one : (xs : List ℤ) (x : ℤ) (o : Option (List ℤ)) → prepend xs (option_map (λ ys. x ∷ ys) o) ≡ prepend (xs ++ (x ∷ [])) o
+unfolding prepend
+prepend-one xs x None = refl
+prepend-one xs x (Some ys) = ap Some (sym (append_assoc xs (x ∷ []) ys))
 
 prepend-none : (o : Option (List ℤ)) → o ≡ prepend [] o
 unfolding prepend
-prepend-none none = refl
-prepend-none (some xs) = refl
+prepend-none None = refl
+prepend-none (Some xs) = refl
 
 -- a line whose first numbers are xs, and that has these fields after them
-unfoldable pub resumed : ℕ → ℕ → List ℤ → List (List ℕ) → Fields
-resumed most tag xs fs = cond (leb (length xs + length fs) most) (counted tag (prepend xs (each_number fs))) Fields.No
+unfoldable pub resumed : ℕ → ℕ → List ℤ → List (List ℕ) → Option Fields
+resumed most tag xs fs = cond (leb (length xs + length fs) most) (with_numbers counted tag (prepend xs (each_number fs))) None
 
 -- how far a line is read: the numbers so far are at the front of the array, and the fields from `at` on are to be read
 pub record Reading (line : List ℕ) (entry : List ℤ) (tag : ℕ) (numbers : List ℤ) (count at : ℕ) : Type 0 where
@@ -49,26 +48,26 @@ pub record Reading (line : List ℕ) (entry : List ℤ) (tag : ℕ) (numbers : L
   pub kept : left_by (length entry) (split 9 line) ≡ take count numbers ++ take (length entry - count) (leading (parts_after 9 line at))
 
 -- no field is read
-untagged : (most : ℕ) (f : List ℕ) (fs : List (List ℕ)) → (length f ≡ 1 → ⊥) → (fields_by most (f ∷ fs) ≡ Fields.No) × (left_by most (f ∷ fs) ≡ [])
-unfolding fields_by left_by
+untagged : (most : ℕ) (f : List ℕ) (fs : List (List ℕ)) → (length f ≡ 1 → ⊥) → (fields_by most (f ∷ fs) ≡ None) × (left_by most (f ∷ fs) ≡ [])
+unfolding fields_by of_fields left_by
 untagged most [] fs h = (refl, refl)
 untagged most (b ∷ []) fs h = absurd (h refl)
 untagged most (b ∷ d ∷ bs) fs h = (refl, refl)
 
 tagged : (most : ℕ) (f : List ℕ) (fs : List (List ℕ)) → length f ≡ 1
     → (fields_by most (f ∷ fs) ≡ resumed most (get_or f 0 0) [] fs) × (left_by most (f ∷ fs) ≡ take most (leading fs))
-unfolding fields_by left_by resumed
+unfolding fields_by of_fields left_by resumed
 tagged most [] fs h = absurd (omega arith)
 tagged most (b ∷ []) fs h =
     let z : 0 + length fs ≡ length fs = omega arith in
-    (rw z (ap (λ (o : Option (List ℤ)). cond (leb (length fs) most) (counted b o) Fields.No) (prepend-none (each_number fs))), refl)
+    (rw z (ap (λ (o : Option (List ℤ)). cond (leb (length fs) most) (with_numbers counted b o) None) (prepend-none (each_number fs))), refl)
 tagged most (b ∷ d ∷ bs) fs h = absurd (omega arith)
 
 module _ (line : List ℕ) (entry : List ℤ) (end : ℕ) (q : end ≡ 0 + length (front 9 (drop 0 line))) where
   parts : split 9 line ≡ front 9 line ∷ parts_after 9 line end
   parts = split-front 9 line 0 ∙ rw q
 
-  pub no-tag : (end ≡ 1 → ⊥) → FieldsRead line entry entry Fields.No
+  pub no-tag : (end ≡ 1 → ⊥) → FieldsRead line entry entry None
   unfolding left_in
   no-tag h =
       let u = untagged (length entry) (front 9 line) (parts_after 9 line end) (λ e. h (omega arith)) in
@@ -100,8 +99,8 @@ module _ (line : List ℕ) (entry : List ℤ) (tag : ℕ) (numbers : List ℤ) (
       let f : left_by (length entry) (split 9 line) ≡ take count numbers = r.kept ∙ rw e (append-nil _) in
       sym (rw (f, sized, ← r.stays) (take-append-drop count numbers))
 
-  pub line-end : length line ≤ at → FieldsRead line entry numbers (Fields.Are tag count)
-  unfolding resumed prepend counted each_number leading
+  pub line-end : length line ≤ at → FieldsRead line entry numbers (Some (record { tag = tag; count = count }))
+  unfolding resumed prepend with_numbers counted each_number leading
   line-end h =
       let p = parts-end 9 line at h in
       let s : count + 0 ≤ length entry = omega (arith, r.few) in
@@ -121,49 +120,38 @@ module _ (line : List ℕ) (entry : List ℤ) (tag : ℕ) (numbers : List ℤ) (
         let f : front 9 (drop (at + 1) line) ≡ field = sym (rw l (take-front 9 (drop (at + 1) line))) in
         parts_more 9 line at h ∙ split-front 9 line (at + 1) ∙ rw (← f, ← e) refl
 
-    pub line-full : length numbers ≤ count → FieldsRead line entry numbers Fields.No
+    pub line-full : length numbers ≤ count → FieldsRead line entry numbers None
     unfolding resumed
     line-full k =
         let z : length entry - count ≡ 0 = omega (arith, r.size) in
         let s : length entry < length (take count numbers) + suc (length (parts_after 9 line end)) = omega (arith, sized, r.size) in
         record { is = sym (r.is ∙ rw next (simp (lt-leb _ _ s))); leaves = left (rw z) }
 
-    module _ (s : Signed) (p : s ≡ signed_is (signed_of field)) where
-      none_read : (o : Option ℤ) → s ≡ signed_is o → s ≡ No → o ≡ none
-      unfolding signed_is
-      none_read none g n = refl
-      none_read (some x) g n = absurd (let z : ◌≡◌ {A = ℕ} 0 1 = cc in omega arith)
+    pub line-bad : None ≡ signed_of field → FieldsRead line entry numbers None
+    unfolding resumed prepend with_numbers counted each_number leading onward
+    line-bad n =
+        let o = sym n in
+        record {
+          is = sym (r.is ∙ rw (next, o) (both (leb (length (take count numbers) + suc (length (parts_after 9 line end))) (length entry))));
+          leaves = left (rw (next, o) (take-nil (length entry - count)));
+        }
+      where
+        both : (t : Bool) → ◌≡◌ {A = Option Fields} (cond t None None) None
+        both true = refl
+        both false = refl
 
-      one-read : (o : Option ℤ) (x : ℤ) → s ≡ signed_is o → s ≡ Is x → o ≡ some x
-      unfolding signed_is
-      one-read none x g n = absurd (let z : ◌≡◌ {A = ℕ} 0 1 = cc in omega arith)
-      one-read (some y) x g n = cc
-
-      pub line-bad : s ≡ No → FieldsRead line entry numbers Fields.No
-      unfolding resumed prepend counted each_number before leading onward
-      line-bad n =
-          let o = none_read _ p n in
-          record {
-            is = sym (r.is ∙ rw (next, o) (both (leb (length (take count numbers) + suc (length (parts_after 9 line end))) (length entry))));
-            leaves = left (rw (next, o) (take-nil (length entry - count)));
-          }
-        where
-          both : (t : Bool) → cond t Fields.No Fields.No ≡ Fields.No
-          both true = refl
-          both false = refl
-
-      pub line-more : count < length numbers → (x : ℤ) → s ≡ Is x → Reading line entry tag (set numbers count x) (count + 1) end
-      unfolding resumed each_number leading onward
-      line-more k x n =
-          let o = one-read _ x p n in
-          let room : length entry - count ≡ suc (length entry - (count + 1)) = omega (arith, r.size) in
-          let grown : take (count + 1) (set numbers count x) ≡ take count numbers ++ (x ∷ []) = rw (add-one count) (take-suc-set numbers count x k) in
-          let sums : length (take count numbers) + suc (length (parts_after 9 line end)) ≡
-          length (take count numbers ++ (x ∷ [])) + length (parts_after 9 line end) = rw length-append (omega arith) in
-          record {
-            size = length-set numbers count x ∙ r.size;
-            few = omega (arith, r.size);
-            stays = drop-set-lt (count + 1) numbers count x (omega arith) ∙ sym (drop-drop 1 count numbers) ∙ rw r.stays (drop-drop 1 count entry);
-            is = r.is ∙ rw (next, o, prepend-one, grown, sums) refl;
-            kept = r.kept ∙ rw (next, o, room, grown) (sym (append_assoc (take count numbers) (x ∷ []) _));
-          }
+    pub line-more : count < length numbers → (x : ℤ) → Some x ≡ signed_of field → Reading line entry tag (set numbers count x) (count + 1) end
+    unfolding resumed each_number leading onward
+    line-more k x n =
+        let o = sym n in
+        let room : length entry - count ≡ suc (length entry - (count + 1)) = omega (arith, r.size) in
+        let grown : take (count + 1) (set numbers count x) ≡ take count numbers ++ (x ∷ []) = rw (add-one count) (take-suc-set numbers count x k) in
+        let sums : length (take count numbers) + suc (length (parts_after 9 line end)) ≡
+        length (take count numbers ++ (x ∷ [])) + length (parts_after 9 line end) = rw length-append (omega arith) in
+        record {
+          size = length-set numbers count x ∙ r.size;
+          few = omega (arith, r.size);
+          stays = drop-set-lt (count + 1) numbers count x (omega arith) ∙ sym (drop-drop 1 count numbers) ∙ rw r.stays (drop-drop 1 count entry);
+          is = r.is ∙ rw (next, o, prepend-one (take count numbers) x, grown, sums) refl;
+          kept = r.kept ∙ rw (next, o, room, grown) (sym (append_assoc (take count numbers) (x ∷ []) _));
+        }

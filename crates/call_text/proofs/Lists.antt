@@ -3,91 +3,30 @@ use Prim.Native.Nat.{ℕ, suc, ◌+◌, ◌-◌, ◌≤◌}
 use mathlib.Core.Path.{◌≡◌, refl, sym, ap, ◌∙◌}
 use mathlib.Core.Bool.{Bool, true, false, cond}
 use mathlib.Core.List.{List, [], ◌∷◌, ◌++◌, append_assoc, map, map-append}
-use mathlib.Core.Option.{Option, none, some}
+use Rattle.std.proofs.Common.{IfSome, None, Option, Some}
 use native.Mathlib.Omega.{arith}
 use borrow.Author.Tests.{leb-true}
 use lib.Dec.{eqb, leb}
 use lib.IntN.{ℤ, pos, negsuc}
 use lib.ListN.{length, take, drop, length-append, length-map, take-append-drop}
 use lib.Seq.{drop-append_seam, drop-drop, take_all, take-append_seam}
-use Rattle.text.specs.Parts.{before, split}
+use Rattle.text.specs.Parts.{split}
 use Rattle.ledger.specs.Bench.{NamedCall, by}
 use Rattle.ledger.specs.Call.{Call, load, load_samples, loose_pair, axis}
 use Rattle.ledger.specs.declared.Order.{Order}
 use Rattle.ledger.specs.declared.Order.TheVariants.{Cyclic, Tournament}
 use Rattle.call_text.specs.Calls.{argument, call_by, call_of_fields, call_within, load_by, named, named_by, one_by, reading, samples_by}
-use Rattle.call_text.specs.Calls.{sweep_by, turn_by, with_numbers}
-use Rattle.call_text.specs.Numbers.{each_number, signed_of}
-use Rattle.call_text.specs.Requests.{Asks, Placed, asked_by, asked_for, leading, left_by, left_in, onward, part, request_call}
-use Rattle.call_text.specs.inner.Read.{FieldsRead, counted, fields_by}
+use Rattle.call_text.specs.Calls.{sweep_by, turn_by}
+use Rattle.call_text.specs.Requests.{Asks, Placed, asked_by, asked_for, call_asked, left_in, part, request_call}
+use Rattle.call_text.specs.inner.Read.{FieldsRead, fields_by}
+use Rattle.call_text.specs.laws.Leading.{Tagged, tagged, untagged}
 use Rattle.call_text.specs.declared.line.Fields.{Fields}
-use Rattle.call_text.specs.declared.line.Fields.TheVariants.{Are, No}
 use Rattle.call_text.specs.declared.request.Request.{Request}
-use Rattle.call_text.specs.declared.request.Request.TheVariants.{NoCall}
-
--- where every field is a number, all of them lead
-all-lead : (fs : List (List ℕ)) (ys : List ℤ) → each_number fs ≡ some ys → (leading fs ≡ ys) × (length ys ≡ length fs)
-unfolding each_number leading before onward
-all-lead [] ys e = let q : [] ≡ ys = cc in (q, rw (← q))
-all-lead (f ∷ fs) ys e = by (signed_of f) (each_number fs) (λ xs q. all-lead fs xs q) e
-  where
-    by : (o : Option ℤ) (p : Option (List ℤ)) → ((xs : List ℤ) → p ≡ some xs → (leading fs ≡ xs) × (length xs ≡ length fs)) →
-        before o p ≡ some ys → (onward o (leading fs) ≡ ys) × (length ys ≡ suc (length fs))
-    by none p later e = absurd (let z : ◌≡◌ {A = ℕ} 0 1 = cc in omega arith)
-    by (some x) none later e = absurd (let z : ◌≡◌ {A = ℕ} 0 1 = cc in omega arith)
-    by (some x) (some xs) later e =
-        let l = later xs refl in
-        let w : x ∷ xs ≡ ys = cc in
-        (rw l.0 w, rw (← w) (ap suc l.1))
-
--- a line with a tag and numbers
-pub record Tagged (most : ℕ) (fs : List (List ℕ)) (tag count : ℕ) : Type 0 where
-  pub numbers : List ℤ
-  pub call : call_of_fields most fs ≡ named_by tag numbers
-  pub lead : left_by most fs ≡ numbers
-  pub size : length numbers ≡ count
-  pub few : count ≤ most
-
-tagged : (most : ℕ) (fs : List (List ℕ)) (tag count : ℕ) → fields_by most fs ≡ Are tag count → Tagged most fs tag count
-unfolding fields_by call_of_fields left_by counted with_numbers
-tagged most [] tag count e = absurd (let z : ◌≡◌ {A = ℕ} 0 1 = cc in omega arith)
-tagged most ([] ∷ fs) tag count e = absurd (let z : ◌≡◌ {A = ℕ} 0 1 = cc in omega arith)
-tagged most ((t ∷ b ∷ bs) ∷ fs) tag count e = absurd (let z : ◌≡◌ {A = ℕ} 0 1 = cc in omega arith)
-tagged most ((t ∷ []) ∷ fs) tag count e = by (leb (length fs) most) refl (each_number fs) refl e
-  where
-    by : (b : Bool) → leb (length fs) most ≡ b → (o : Option (List ℤ)) → each_number fs ≡ o → cond b (counted t o) No ≡ Are tag count →
-        Tagged most ((t ∷ []) ∷ fs) tag count
-    by false l o q e = absurd (let z : ◌≡◌ {A = ℕ} 0 1 = cc in omega arith)
-    by true l none q e = absurd (let z : ◌≡◌ {A = ℕ} 0 1 = cc in omega arith)
-    by true l (some ys) q e =
-        let w : t ≡ tag = cc in
-        let k : length ys ≡ count = cc in
-        let a = all-lead fs ys q in
-        let h = leb-true (length fs) most l in
-        record {
-          numbers = ys;
-          call = rw (l, q, w);
-          lead = rw a.0 (take_all most ys (omega (arith, a.1)));
-          size = k;
-          few = omega (arith, a.1);
-        }
-
-no_call : (most : ℕ) (fs : List (List ℕ)) → fields_by most fs ≡ No → call_of_fields most fs ≡ none
-unfolding fields_by call_of_fields counted with_numbers
-no_call most [] e = refl
-no_call most ([] ∷ fs) e = refl
-no_call most ((t ∷ b ∷ bs) ∷ fs) e = refl
-no_call most ((t ∷ []) ∷ fs) e = by (leb (length fs) most) (each_number fs) e
-  where
-    by : (b : Bool) (o : Option (List ℤ)) → cond b (counted t o) No ≡ No → cond b (with_numbers t o) none ≡ none
-    by false o e = refl
-    by true none e = refl
-    by true (some ys) e = absurd (let z : ◌≡◌ {A = ℕ} 0 1 = cc in omega arith)
 
 -- a request with the numbers of its line is the line's call, and its places are among them
 abbrev Stands : List ℤ → List ℤ → Option NamedCall → Type 0
 Stands ys rest o =
-    (request_call (asked_for o) (ys ++ rest) (map reading (ys ++ rest)) ≡ o) × Placed (length (ys ++ rest)) (asked_for o)
+    (call_asked (asked_for o) (ys ++ rest) (map reading (ys ++ rest)) ≡ o) × IfSome (asked_for o) (Placed (length (ys ++ rest)))
 
 -- two lists that follow three numbers
 module _ (us vs ws : List ℕ) (a b c : ℕ) where
@@ -106,16 +45,16 @@ module _ (rest : List ℤ) (x : ℤ) where
   abbrev bench : ℕ
   bench = argument x
 
-  none-stands : (ys : List ℤ) → Stands ys rest none
-  unfolding asked_for request_call
+  none-stands : (ys : List ℤ) → Stands ys rest None
+  unfolding asked_for call_asked
   none-stands ys = (refl, tt)
 
   load-stands : (ys : List ℤ) → Stands (x ∷ ys) rest (named bench (load_by ys))
-  unfolding named asked_for asked_by request_call load_by
+  unfolding named asked_for asked_by call_asked request_call load_by
   load-stands [] = none-stands (x ∷ [])
   load-stands (n ∷ ys) =
       let z : 2 + length ys - 2 ≡ length ys = omega arith in (
-        rw z (ap (λ (xs : List ℤ). some (by bench (load (argument n) xs))) (take-append_seam ys rest)),
+        rw z (ap (λ (xs : List ℤ). Some (by bench (load (argument n) xs))) (take-append_seam ys rest)),
         (omega arith, rw length-append (omega arith)),
       )
 
@@ -135,11 +74,11 @@ module _ (rest : List ℤ) (x : ℤ) where
     sizes : length us + length vs ≡ length ys
     sizes = rw (length-map (take k ys) reading, length-map (drop k ys) reading, ← length-append (take k ys) (drop k ys), take-append-drop k ys)
 
-    some-stands : Stands (x ∷ n ∷ pos k ∷ ys) rest (named bench (some (load_samples (argument n) us vs)))
-    unfolding named asked_for asked_by request_call
+    some-stands : Stands (x ∷ n ∷ pos k ∷ ys) rest (named bench (Some (load_samples (argument n) us vs)))
+    unfolding named asked_for asked_by call_asked request_call
     some-stands = (
-      ap (λ (xs : List ℕ). request_call (asked_for (some (by bench (load_samples (argument n) us vs)))) (x ∷ n ∷ pos k ∷ ys ++ rest) xs) joined
-          ∙ (λ i. some (by bench (load_samples (argument n) (first_part us vs (map reading rest) (reading x) (reading n) (reading (pos k)) i)
+      ap (λ (xs : List ℕ). call_asked (asked_for (Some (by bench (load_samples (argument n) us vs)))) (x ∷ n ∷ pos k ∷ ys ++ rest) xs) joined
+          ∙ (λ i. Some (by bench (load_samples (argument n) (first_part us vs (map reading rest) (reading x) (reading n) (reading (pos k)) i)
           (second-part us vs (map reading rest) (reading x) (reading n) (reading (pos k)) i)))),
       (omega arith, omega arith, rw length-append (omega (arith, sizes))),
     )
@@ -152,36 +91,36 @@ module _ (rest : List ℤ) (x : ℤ) where
   samples-stands (n ∷ pos k ∷ ys) = by_size (leb k (length ys))
     where
       by_size : (b : Bool) →
-          Stands (x ∷ n ∷ pos k ∷ ys) rest (named bench (cond b (some (load_samples (argument n) (us n k ys) (vs n k ys))) none))
+          Stands (x ∷ n ∷ pos k ∷ ys) rest (named bench (cond b (Some (load_samples (argument n) (us n k ys) (vs n k ys))) None))
       by_size true = some-stands n k ys
       by_size false = none-stands (x ∷ n ∷ pos k ∷ ys)
 
   turn-stands : (ys : List ℤ) → Stands (x ∷ ys) rest (named bench (turn_by ys))
-  unfolding named asked_for asked_by request_call turn_by
+  unfolding named asked_for asked_by call_asked request_call turn_by
   turn-stands [] = none-stands (x ∷ [])
   turn-stands (p ∷ []) = none-stands (x ∷ p ∷ [])
   turn-stands (p ∷ q ∷ []) = (refl, tt)
   turn-stands (p ∷ q ∷ z ∷ ys) = none-stands (x ∷ p ∷ q ∷ z ∷ ys)
 
   sweep-stands : (order : Order) (ys : List ℤ) → Stands (x ∷ ys) rest (named bench (sweep_by order ys))
-  unfolding named asked_for asked_by request_call sweep_by
+  unfolding named asked_for asked_by call_asked request_call sweep_by
   sweep-stands Cyclic [] = (refl, tt)
   sweep-stands Tournament [] = (refl, tt)
   sweep-stands order (y ∷ ys) = none-stands (x ∷ y ∷ ys)
 
-  one-stands : (call : ℕ → Call) → ((ys : List ℤ) (i : ℕ) → Stands ys rest (some (by bench (call i)))) →
+  one-stands : (call : ℕ → Call) → ((ys : List ℤ) (i : ℕ) → Stands ys rest (Some (by bench (call i)))) →
       (ys : List ℤ) → Stands (x ∷ ys) rest (named bench (one_by call ys))
   unfolding named one_by
   one-stands call h [] = none-stands (x ∷ [])
   one-stands call h (y ∷ []) = h (x ∷ y ∷ []) (argument y)
   one-stands call h (y ∷ z ∷ ys) = none-stands (x ∷ y ∷ z ∷ ys)
 
-  pair-stands : (ys : List ℤ) (t : ℕ) → Stands ys rest (some (by bench (loose_pair t)))
-  unfolding asked_for asked_by request_call
+  pair-stands : (ys : List ℤ) (t : ℕ) → Stands ys rest (Some (by bench (loose_pair t)))
+  unfolding asked_for asked_by call_asked request_call
   pair-stands ys t = (refl, tt)
 
-  axis-stands : (ys : List ℤ) (i : ℕ) → Stands ys rest (some (by bench (axis i)))
-  unfolding asked_for asked_by request_call
+  axis-stands : (ys : List ℤ) (i : ℕ) → Stands ys rest (Some (by bench (axis i)))
+  unfolding asked_for asked_by call_asked request_call
   axis-stands ys i = (refl, tt)
 
   either : (ys : List ℤ) (b : Bool) (o p : Option Call) → Stands ys rest (named bench o) → Stands ys rest (named bench p) →
@@ -189,7 +128,7 @@ module _ (rest : List ℤ) (x : ℤ) where
   either ys true o p h k = h
   either ys false o p h k = k
 
-  no-tag : (ys : List ℤ) → Stands ys rest (named bench none)
+  no-tag : (ys : List ℤ) → Stands ys rest (named bench None)
   unfolding named
   no-tag ys = none-stands ys
 
@@ -209,22 +148,22 @@ stands rest tag [] = none-stands rest (pos 0) []
 stands rest tag (x ∷ ys) = by-tag rest x tag ys
 
 -- the reader's answer, by what was read of the fields
-module _ (line : List ℕ) (entry exit : List ℤ) (z : Fields) (r : FieldsRead line entry exit z) where
-  pub asks_none : z ≡ No → Asks line entry exit NoCall
-  unfolding call_within asked_for request_call
+module _ (line : List ℕ) (entry exit : List ℤ) (z : Option Fields) (r : FieldsRead line entry exit z) where
+  pub asks_none : z ≡ None → Asks line entry exit None
+  unfolding call_within call_of_fields asked_for call_asked fields_by
   asks_none e =
-      let n = no_call (length entry) (split 9 line) (sym r.is ∙ e) in
+      let n = untagged named_by (length entry) (split 9 line) (sym r.is ∙ e) in
       record { is = rw n; leaves = r.leaves; calls = rw n; placed = tt }
 
 -- a line with a tag and numbers
-module _ (line : List ℕ) (entry exit : List ℤ) (tag count : ℕ) (k : Tagged (length entry) (split 9 line) tag count)
+module _ (line : List ℕ) (entry exit : List ℤ) (tag count : ℕ) (k : Tagged named_by (length entry) (split 9 line) tag count)
     (l : exit ≡ left_in entry line) where
   parted : exit ≡ k.numbers ++ drop count entry
   unfolding left_in
   parted = l ∙ rw (k.lead, k.size)
 
-  asks-tagged : (a : Request) → a ≡ asked_for (named_by tag (take count exit)) → Asks line entry exit a
-  unfolding call_within
+  asks-tagged : (a : Option Request) → a ≡ asked_for (named_by tag (take count exit)) → Asks line entry exit a
+  unfolding call_within call_of_fields
   asks-tagged a q =
       let t : take count exit ≡ k.numbers = rw (parted, ← k.size) (take-append_seam k.numbers _) in
       let w : a ≡ asked_for (call_of_fields (length entry) (split 9 line)) = q ∙ rw (t, k.call) in
@@ -236,12 +175,12 @@ module _ (line : List ℕ) (entry exit : List ℤ) (tag count : ℕ) (k : Tagged
         placed = rw (w, k.call, parted) s.1;
       }
 
-module _ (line : List ℕ) (entry exit : List ℤ) (z : Fields) (r : FieldsRead line entry exit z) (tag count : ℕ) (e : z ≡ Are tag count) where
-  known : Tagged (length entry) (split 9 line) tag count
-  known = tagged (length entry) (split 9 line) tag count (sym r.is ∙ e)
+module _ (line : List ℕ) (entry exit : List ℤ) (z : Option Fields) (r : FieldsRead line entry exit z) (f : Fields) (e : z ≡ Some f) where
+  known : Tagged named_by (length entry) (split 9 line) f.tag f.count
+  known = tagged named_by (length entry) (split 9 line) f.tag f.count (sym r.is ∙ e)
 
-  pub in_array : count ≤ length exit
-  in_array = rw (parted line entry exit tag count known r.leaves, length-append) (omega (arith, known.size))
+  pub in_array : f.count ≤ length exit
+  in_array = rw (parted line entry exit f.tag f.count known r.leaves, length-append) (omega (arith, known.size))
 
-  pub asks-some : (a : Request) → a ≡ asked_for (named_by tag (take count exit)) → Asks line entry exit a
-  asks-some = asks-tagged line entry exit tag count known r.leaves
+  pub asks-some : (a : Option Request) → a ≡ asked_for (named_by f.tag (take f.count exit)) → Asks line entry exit a
+  asks-some = asks-tagged line entry exit f.tag f.count known r.leaves

@@ -1,24 +1,30 @@
--- Readings, by the argument that a number is; and a list of them, written place after place.
+-- A reading, as it was tried for a number of 32 bits; and a list of them, written place after place.
 use Prim.Native.Nat.{ℕ, suc, ◌+◌, ◌≤◌, ◌<◌}
 use mathlib.Core.Path.{◌≡◌, refl, sym, ◌∙◌}
 use mathlib.Core.List.{List, ◌++◌, append_assoc, map, map-append}
 use native.Mathlib.Numerals.{add-one}
 use native.Mathlib.Omega.{arith}
-use borrow.Author.Tests.{le-leb, lt-leb}
+use Rattle.std.proofs.Common.{Bool, Err, Ok, Result, cond, false, leb, nat_abs, true}
+use Rattle.std.specs.Int.{FitsUnsignedBits}
+use Rattle.std.specs.Result.{OkIff, result_unwrap_or}
+use borrow.Author.Tests.{le-leb, leb-true}
 use lib.IntN.{ℤ, pos, negsuc}
 use lib.ListN.{length, take, drop, get_or, set, length-map}
 use lib.Seq.{drop-cons, length-take-le, set_at, take-suc}
-use Rattle.call_text.specs.Calls.{argument, most_reading, reading}
+use Rattle.call_text.specs.Calls.{most_reading, reading}
 
-pub reading-beyond : (x : ℤ) (y : ℕ) → y ≡ argument x → most_reading < y → most_reading ≡ reading x
-unfolding argument reading
-reading-beyond (pos x) y q h = sym (simp (lt-leb x most_reading (omega arith)))
-reading-beyond (negsuc x) y q h = refl
-
-pub reading-is : (x : ℤ) (y : ℕ) → y ≡ argument x → y ≤ most_reading → y ≡ reading x
-unfolding argument reading
-reading-is (pos x) y q h = q ∙ sym (simp (le-leb x most_reading (omega arith)))
-reading-is (negsuc x) y q h = absurd (omega arith)
+pub reading-tried : {E : Type 0} (x : ℤ) (r : Result ℕ E) (y : ℕ) → OkIff r (FitsUnsignedBits 32 x) (nat_abs x) → y ≡ result_unwrap_or r most_reading →
+    y ≡ reading x
+unfolding reading
+reading-tried (pos n) (Ok m) y h e = e ∙ h.1 ∙ sym (let k : n ≤ most_reading = let w = h.0 in omega arith in simp (le-leb n most_reading k))
+reading-tried (pos n) (Err z) y h e =
+    e ∙ sym (by (leb n most_reading) refl)
+  where
+    by : (t : Bool) → leb n most_reading ≡ t → cond t n most_reading ≡ most_reading
+    by true q = absurd (h (omega (arith, leb-true n most_reading q)))
+    by false q = refl
+reading-tried (negsuc n) (Ok m) y h e = absurd h.0
+reading-tried (negsuc n) (Err z) y h e = e
 
 -- the readings of the first i numbers, and what was there after them
 abbrev pub read_up_to : List ℤ → List ℕ → ℕ → List ℕ

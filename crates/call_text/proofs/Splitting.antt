@@ -1,7 +1,7 @@
 -- The parts of a text, by places of the text.
-use Prim.Native.Nat.{ℕ, ◌+◌, ◌≤◌, ◌<◌}
+use Prim.Native.Nat.{ℕ, suc, ◌+◌, ◌≤◌, ◌<◌}
 use mathlib.Core.Path.{◌≡◌, refl, sym, ap, ◌∙◌}
-use mathlib.Core.Bool.{Bool, true, false, cond}
+use mathlib.Core.Bool.{Bool, true, false, cond, not}
 use mathlib.Core.List.{List, [], ◌∷◌}
 use native.Mathlib.Numerals.{add-one, one-add}
 use native.Mathlib.Nat.{add_assoc}
@@ -10,23 +10,59 @@ use borrow.Author.Tests.{lt-ltb, le-ltb, ltb-true, ltb-false, eq-eqb, ne_eqb}
 use lib.Dec.{eqb, ltb}
 use lib.ListN.{length, take, drop, get_or, length-drop, drop_of_length-le}
 use lib.Seq.{drop-drop, drop-cons}
+use Rattle.std.proofs.Common.{None, Option, Some}
+use Rattle.std.proofs.lemmas.Option.{cond_some}
+use Rattle.std.specs.List.{position_or_len}
 use Rattle.text.specs.Parts.{split, onto}
-use Rattle.call_text.specs.inner.Parts.{front}
+use Rattle.call_text.specs.inner.Parts.{Found, front}
 
--- r is where the first s from `at` on stands, or the end.
-module _ (r s : ℕ) (text : List ℕ) (at : ℕ) (q : r ≡ at + length (front s (drop at text))) where
-  pub found-end : length text ≤ at → at ≡ r
-  unfolding front
-  found-end h = sym (q ∙ simp (drop_of_length-le text h) (omega arith))
+-- the first s stands where the library's search finds it
+front-is : (s : ℕ) (xs : List ℕ) → position_or_len (λ b. eqb b s) xs ≡ length (front s xs)
+unfolding front
+front-is s [] = refl
+front-is s (b ∷ bs) = by (eqb b s) (front-is s bs)
+  where
+    by : (t : Bool) → position_or_len (λ b. eqb b s) bs ≡ length (front s bs) →
+        cond (not t) (1 + position_or_len (λ b. eqb b s) bs) 0 ≡ length (cond t [] (b ∷ front s bs))
+    by true e = refl
+    by false e = rw (one-add, e)
 
-  module _ (h : at < length text) where
-    pub found_here : get_or text at 0 ≡ s → at ≡ r
-    unfolding front
-    found_here e = sym (q ∙ simp (drop-cons text at 0 h, eq-eqb _ _ e) (omega arith))
+front-within : (s : ℕ) (xs : List ℕ) → length (front s xs) ≤ length xs
+unfolding front
+front-within s [] = omega arith
+front-within s (b ∷ bs) = by (eqb b s) (front-within s bs)
+  where
+    by : (t : Bool) → length (front s bs) ≤ length bs → length (cond t [] (b ∷ front s bs)) ≤ suc (length bs)
+    by true h = omega arith
+    by false h = omega arith
 
-    pub found-past : (get_or text at 0 ≡ s → ⊥) → r ≡ at + 1 + length (front s (drop (at + 1) text))
-    unfolding front
-    found-past e = q ∙ simp (drop-cons text at 0 h, ne_eqb _ _ e, add-one) (omega arith)
+-- the search from the place `from` on answers o
+module _ (text : List ℕ) (from s : ℕ) (h : from ≤ length text) (xs : List ℕ) (w : xs ≡ drop from text) (o : Option ℕ)
+    (q : o ≡ cond (ltb (position_or_len (λ b. eqb b s) xs) (length xs)) (Some (position_or_len (λ b. eqb b s) xs)) None) where
+  at-front : position_or_len (λ b. eqb b s) xs ≡ length (front s (drop from text))
+  at-front = front-is s xs ∙ ap (λ (l : List ℕ). length (front s l)) w
+
+  pub found_some : (k : ℕ) → o ≡ Some k → Found s text from (from + k)
+  found_some k e =
+      let v : position_or_len (λ b. eqb b s) xs ≡ k = (cond_some _ _ _ (sym q ∙ e)).1 in
+      let p : length (front s (drop from text)) ≡ k = sym at-front ∙ v in
+      record {
+        is = omega arith;
+        low = omega arith;
+        high = omega (arith, front-within s (drop from text), length-drop from text);
+      }
+
+  pub found_none : o ≡ None → Found s text from (length text)
+  found_none e =
+      let n : length xs ≤ position_or_len (λ b. eqb b s) xs = ltb-false _ _ (no-value _ _ (sym q ∙ e)) in
+      let m : length (drop from text) ≤ length (front s (drop from text)) = rw (← at-front, ← ap length w) n in
+      let d = length-drop from text in
+      let k = front-within s (drop from text) in
+      record { is = omega arith; low = h; high = omega arith }
+    where
+      no-value : (t : Bool) (x : ℕ) → cond t (Some x) None ≡ None → t ≡ false
+      no-value true x e = absurd (let z : ◌≡◌ {A = ℕ} 0 1 = cc in omega arith)
+      no-value false x e = refl
 
 pub take-front : (s : ℕ) (xs : List ℕ) → take (length (front s xs)) xs ≡ front s xs
 unfolding front

@@ -1,12 +1,13 @@
 -- The call that a line gives: its tag, then its bench and its numbers, fields parted by one tab.
 use Rattle.std.specs.Prelude.{ℕ, cond, List, [], ◌∷◌, map, eqb, leb, ℤ, pos, negsuc, length, take, drop}
-use Rattle.std.proofs.Math.Option.{Option, none, some}
+use Rattle.std.specs.Prelude.{Option, Some, None}
 use Rattle.text.specs.Parts.{split}
 use Rattle.ledger.specs.Bench.{NamedCall, by}
 use Rattle.ledger.specs.Call.{Call, load, load_samples, turn, sweep_in, loose_pair, axis}
 use Rattle.ledger.specs.declared.Order.{Order}
 use Rattle.ledger.specs.declared.Order.TheVariants.{Cyclic, Tournament}
-use Rattle.call_text.specs.Numbers.{beyond, each_number}
+use Rattle.call_text.specs.Fields.{of_fields}
+use Rattle.call_text.specs.Numbers.{beyond}
 
 -- README: 'negative where the call's argument is a natural (bench, n, p, q, t, i) is a value out of that argument's range'
 unfoldable pub argument : ℤ → ℕ
@@ -15,8 +16,8 @@ argument (negsuc x) = beyond
 
 -- `L` n and the numbers
 unfoldable pub load_by : List ℤ → Option Call
-load_by [] = none
-load_by (n ∷ numbers) = some (load (argument n) numbers)
+load_by [] = None
+load_by (n ∷ numbers) = Some (load (argument n) numbers)
 
 -- README: 'A dilution or a count that is negative or above 4,294,967,295 stands for 4,294,967,295, which is beyond every range'
 abbrev pub most_reading : ℕ
@@ -28,29 +29,29 @@ reading (negsuc x) = most_reading
 
 -- `M` n k, then k dilutions, then the counts: 'k has no minus', and 'fewer than k numbers after k make the line no call'
 unfoldable pub samples_by : List ℤ → Option Call
-samples_by [] = none
-samples_by (n ∷ []) = none
-samples_by (n ∷ negsuc k ∷ numbers) = none
+samples_by [] = None
+samples_by (n ∷ []) = None
+samples_by (n ∷ negsuc k ∷ numbers) = None
 samples_by (n ∷ pos k ∷ numbers) =
-    cond (leb k (length numbers)) (some (load_samples (argument n) (map reading (take k numbers)) (map reading (drop k numbers)))) none
+    cond (leb k (length numbers)) (Some (load_samples (argument n) (map reading (take k numbers)) (map reading (drop k numbers)))) None
 
 -- `T` p q
 unfoldable pub turn_by : List ℤ → Option Call
-turn_by [] = none
-turn_by (p ∷ []) = none
-turn_by (p ∷ q ∷ []) = some (turn (argument p) (argument q))
-turn_by (p ∷ q ∷ x ∷ xs) = none
+turn_by [] = None
+turn_by (p ∷ []) = None
+turn_by (p ∷ q ∷ []) = Some (turn (argument p) (argument q))
+turn_by (p ∷ q ∷ x ∷ xs) = None
 
 -- `W`, and `O` for the tournament sweep
 unfoldable pub sweep_by : Order → List ℤ → Option Call
-sweep_by order [] = some (sweep_in order)
-sweep_by order (x ∷ xs) = none
+sweep_by order [] = Some (sweep_in order)
+sweep_by order (x ∷ xs) = None
 
 -- `Q` t, and `A` i
 unfoldable pub one_by : (ℕ → Call) → List ℤ → Option Call
-one_by call [] = none
-one_by call (x ∷ []) = some (call (argument x))
-one_by call (x ∷ y ∷ xs) = none
+one_by call [] = None
+one_by call (x ∷ []) = Some (call (argument x))
+one_by call (x ∷ y ∷ xs) = None
 
 -- The call of a tag and the numbers after the bench: 76 is `L`, 77 `M`, 84 `T`, 87 `W`, 81 `Q`, 65 `A`, 79 `O`.
 unfoldable pub call_by : ℕ → List ℤ → Option Call
@@ -61,27 +62,19 @@ call_by tag numbers =
     (cond (eqb tag 87) (sweep_by Cyclic numbers)
     (cond (eqb tag 81) (one_by loose_pair numbers)
     (cond (eqb tag 65) (one_by axis numbers)
-    (cond (eqb tag 79) (sweep_by Tournament numbers) none))))))
+    (cond (eqb tag 79) (sweep_by Tournament numbers) None))))))
 
 unfoldable pub named : ℕ → Option Call → Option NamedCall
-named bench none = none
-named bench (some call) = some (by bench call)
+named bench None = None
+named bench (Some call) = Some (by bench call)
 
 -- README: 'The first number of a call is the bench that makes it'
 unfoldable pub named_by : ℕ → List ℤ → Option NamedCall
-named_by tag [] = none
+named_by tag [] = None
 named_by tag (bench ∷ numbers) = named (argument bench) (call_by tag numbers)
 
-unfoldable pub with_numbers : ℕ → Option (List ℤ) → Option NamedCall
-with_numbers tag none = none
-with_numbers tag (some numbers) = named_by tag numbers
-
--- a tag is one byte
 unfoldable pub call_of_fields : ℕ → List (List ℕ) → Option NamedCall
-call_of_fields most [] = none
-call_of_fields most ([] ∷ fields) = none
-call_of_fields most ((tag ∷ []) ∷ fields) = cond (leb (length fields) most) (with_numbers tag (each_number fields)) none
-call_of_fields most ((tag ∷ b ∷ bs) ∷ fields) = none
+call_of_fields most fields = of_fields named_by most fields
 
 -- the call of a line that may have so many numbers
 unfoldable pub call_within : ℕ → List ℕ → Option NamedCall

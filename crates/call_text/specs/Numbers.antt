@@ -1,10 +1,8 @@
 -- The numbers of a line of calls, of bytes: 45 is a minus, 48 to 57 are the decimal digits.
 use Rattle.std.specs.Prelude.{ℕ, zero, suc, Bool, cond, not, ◌&&◌, List, [], ◌∷◌, eqb, leb, ltb, ℤ, pos, negsuc, length}
-use Rattle.std.proofs.Math.Option.{Option, none, some}
+use Rattle.std.specs.Prelude.{Option, Some, None, option_and_then, option_map}
 use Rattle.text.specs.Numeral.{leading_zero, value_from}
-use Rattle.text.specs.Parts.{before}
 use Rattle.integer.specs.Within.{all_within}
-use Rattle.call_text.specs.declared.field.Signed.{Signed}
 
 -- README: 'decimal digits, no leading zero unless it is 0'
 unfoldable pub numeral : List ℕ → Bool
@@ -21,29 +19,24 @@ unfoldable pub stands_for : List ℕ → ℕ
 stands_for f = cond (leb (length f) digit_limit) (value_from 0 f) beyond
 
 unfoldable pub unsigned_of : List ℕ → Option ℕ
-unsigned_of f = cond (numeral f) (some (stands_for f)) none
+unsigned_of f = cond (numeral f) (Some (stands_for f)) None
 
 unfoldable pub without_minus : Option ℕ → Option ℤ
-without_minus none = none
-without_minus (some x) = some (pos x)
+without_minus None = None
+without_minus (Some x) = Some (pos x)
 
 -- '-0 is none'
 unfoldable pub with_minus : Option ℕ → Option ℤ
-with_minus none = none
-with_minus (some zero) = none
-with_minus (some (suc x)) = some (negsuc x)
+with_minus None = None
+with_minus (Some zero) = None
+with_minus (Some (suc x)) = Some (negsuc x)
 
 -- 'an optional minus'
 unfoldable pub signed_of : List ℕ → Option ℤ
-signed_of [] = none
+signed_of [] = None
 signed_of (b ∷ bs) = cond (eqb b 45) (with_minus (unsigned_of bs)) (without_minus (unsigned_of (b ∷ bs)))
-
--- what the reader of a number answers
-unfoldable pub signed_is : Option ℤ → Signed
-signed_is none = Signed.No
-signed_is (some x) = Signed.Is x
 
 -- the numbers of fields, each of which has to be one
 unfoldable pub each_number : List (List ℕ) → Option (List ℤ)
-each_number [] = some []
-each_number (f ∷ fs) = before (signed_of f) (each_number fs)
+each_number [] = Some []
+each_number (f ∷ fs) = option_and_then (λ x. option_map (λ xs. x ∷ xs) (each_number fs)) (signed_of f)

@@ -7,12 +7,8 @@ pub fn find(text: &[u8], from: usize, byte: u8) -> usize
     requires { from ≤ length text.now }
     ensures { Found byte text.now from result }
 {
-    let mut at = from;
-    while at < text.len() {
-        if text[at] == byte {
-            return at;
-        }
-        at += 1;
+    match text[from..].iter().position(|b| *b == byte) {
+        Some(k) => from + k,
+        None => text.len(),
     }
-    at
 }

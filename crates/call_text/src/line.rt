@@ -1,37 +1,36 @@
 // The fields of a line of calls, parted by one tab: its tag and its numbers.
 ghost use Rattle.call_text.specs.inner.Read.{FieldsRead};
 
-use crate::field::{Signed, number};
+use crate::field::number;
 use crate::find::find;
 
+// How many numbers follow the tag.
 #[derive(Clone, Copy)]
-pub enum Fields {
-    Are { tag: u8, count: usize },
-    No,
+pub struct Fields {
+    pub tag: u8,
+    pub count: usize,
 }
 
 // The numbers go into the lent array, one after the other, up to the first field that is none or for which the array has no place.
-pub fn read_fields(line: &[u8], numbers: &mut [i64]) -> Fields
+pub fn read_fields(line: &[u8], numbers: &mut [i64]) -> Option<Fields>
     ensures { FieldsRead line.now numbers.old numbers.new result }
 {
     let mut count = 0;
     let mut at = find(line, 0, b'\t');
     if at != 1 {
-        return Fields::No;
+        return None;
     }
     let tag = line[0];
     while at < line.len() {
         let start = at + 1;
         let end = find(line, start, b'\t');
-        let Signed::Is(x) = number(&line[start..end]) else {
-            return Fields::No;
-        };
+        let x = number(&line[start..end])?;
         if numbers.len() <= count {
-            return Fields::No;
+            return None;
         }
         numbers[count] = x;
         count += 1;
         at = end;
     }
-    Fields::Are { tag, count }
+    Some(Fields { tag, count })
 }

@@ -1,30 +1,20 @@
 // Numbers of a line as readings, which are handed over in 32 bits.
-ghost use Rattle.std.specs.Prelude.{◌++◌, map, ◌≡◌, ◌≤◌, drop, length, take};
+ghost use Rattle.std.specs.Prelude.{◌++◌, map, ◌≡◌, ◌≤◌, drop, length};
 ghost use Rattle.call_text.specs.Calls.{reading};
 
-use crate::request::argument;
-
-// What a negative number, or one beyond 32 bits, is read as: it is out of every range.
-const MOST_READING: u32 = 4_294_967_295;
-
+// A negative number, or one beyond 32 bits, is read as the largest one: it is out of every range.
 fn reading(x: i64) -> u32
     ensures { result ≡ reading x }
 {
-    let y = argument(x);
-    if (MOST_READING as u64) < y {
-        return MOST_READING;
-    }
-    y as u32
+    u32::try_from(x).unwrap_or(u32::MAX)
 }
 
-// The readings of the first `count` numbers.
-pub fn put_readings(numbers: &[i64], count: usize, readings: &mut [u32])
-    requires { (count ≤ length numbers.now) × (count ≤ length readings.old) }
-    ensures { readings.new ≡ map reading (take count numbers.now) ++ drop count readings.old }
+// The readings of the numbers, at the front of the lent array.
+pub fn put_readings(numbers: &[i64], readings: &mut [u32])
+    requires { length numbers.now ≤ length readings.old }
+    ensures { readings.new ≡ map reading numbers.now ++ drop (length numbers.now) readings.old }
 {
-    let mut i = 0;
-    while i < count {
-        readings[i] = reading(numbers[i]);
-        i += 1;
+    for (i, x) in numbers.iter().enumerate() {
+        readings[i] = reading(*x);
     }
 }

@@ -1,15 +1,14 @@
 // What a line of calls asks for.
-ghost use Rattle.std.specs.Prelude.{◌≡◌, ◌≤◌, length, take};
-ghost use Rattle.ledger.specs.Call.{axis, loose_pair};
-ghost use Rattle.ledger.specs.declared.Order.TheVariants.{Cyclic, Tournament};
-ghost use Rattle.call_text.specs.Calls.{argument, call_by, load_by, named, named_by, one_by, samples_by, sweep_by, turn_by};
+ghost use Rattle.std.specs.Prelude.{◌≡◌};
+ghost use Rattle.call_text.specs.Calls.{argument, call_by, load_by, named, named_by, samples_by, turn_by};
 ghost use Rattle.call_text.specs.Requests.{Asks, asked_for};
+ghost use Rattle.call_text.specs.inner.Asked.{alone, only};
 
 use crate::field::BEYOND;
-use crate::line::{Fields, read_fields};
+use crate::line::read_fields;
 
-// A call with its bench and its arguments, or no call. Of a load's list it has the places among the line's numbers: from `from` to before `to`; of
-// samples the dilutions stand before `middle` and the counts from there on.
+// A call with its bench and its arguments. Of a load's list it has the places among the line's numbers: from `from` to before `to`; of samples the
+// dilutions stand before `middle` and the counts from there on.
 #[derive(Clone, Copy)]
 pub enum Request {
     Load {
@@ -39,7 +38,6 @@ pub enum Request {
         bench: usize,
         i: usize,
     },
-    NoCall,
     TournamentSweep(usize),
 }
 
@@ -50,158 +48,118 @@ pub const NUMBERS: usize = 4096;
 pub fn argument(x: i64) -> u64
     ensures { result ≡ argument x }
 {
-    if x < 0 {
-        return BEYOND;
-    }
-    x as u64
+    u64::try_from(x).unwrap_or(BEYOND)
 }
 
-fn load(bench: usize, numbers: &[i64], count: usize) -> Request
-    requires { count ≤ length numbers.now }
-    ensures { result ≡ asked_for (named bench (load_by (take count numbers.now))) }
+// The numbers are those after the bench, here and in what follows; the places count the bench too.
+#[tactic(auto, using(crate::proofs::Asking::no_load))]
+fn load(bench: usize, numbers: &[i64]) -> Option<Request>
+    ensures { result ≡ asked_for (named bench (load_by numbers.now)) }
 {
-    if count < 1 {
-        return Request::NoCall;
-    }
-    Request::Load {
+    let [n, ..] = numbers else {
+        return None;
+    };
+    Some(Request::Load {
         bench,
-        n: argument(numbers[0]) as usize,
+        n: argument(*n) as usize,
         from: 2,
-        to: count + 1,
-    }
+        to: numbers.len() + 1,
+    })
 }
 
 // n and k, the number of samples; then k dilutions, then the counts.
-fn load_samples(bench: usize, numbers: &[i64], count: usize) -> Request
-    requires { count ≤ length numbers.now }
-    ensures { result ≡ asked_for (named bench (samples_by (take count numbers.now))) }
+#[tactic(auto, using(crate::proofs::Asking::samples_few))]
+fn load_samples(bench: usize, numbers: &[i64]) -> Option<Request>
+    ensures { result ≡ asked_for (named bench (samples_by numbers.now)) }
 {
-    if count < 2 {
-        return Request::NoCall;
+    let [n, k, samples @ ..] = numbers else {
+        return None;
+    };
+    let k = usize::try_from(*k).ok()?;
+    if samples.len() < k {
+        return None;
     }
-    if numbers[1] < 0 {
-        return Request::NoCall;
-    }
-    let k = argument(numbers[1]) as usize;
-    if count - 2 < k {
-        return Request::NoCall;
-    }
-    Request::LoadSamples {
+    Some(Request::LoadSamples {
         bench,
-        n: argument(numbers[0]) as usize,
+        n: argument(*n) as usize,
         from: 3,
         middle: 3 + k,
-        to: count + 1,
-    }
+        to: numbers.len() + 1,
+    })
 }
 
-fn turn(bench: usize, numbers: &[i64], count: usize) -> Request
-    requires { count ≤ length numbers.now }
-    ensures { result ≡ asked_for (named bench (turn_by (take count numbers.now))) }
+#[tactic(auto, using(crate::proofs::Asking::turn_few, crate::proofs::Asking::turn_many))]
+fn turn(bench: usize, numbers: &[i64]) -> Option<Request>
+    ensures { result ≡ asked_for (named bench (turn_by numbers.now)) }
 {
-    if count != 2 {
-        return Request::NoCall;
-    }
-    Request::Turn {
+    let [p, q] = numbers else {
+        return None;
+    };
+    Some(Request::Turn {
         bench,
-        p: argument(numbers[0]) as usize,
-        q: argument(numbers[1]) as usize,
+        p: argument(*p) as usize,
+        q: argument(*q) as usize,
+    })
+}
+
+// A call that has no argument.
+fn alone(request: Request, numbers: &[i64]) -> Option<Request>
+    ensures { result ≡ alone request numbers.now }
+{
+    if numbers.is_empty() {
+        Some(request)
+    } else {
+        None
     }
 }
 
-fn sweep(bench: usize, numbers: &[i64], count: usize) -> Request
-    requires { count ≤ length numbers.now }
-    ensures { result ≡ asked_for (named bench (sweep_by Cyclic (take count numbers.now))) }
+// The argument of a call that has one.
+#[tactic(auto, using(crate::proofs::Asking::only_few, crate::proofs::Asking::only_many))]
+fn only(numbers: &[i64]) -> Option<u64>
+    ensures { result ≡ only numbers.now }
 {
-    if count != 0 {
-        return Request::NoCall;
-    }
-    Request::Sweep(bench)
+    let [x] = numbers else {
+        return None;
+    };
+    Some(argument(*x))
 }
 
-fn tournament_sweep(bench: usize, numbers: &[i64], count: usize) -> Request
-    requires { count ≤ length numbers.now }
-    ensures { result ≡ asked_for (named bench (sweep_by Tournament (take count numbers.now))) }
+#[tactic(auto, using(crate::proofs::Asking::other_tag))]
+fn by_tag(tag: u8, bench: usize, numbers: &[i64]) -> Option<Request>
+    ensures { result ≡ asked_for (named bench (call_by tag numbers.now)) }
 {
-    if count != 0 {
-        return Request::NoCall;
+    match tag {
+        b'L' => load(bench, numbers),
+        b'M' => load_samples(bench, numbers),
+        b'T' => turn(bench, numbers),
+        b'W' => alone(Request::Sweep(bench), numbers),
+        b'Q' => {
+            let t = only(numbers)?;
+            Some(Request::LoosePair { bench, t })
+        }
+        b'A' => {
+            let i = only(numbers)? as usize;
+            Some(Request::Axis { bench, i })
+        }
+        b'O' => alone(Request::TournamentSweep(bench), numbers),
+        _ => None,
     }
-    Request::TournamentSweep(bench)
-}
-
-fn loose_pair(bench: usize, numbers: &[i64], count: usize) -> Request
-    requires { count ≤ length numbers.now }
-    ensures { result ≡ asked_for (named bench (one_by loose_pair (take count numbers.now))) }
-{
-    if count != 1 {
-        return Request::NoCall;
-    }
-    Request::LoosePair {
-        bench,
-        t: argument(numbers[0]),
-    }
-}
-
-fn axis(bench: usize, numbers: &[i64], count: usize) -> Request
-    requires { count ≤ length numbers.now }
-    ensures { result ≡ asked_for (named bench (one_by axis (take count numbers.now))) }
-{
-    if count != 1 {
-        return Request::NoCall;
-    }
-    Request::Axis {
-        bench,
-        i: argument(numbers[0]) as usize,
-    }
-}
-
-// The numbers are those after the bench, here and in what it calls; the places count the bench too.
-fn by_tag(tag: u8, bench: usize, numbers: &[i64], count: usize) -> Request
-    requires { count ≤ length numbers.now }
-    ensures { result ≡ asked_for (named bench (call_by tag (take count numbers.now))) }
-{
-    if tag == b'L' {
-        return load(bench, numbers, count);
-    }
-    if tag == b'M' {
-        return load_samples(bench, numbers, count);
-    }
-    if tag == b'T' {
-        return turn(bench, numbers, count);
-    }
-    if tag == b'W' {
-        return sweep(bench, numbers, count);
-    }
-    if tag == b'Q' {
-        return loose_pair(bench, numbers, count);
-    }
-    if tag == b'A' {
-        return axis(bench, numbers, count);
-    }
-    if tag == b'O' {
-        return tournament_sweep(bench, numbers, count);
-    }
-    Request::NoCall
 }
 
 // The bench stands after the tag.
-fn by_bench(tag: u8, numbers: &[i64], count: usize) -> Request
-    requires { count ≤ length numbers.now }
-    ensures { result ≡ asked_for (named_by tag (take count numbers.now)) }
+fn by_bench(tag: u8, numbers: &[i64]) -> Option<Request>
+    ensures { result ≡ asked_for (named_by tag numbers.now) }
 {
-    if count < 1 {
-        return Request::NoCall;
-    }
-    let bench = argument(numbers[0]) as usize;
-    by_tag(tag, bench, &numbers[1..], count - 1)
+    let [bench, arguments @ ..] = numbers else {
+        return None;
+    };
+    by_tag(tag, argument(*bench) as usize, arguments)
 }
 
 // The request of a line, whose numbers are in the lent array then. A line has at most as many as the array has places.
-pub fn read_line(line: &[u8], numbers: &mut [i64]) -> Request
+pub fn read_line(line: &[u8], numbers: &mut [i64]) -> Option<Request>
     ensures { Asks line.now numbers.old numbers.new result }
 {
-    let Fields::Are { tag, count } = read_fields(line, numbers) else {
-        return Request::NoCall;
-    };
-    by_bench(tag, numbers, count)
+    let fields = read_fields(line, numbers)?;
+    by_bench(fields.tag, &numbers[..fields.count])
 }

@@ -1,4 +1,5 @@
 -- `line::read_fields` meets its contract.
+use Rattle.std.proofs.Common.{sym}
 use mir.Syntax.{w64}
 use mir.Val.{SFits}
 use mir.Facts.{to_z-of_z}
@@ -12,9 +13,10 @@ returns-then-at-ne1 c = no-tag _ _ _ c.find-at.ensures.is c.if-at-ne1.true
 pub loop-at-init : goal.loop-at-init
 loop-at-init c = (c.find-at.ensures.high, start _ _ _ c.find-at.ensures.is c.if-at-ne1.false)
 
-pub returns-in_default : goal.returns-in_default
-returns-in_default c =
-    line-bad _ _ _ _ _ _ c.loop-at.invariant.1 c.loop-at-test.true _ c.find-end.ensures.is _ c.number.ensures c.in_default.is
+pub returns-in_err-x : goal.returns-in_err-x
+returns-in_err-x c =
+    rw c.from_residual.ensures
+    (line-bad _ _ _ _ _ _ c.loop-at.invariant.1 c.loop-at-test.true _ c.find-end.ensures.is c.in_err-x.ensures)
 
 pub returns-then-numbers-count : goal.returns-then-numbers-count
 returns-then-numbers-count c =
@@ -22,11 +24,10 @@ returns-then-numbers-count c =
 
 pub loop-at-preserved : goal.loop-at-preserved
 loop-at-preserved c =
-    let z : SFits w64 c.in-Is.x = search rules in (
+    let z : SFits w64 c.in_ok-x.x = search rules in (
       c.find-end.ensures.high,
       rw (to_z-of_z z)
-          (line-more _ _ _ _ _ _ c.loop-at.invariant.1 c.loop-at-test.true _ c.find-end.ensures.is _ c.number.ensures c.if-numbers-count.false _
-          c.in-Is.is),
+          (line-more _ _ _ _ _ _ c.loop-at.invariant.1 c.loop-at-test.true _ c.find-end.ensures.is c.if-numbers-count.false _ c.in_ok-x.ensures),
     )
 
 pub returns : goal.returns
