@@ -1,23 +1,31 @@
 -- The texts that the writers put together, and the lines that they are.
-use Prim.Native.Nat.{ℕ, zero, suc, ◌*◌, ◌^◌, ◌≤◌, ◌<◌}
-use mathlib.Core.Path.{◌≡◌, refl, sym, ap}
-use mathlib.Core.List.{List, [], ◌∷◌, ◌++◌, map, append_assoc, append-nil}
+use Prim.Native.Nat.{ℕ, zero, suc, ◌+◌, ◌*◌, ◌^◌, ◌≤◌, ◌<◌}
+use mathlib.Core.Path.{◌≡◌, refl, sym, ap, subst, ◌∙◌}
+use mathlib.Core.Bool.{Bool, true, false}
+use mathlib.Core.List.{List, [], ◌∷◌, ◌++◌, map, map-append, append_assoc, append-nil}
+use native.Mathlib.Numerals.{add-one}
 use native.Mathlib.Omega.{arith}
 use denote.Array.{each}
 use denote.Signed.{SInt}
 use denote.Shadow.{shadow}
 use mir.Syntax.{w64}
-use mir.Val.{Val}
+use mir.Val.{Val, bool_byte}
 use lib.Dec.{lit<}
 use lib.IntN.{ℤ, pos}
 use lib.ListN.{length, take, get_or, replicate, length-append}
+use lib.Seq.{take-suc, take_all}
 use lib.Signed.{mag}
-use Rattle.text.specs.Decimal.{number}
+use Rattle.text.specs.Decimal.{digits, number}
 use Rattle.text.specs.laws.Digits.{length-number}
 use Rattle.text.specs.Put.{Put}
-use Rattle.text.specs.laws.Put.{put_then, front_length}
+use Rattle.text.specs.laws.Numbers.{further-append}
+use Rattle.text.specs.laws.Put.{front_length, put_then, same-put}
 use Rattle.text.specs.Line.{line, further, numbers}
-use Rattle.call_text.specs.Answers.{line_printed}
+use Rattle.record.specs.declared.query.Answer.{Answer}
+use Rattle.record.specs.declared.query.Answer.TheVariants.{Turned}
+use Rattle.call_text.specs.Answers.{line_printed, shown, shown_as}
+use Rattle.call_text.specs.declared.answer.Printed.{Printed}
+use Rattle.call_text.specs.declared.answer.Told.{Told}
 use Rattle.call_text.specs.inner.Answers.{FieldPut, Prints}
 
 pub put-field : {t e x y : List ℕ} {at r s : ℕ} → Put (9 ∷ []) at e x r → Put t r x y s → length t ≤ 20 → FieldPut t at e y s
@@ -28,50 +36,43 @@ printed : {w : List ℕ} {x : List ℕ} {r : ℕ} (t : List ℕ) → Put w 0 (re
 unfolding line_printed
 printed t p e = record { is = rw (p.leaves, front_length p, e); short = p.within }
 
-pub bare-printed : {x y : List ℕ} {tag a r : ℕ} → Put (tag ∷ []) 0 (replicate 256 0) x a → Put (10 ∷ []) a x y r →
-    Prints (line ((tag ∷ []) ∷ [])) (record { bytes = y; len = r })
-unfolding line further
-bare-printed p q = printed _ (put_then p q) refl
+pub fixed-printed : {x t : List ℕ} {r : ℕ} → Put t 0 (replicate 256 0) x r → Prints t (record { bytes = x; len = r })
+fixed-printed p = printed _ p refl
 
-one-text : (tag : ℕ) (d : List ℕ) → (tag ∷ []) ++ (9 ∷ d) ++ (10 ∷ []) ≡ line ((tag ∷ []) ∷ d ∷ [])
-unfolding line further
-one-text tag d = ap (λ (l : List ℕ). (tag ∷ 9 ∷ l) ++ (10 ∷ [])) (sym (append-nil d))
+-- the first i numbers, each after a tab
+unfoldable pub naturals : List ℕ → ℕ → List ℕ
+naturals xs i = further (map digits (take i xs))
 
-two-text : (tag : ℕ) (d f : List ℕ) → (tag ∷ []) ++ (9 ∷ d) ++ (9 ∷ f) ++ (10 ∷ []) ≡ line ((tag ∷ []) ∷ d ∷ f ∷ [])
-unfolding line further
-two-text tag d f = ap (λ (l : List ℕ). (tag ∷ 9 ∷ (d ++ (9 ∷ l))) ++ (10 ∷ [])) (sym (append-nil f))
+naturals_more : (xs : List ℕ) (i : ℕ) → i < length xs → naturals xs (i + 1) ≡ naturals xs i ++ (9 ∷ digits (get_or xs i 0))
+unfolding naturals further
+naturals_more xs i h = rw (add-one, take-suc xs i 0 h, map-append, further-append, append-nil)
 
-pub one-printed : {d x y z : List ℕ} {tag a b r : ℕ} → Put (tag ∷ []) 0 (replicate 256 0) x a → FieldPut d a x y b → Put (10 ∷ []) b y z r
-    → Prints (line ((tag ∷ []) ∷ d ∷ [])) (record { bytes = z; len = r })
-one-printed p q s = printed _ (put_then (put_then p q.puts) s) (one-text _ _)
+-- how far a line is put: its tag and its first i numbers
+pub record Begun (tag : ℕ) (xs : List ℕ) (i : ℕ) (x : List ℕ) (r : ℕ) : Type 0 where
+  pub puts : Put ((tag ∷ []) ++ naturals xs i) 0 (replicate 256 0) x r
+  pub bounded : r ≤ 1 + 21 * i
 
-pub two-printed : {d f x y u z : List ℕ} {tag a b c r : ℕ} → Put (tag ∷ []) 0 (replicate 256 0) x a → FieldPut d a x y b → FieldPut f b y u c →
-    Put (10 ∷ []) c u z r
-    → Prints (line ((tag ∷ []) ∷ d ∷ f ∷ [])) (record { bytes = z; len = r })
-two-printed p q t s = printed _ (put_then (put_then (put_then p q.puts) t.puts) s) (two-text _ _ _)
+pub line-begun : {tag : ℕ} (xs : List ℕ) {x : List ℕ} {r : ℕ} → Put (tag ∷ []) 0 (replicate 256 0) x r → Begun tag xs 0 x r
+unfolding naturals further
+line-begun xs p = record { puts = p; bounded = omega (arith, p.answer) }
 
-pub five-printed : {d f g h k x y u v w m z : List ℕ} {tag a b c e n o r : ℕ} → Put (tag ∷ []) 0 (replicate 256 0) x a → FieldPut d a x y b →
-    FieldPut f b y u c → FieldPut g c u v e → FieldPut h e v w n → FieldPut k n w m o → Put (10 ∷ []) o m z r →
-    Prints (line ((tag ∷ []) ∷ d ∷ f ∷ g ∷ h ∷ k ∷ [])) (record { bytes = z; len = r })
-unfolding line further
-five-printed p q t i j l s =
-    printed _ (put_then (put_then (put_then (put_then (put_then (put_then p q.puts) t.puts) i.puts) j.puts) l.puts) s)
-    (simp append_assoc)
+pub line-on : {tag : ℕ} (xs : List ℕ) (i : ℕ) {x y : List ℕ} {r s : ℕ} → i < length xs → Begun tag xs i x r → FieldPut (digits (get_or xs i 0)) r x y s →
+    Begun tag xs (i + 1) y s
+line-on {tag} xs i h b q = record {
+  puts = same-put (append_assoc (tag ∷ []) (naturals xs i) _ ∙ ap (λ (t : List ℕ). tag ∷ t) (sym (naturals_more xs i h))) (put_then b.puts q.puts);
+  bounded = omega (arith, b.bounded, q.bounded);
+}
 
--- four numbers, one by one
-pub four : (xs : List ℕ) → length xs ≡ 4 → xs ≡ get_or xs 0 0 ∷ get_or xs 1 0 ∷ get_or xs 2 0 ∷ get_or xs 3 0 ∷ []
-four [] e = absurd (omega arith)
-four (a ∷ []) e = absurd (omega arith)
-four (a ∷ b ∷ []) e = absurd (omega arith)
-four (a ∷ b ∷ c ∷ []) e = absurd (omega arith)
-four (a ∷ b ∷ c ∷ d ∷ []) e = refl
-four (a ∷ b ∷ c ∷ d ∷ x ∷ xs) e = absurd (omega arith)
+pub line-printed : {tag : ℕ} (xs : List ℕ) {x y : List ℕ} {r s : ℕ} → (i : ℕ) → i ≡ length xs → Begun tag xs i x r → Put (10 ∷ []) r x y s →
+    Prints (line ((tag ∷ []) ∷ map digits xs)) (record { bytes = y; len = s })
+unfolding line naturals
+line-printed xs i e b q = printed _ (put_then b.puts q) (rw (e, take_all (length xs) xs (omega arith), append_assoc))
 
-pub axis-printed : {d f x y u v z : List ℕ} {a b c e r : ℕ} (zs : List ℤ) → Put (65 ∷ []) 0 (replicate 256 0) x a → FieldPut d a x y b →
-    FieldPut f b y u c → Put (numbers zs) c u v e → Put (10 ∷ []) e v z r
-    → Prints (line ((65 ∷ []) ∷ d ∷ f ∷ map number zs)) (record { bytes = z; len = r })
+pub axis-printed : {f x y u v z : List ℕ} {a b c e r : ℕ} (entry : ℤ) (zs : List ℤ) → Put (65 ∷ []) 0 (replicate 256 0) x a →
+    Put (numbers (entry ∷ [])) a x y b → FieldPut f b y u c → Put (numbers zs) c u v e → Put (10 ∷ []) e v z r
+    → Prints (line ((65 ∷ []) ∷ number entry ∷ f ∷ map number zs)) (record { bytes = z; len = r })
 unfolding line further numbers
-axis-printed zs p q t w s = printed _ (put_then (put_then (put_then (put_then p q.puts) t.puts) w) s) (simp append_assoc)
+axis-printed entry zs p q t w s = printed _ (put_then (put_then (put_then (put_then p q) t.puts) w) s) (simp (append_assoc, append-nil))
 
 -- n numbers, each after a tab, are at most 21 bytes each.
 pub numbers-bound : (zs : List ℤ) → ((i : ℕ) → mag (get_or zs i (pos 0)) < 2 ^ 63) → (n : ℕ) → length (numbers (take n zs)) ≤ 21 * n
@@ -83,6 +84,25 @@ numbers-bound (z ∷ zs) f (suc n) =
     let one = length-number z (f 0) in
     let rest = numbers-bound zs (λ i. f (suc i)) n in
     simp length-append (omega arith)
+
+pub one-bound : (z : ℤ) → mag z < 2 ^ 63 → length (numbers (z ∷ [])) ≤ 21
+unfolding numbers further
+one-bound z h =
+    let e : length (numbers (z ∷ [])) ≡ suc (length (number z)) = ap (λ (l : List ℕ). suc (length l)) (append-nil (number z)) in
+    omega (arith, length-number z h)
+
+pub entry-end : (z : ℤ) → mag z < 2 ^ 63 → {tag : ℕ} {e x y : List ℕ} {a b : ℕ} → Put (tag ∷ []) 0 e x a → Put (numbers (z ∷ [])) a x y b → b ≤ 22
+entry-end z h p q = omega (arith, one-bound z h, p.answer, q.answer)
+
+-- a turn that was made, or not
+pub turned-printed : (made : Bool) (t : Told) {z : Printed} → t.answer ≡ Turned made → Prints (line ((84 ∷ []) ∷ digits (bool_byte made) ∷ [])) z →
+    Prints (shown t) z
+unfolding shown shown_as
+turned-printed made t {z} e p = subst (λ (a : Answer). Prints (shown_as a t) z) (sym e) (by made p)
+  where
+    by : (made : Bool) → Prints (line ((84 ∷ []) ∷ digits (bool_byte made) ∷ [])) z → Prints (shown_as (Turned made) t) z
+    by true p = p
+    by false p = p
 
 -- An element of an array of 64-bit signed numbers is one.
 pub element-size : (xs : List ℤ) (us : List Val) (i : ℕ) → shadow (each ℤ (SInt w64).own_val xs us) → mag (get_or xs i (pos 0)) < 2 ^ 63

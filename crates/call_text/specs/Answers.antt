@@ -4,6 +4,7 @@ use Rattle.ledger.specs.Bench.{NamedCall}
 use Rattle.record.specs.Record.{answer_to, record_after, row_to}
 use Rattle.record.specs.declared.Record.{Record}
 use Rattle.text.specs.Decimal.{digits, number}
+use Rattle.refusal.specs.Refusal.{number_of}
 use Rattle.record.specs.declared.query.Answer.{Answer}
 use Rattle.record.specs.declared.query.Answer.TheVariants.{Loaded, SamplesLoaded, Turned, Swept, TournamentSwept, Pair, NoPair, Axis, Refused}
 use Rattle.text.specs.Line.{line}
@@ -22,7 +23,7 @@ shown_as (TournamentSwept k) t = line ((79 ∷ []) ∷ digits k ∷ [])
 shown_as (Pair p q) t = line ((81 ∷ []) ∷ digits p ∷ digits q ∷ [])
 shown_as NoPair t = line ((81 ∷ []) ∷ (110 ∷ 111 ∷ 110 ∷ 101 ∷ []) ∷ [])
 shown_as (Axis entry error) t = line ((65 ∷ []) ∷ number entry ∷ digits error ∷ map number (take t.n t.row))
-shown_as (Refused k) t = line ((88 ∷ []) ∷ digits k ∷ map digits t.refused)
+shown_as (Refused refusal) t = line ((88 ∷ []) ∷ digits (number_of refusal) ∷ map digits t.refused)
 
 unfoldable pub shown : Told → List ℕ
 shown t = shown_as t.answer t

@@ -2,12 +2,14 @@
 ghost use Rattle.std.specs.Prelude.{[], ◌∷◌, map, ◌+◌, ◌≤◌, length, take};
 ghost use Rattle.text.specs.Decimal.{digits, number};
 ghost use Rattle.text.specs.Line.{line};
+ghost use Rattle.refusal.specs.Refusal.{number_of};
 ghost use Rattle.call_text.specs.Answers.{shown};
 ghost use Rattle.call_text.specs.inner.Answers.{FieldPut, Prints};
 
 use record::Answer;
+use refusal::Refusal;
 use text::line::put_numbers;
-use text::{put_byte, put_bytes, put_natural, put_number};
+use text::{put_byte, put_bytes, put_natural};
 
 const TAB: u8 = b'\t';
 
@@ -37,32 +39,26 @@ pub fn natural_field(buf: &mut [u8], at: usize, x: u64) -> usize
     put_natural(buf, start, x)
 }
 
-fn number_field(buf: &mut [u8], at: usize, z: i64) -> usize
-    requires { at + 21 ≤ length buf.old }
-    ensures { FieldPut (number z) at buf.old buf.new result }
-{
-    let start = put_byte(buf, at, TAB);
-    put_number(buf, start, z)
-}
-
-pub fn one_number(tag: u8, x: u64) -> Printed
-    ensures { Prints (line ((tag ∷ []) ∷ digits x ∷ [])) result }
+fn fixed(text: &[u8]) -> Printed
+    requires { length text.now ≤ 256 }
+    ensures { Prints text.now result }
 {
     let mut bytes = [0u8; 256];
-    let first = put_byte(&mut bytes, 0, tag);
-    let end = natural_field(&mut bytes, first, x);
-    let len = put_byte(&mut bytes, end, LINE_FEED);
+    let len = put_bytes(&mut bytes, 0, text);
     Printed { bytes, len }
 }
 
-fn two_numbers(tag: u8, x: u64, y: u64) -> Printed
-    ensures { Prints (line ((tag ∷ []) ∷ digits x ∷ digits y ∷ [])) result }
+// A tag and so many numbers that the line fits its bytes whatever they are.
+pub fn numbers_line(tag: u8, xs: &[u64]) -> Printed
+    requires { length xs.now ≤ 12 }
+    ensures { Prints (line ((tag ∷ []) ∷ map digits xs.now)) result }
 {
     let mut bytes = [0u8; 256];
-    let first = put_byte(&mut bytes, 0, tag);
-    let second = natural_field(&mut bytes, first, x);
-    let end = natural_field(&mut bytes, second, y);
-    let len = put_byte(&mut bytes, end, LINE_FEED);
+    let mut at = put_byte(&mut bytes, 0, tag);
+    for x in xs {
+        at = natural_field(&mut bytes, at, *x);
+    }
+    let len = put_byte(&mut bytes, at, LINE_FEED);
     Printed { bytes, len }
 }
 
@@ -73,88 +69,40 @@ fn axis_line(entry: i64, error: u64, row: [i64; 8], n: usize) -> Printed
 {
     let mut bytes = [0u8; 256];
     let first = put_byte(&mut bytes, 0, b'A');
-    let second = number_field(&mut bytes, first, entry);
+    let second = put_numbers(&mut bytes, first, &[entry], 1);
     let third = natural_field(&mut bytes, second, error);
     let end = put_numbers(&mut bytes, third, &row, n);
     let len = put_byte(&mut bytes, end, LINE_FEED);
     Printed { bytes, len }
 }
 
-fn loaded_line() -> Printed
-    ensures { Prints (line ((76 ∷ []) ∷ [])) result }
-{
-    let mut bytes = [0u8; 256];
-    let end = put_byte(&mut bytes, 0, b'L');
-    let len = put_byte(&mut bytes, end, LINE_FEED);
-    Printed { bytes, len }
-}
-
-fn none_line() -> Printed
-    ensures { Prints (line ((81 ∷ []) ∷ (110 ∷ 111 ∷ 110 ∷ 101 ∷ []) ∷ [])) result }
-{
-    let mut bytes = [0u8; 256];
-    let first = put_byte(&mut bytes, 0, b'Q');
-    let field = put_byte(&mut bytes, first, TAB);
-    let end = put_bytes(&mut bytes, field, b"none");
-    let len = put_byte(&mut bytes, end, LINE_FEED);
-    Printed { bytes, len }
-}
-
-fn five_numbers(tag: u8, x: u64, y: u64, z: u64, u: u64, v: u64) -> Printed
-    ensures { Prints (line ((tag ∷ []) ∷ digits x ∷ digits y ∷ digits z ∷ digits u ∷ digits v ∷ [])) result }
-{
-    let mut bytes = [0u8; 256];
-    let first = put_byte(&mut bytes, 0, tag);
-    let second = natural_field(&mut bytes, first, x);
-    let third = natural_field(&mut bytes, second, y);
-    let fourth = natural_field(&mut bytes, third, z);
-    let fifth = natural_field(&mut bytes, fourth, u);
-    let end = natural_field(&mut bytes, fifth, v);
-    let len = put_byte(&mut bytes, end, LINE_FEED);
-    Printed { bytes, len }
-}
-
 // `X`, the refusal's number and the four counts.
-fn refused_line(number: u32, counts: [u32; 4]) -> Printed
-    ensures { Prints (line ((88 ∷ []) ∷ digits number ∷ map digits counts)) result }
+fn refused_line(refusal: Refusal, counts: [u32; 4]) -> Printed
+    ensures { Prints (line ((88 ∷ []) ∷ digits (number_of refusal) ∷ map digits counts)) result }
 {
-    let x = number as u64;
-    let y = counts[0] as u64;
-    let z = counts[1] as u64;
-    let u = counts[2] as u64;
-    let v = counts[3] as u64;
-    five_numbers(b'X', x, y, z, u, v)
+    let [x, y, z, u] = counts.map(u64::from);
+    numbers_line(b'X', &[u64::from(refusal.number()), x, y, z, u])
 }
 
 pub fn nothing() -> Printed
     ensures { Prints [] result }
 {
-    let bytes = [0u8; 256];
-    Printed { bytes, len: 0 }
+    fixed(b"")
 }
 
 pub fn answer_line(told: Told) -> Printed
     requires { told.n ≤ 8 }
     ensures { Prints (shown told) result }
 {
-    let answer = told.answer;
-    let row = told.row;
-    let refused = told.refused;
-    match answer {
-        Answer::Loaded => loaded_line(),
-        Answer::SamplesLoaded(e) => one_number(b'M', e as u64),
-        Answer::Turned(made) => {
-            if made {
-                one_number(b'T', 1)
-            } else {
-                one_number(b'T', 0)
-            }
-        }
-        Answer::Swept(turns) => one_number(b'W', turns),
-        Answer::TournamentSwept(turns) => one_number(b'O', turns),
-        Answer::Pair { p, q } => two_numbers(b'Q', p as u64, q as u64),
-        Answer::NoPair => none_line(),
-        Answer::Axis { entry, error } => axis_line(entry, error, row, told.n),
-        Answer::Refused(number) => refused_line(number, refused),
+    match told.answer {
+        Answer::Loaded => fixed(b"L\n"),
+        Answer::SamplesLoaded(e) => numbers_line(b'M', &[u64::from(e)]),
+        Answer::Turned(made) => numbers_line(b'T', &[u64::from(made)]),
+        Answer::Swept(turns) => numbers_line(b'W', &[turns]),
+        Answer::TournamentSwept(turns) => numbers_line(b'O', &[turns]),
+        Answer::Pair { p, q } => numbers_line(b'Q', &[p as u64, q as u64]),
+        Answer::NoPair => fixed(b"Q\tnone\n"),
+        Answer::Axis { entry, error } => axis_line(entry, error, told.row, told.n),
+        Answer::Refused(refusal) => refused_line(refusal, told.refused),
     }
 }

@@ -5,6 +5,7 @@ use Rattle.ledger.specs.Bench.{by}
 use Rattle.ledger.specs.Call.{axis, load_samples, loose_pair, sweep, tournament_sweep, turn}
 use Rattle.record.specs.declared.query.Answer.{Answer}
 use Rattle.record.specs.declared.query.Answer.TheVariants.{Loaded, SamplesLoaded, Turned, Swept, TournamentSwept, Pair, NoPair, Axis, Refused}
+use Rattle.refusal.specs.Refusal.{numbered}
 use Rattle.text.specs.Ascii.{ascii}
 use Rattle.text.specs.Decimal.{digits, digits_by, number}
 use Rattle.text.specs.Numeral.{leading_zero, value_from}
@@ -34,7 +35,7 @@ lines : (shown (told Loaded) ≡ ascii "L\n") × (shown (told (SamplesLoaded 25)
     (shown (told (TournamentSwept 27)) ≡ ascii "O\t27\n") × (shown (told (Pair 3 7)) ≡ ascii "Q\t3\t7\n") ×
     (shown (told NoPair) ≡ ascii "Q\tnone\n") ×
     (shown (told (Axis (neg_ℤ (pos 26624)) 7172)) ≡ ascii "A\t-26624\t7172\t644245094\t-858993459\n") ×
-    (shown (told (Refused 10)) ≡ ascii "X\t10\t3\t0\t4294967295\t1\n")
+    (shown (told (Refused (numbered 10))) ≡ ascii "X\t10\t3\t0\t4294967295\t1\n")
 unfolding ascii shown shown_as line further number digits digits_by
 lines = (refl, refl, refl, refl, refl, refl, refl, refl, refl, refl)
 
