@@ -1,8 +1,7 @@
 -- Document 01, 'Bench cards': the twelve cards, one statement about the definitions. Channels count from 0 here.
-use Rattle.std.specs.Prelude.{ℕ, ◌*◌, ◌<◌, ◌≤◌, ◌≡◌, true, List, [], ◌∷◌, ◌++◌, ℤ, pos, neg_ℤ, ◌-ℤ◌, replicate, take}
-use Rattle.choice.specs.Choice.{choose, level_of, sign_of}
+use Rattle.std.specs.Prelude.{ℕ, ◌*◌, ◌<◌, ◌≤◌, ◌≡◌, true, List, [], ◌∷◌, ◌++◌, ℤ, pos, neg_ℤ, ◌-ℤ◌, Some, None, replicate, take}
+use Rattle.choice.specs.Choice.{choose, level_of, sign_of, turn_of}
 use Rattle.choice.specs.Threshold.{threshold}
-use Rattle.choice.specs.declared.Choice.TheVariants.{NoTurn, Turn}
 use Rattle.integer.specs.Matrix.{matrix_of}
 use Rattle.job.specs.Reply.{printed_of}
 use Rattle.limits.specs.Limits.{tolerance_limit}
@@ -69,14 +68,14 @@ pub record BenchCards : Type 0 where
   -- 3. a_pp = a_qq = 2, a_pq = 1: l = 1, f = −1.
   pub card3 : (level_of (choose (pos 2) (pos 2) (pos 1)) ≡ 1) × (sign_of (choose (pos 2) (pos 2) (pos 1)) ≡ neg 1)
   -- 4. a_pq = 0: no turn.
-  pub card4 : (app aqq : ℤ) → choose app aqq (pos 0) ≡ NoTurn
+  pub card4 : (app aqq : ℤ) → choose app aqq (pos 0) ≡ None
   -- 5. a_pp = 0, a_qq = 1,073,741,824, a_pq = 1024: no turn (`still` with t = 0). Loaded, these are 0, 1,048,576 and 1.
-  pub card5 : (choose (pos 0) (pos 1_073_741_824) (pos 1024) ≡ NoTurn) ×
+  pub card5 : (choose (pos 0) (pos 1_073_741_824) (pos 1024) ≡ None) ×
       ((limit : ℕ) → 1 ≤ limit → (run_of 2 (two_by_two (pos 0) (pos 1) (pos 1_048_576)) limit 0).outcome ≡ Still)
   -- 6. a_qq − a_pp = 13: a_pq = 42 gives l = 2, 43 gives l = 1.
   pub card6 : (app aqq : ℤ) → aqq -ℤ app ≡ pos 13 → (level_of (choose app aqq (pos 42)) ≡ 2) × (level_of (choose app aqq (pos 43)) ≡ 1)
   -- 7. Block 50, 25, 50 turns to 26, −7, 74. By the turn that is chosen for it, l = 1 and f = −1.
-  pub card7 : (choose (pos 50) (pos 50) (pos 25) ≡ Turn 1 true) ×
+  pub card7 : (choose (pos 50) (pos 50) (pos 25) ≡ Some (turn_of 1 true)) ×
       (turn_matrix 2 (rotation_of 1 true) 0 1 (block (pos 50) (pos 25) (pos 50)) ≡ block (pos 26) (neg 7) (pos 74))
   -- 8. The three samples above: S is 50, 25, 25, 50; e = 0.
   pub card8 : (scatter 2 three_samples ≡ pos 50 ∷ pos 25 ∷ pos 25 ∷ pos 50 ∷ []) × ((table_of 2 three_samples).e ≡ 0)
