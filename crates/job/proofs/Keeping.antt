@@ -1,14 +1,11 @@
--- What `sets` and `samples_at` come to at a sample, case by case.
+-- What `samples_at` comes to at a sample, case by case.
 use Prim.Native.Nat.{ℕ, suc, ◌+◌, ◌-◌, ◌*◌, ◌<◌, ◌≤◌}
 use mathlib.Core.Path.{◌≡◌, refl, sym, ap, ◌∙◌}
 use mathlib.Core.List.{List}
 use mathlib.Core.Bool.{true, false}
 use native.Mathlib.Nat.{mul-le-mul_right}
-use native.Mathlib.Numerals.{add-one}
 use borrow.Author.Tests.{lt-ltb, le-ltb}
 use native.Mathlib.Omega.{arith}
-use lib.ListN.{length, get_or, set}
-use lib.Seq.{slice, slice-cons, slice_empty, sets}
 use Rattle.job.specs.inner.LineScan.{line_at, sample_within}
 use Rattle.job.specs.declared.sample.Line.{Line}
 use Rattle.std.specs.Prelude.{Option, None, Some, Result}
@@ -16,16 +13,6 @@ use Rattle.refusal.specs.declared.Refusal.TheVariants.{OutOfRange, SampleCount}
 use Rattle.job.specs.inner.Scan.{refused_at, finished_at, kept, sample_of, samples_at}
 use Rattle.job.specs.declared.Job.{Job}
 use Rattle.job.specs.declared.RefusedLine.{RefusedLine}
-
--- r is the list with all the counts of a sample kept, where those before number i are in l.
-module _ (r l xs : List ℕ) (to i n : ℕ) (q : r ≡ sets l to (slice i (n + 1) xs)) where
-  pub keep-end : n < i → i ≤ n + 1 → l ≡ r
-  keep-end h h' =
-      let e : i ≡ n + 1 = omega arith in
-      sym (q ∙ rw (e, slice_empty))
-
-  pub keep-more : length xs ≡ 9 → n ≤ 8 → i ≤ n → r ≡ sets (set l to (get_or xs i 0)) (to + 1) (slice (i + 1) (n + 1) xs)
-  keep-more k h h' = q ∙ rw (slice-cons i (n + 1) xs 0 (omega arith) (omega arith), add-one i, add-one to)
 
 pub kept-within : (k n : ℕ) → k < 256 → n ≤ 8 → k * n + n ≤ 2048
 kept-within k n h g =

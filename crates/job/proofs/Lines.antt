@@ -1,39 +1,15 @@
--- What `numbers_at` and `all_within` come to, case by case.
+-- What `numbers_at` comes to, case by case.
 use Prim.Native.Nat.{ℕ, suc, ◌+◌, ◌-◌, ◌<◌, ◌≤◌}
 use mathlib.Core.Path.{◌≡◌, refl, sym, ap, ◌∙◌}
-use mathlib.Core.Bool.{Bool, true, false}
-use mathlib.Core.List.{List, ◌∷◌}
-use native.Mathlib.Numerals.{add-one}
+use mathlib.Core.List.{List}
 use native.Mathlib.Omega.{arith}
-use lib.ListN.{length, get_or, set}
-use lib.Seq.{slice, slice-cons, slice_empty}
-use Rattle.integer.specs.Within.{within, all_within}
+use lib.ListN.{set}
 use Rattle.job.specs.inner.FieldScan.{field_at}
 use Rattle.job.specs.declared.field.Field.{Field}
 use Rattle.job.specs.declared.field.Field.TheVariants.{Inner, Last, Bad}
 use Rattle.std.specs.Prelude.{Option, None, Some}
 use Rattle.job.specs.inner.LineScan.{last_number, inner_number, numbers_at}
 use Rattle.job.specs.declared.sample.Line.{Line}
-
--- u is the test of all the counts of a sample, which has come to number i.
-module _ (u : Bool) (xs : List ℕ) (i n low high : ℕ) (q : u ≡ all_within low high (slice i (n + 1) xs)) (l : length xs ≡ 9) (k : n ≤ 8) where
-  pub all_end : n < i → i ≤ n + 1 → true ≡ u
-  unfolding all_within
-  all_end h h' =
-      let e : i ≡ n + 1 = omega arith in
-      sym (q ∙ rw (e, slice_empty))
-
-  module _ (h : i ≤ n) where
-    first : slice i (n + 1) xs ≡ get_or xs i 0 ∷ slice (suc i) (n + 1) xs
-    first = slice-cons i (n + 1) xs 0 (omega arith) (omega arith)
-
-    pub all-over : within low high (get_or xs i 0) ≡ false → false ≡ u
-    unfolding all_within
-    all-over o = sym (q ∙ rw first (simp o))
-
-    pub all_more : within low high (get_or xs i 0) ≡ true → u ≡ all_within low high (slice (i + 1) (n + 1) xs)
-    unfolding all_within
-    all_more o = q ∙ rw (first, add-one i) (simp o)
 
 -- A field after which no tab stands, and one after which no line feed does.
 abbrev pub IsNotInner : Field → Type 0

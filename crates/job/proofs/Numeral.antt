@@ -6,7 +6,7 @@ use mathlib.Core.List.{List, [], ◌∷◌}
 use mathlib.Core.Option.{Option, none, some}
 use native.Mathlib.Nat.{zero-add, pow-le-pow_right}
 use native.Mathlib.Omega.{arith}
-use borrow.Author.Tests.{le-ltb, lt-ltb, eqb-true, eqb-false}
+use borrow.Author.Tests.{le-leb, lt-leb, lt-ltb, eqb-true, eqb-false}
 use lib.Dec.{leb, ltb, eqb, leb-zero, leb-suc-zero, leb-suc-suc, lit<}
 use lib.ListN.{length}
 use Rattle.text.specs.Numeral.{leading_zero, value_from}
@@ -26,11 +26,11 @@ numeral (b ∷ bs) = cond (is_digit b) (more (b - 48) bs) none
 
 may : (v b : ℕ) → 1 ≤ v → v ≤ 999999 → may_follow v b ≡ is_digit b
 unfolding may_follow
-may v b h g = simp (le-ltb v 1 h, le-ltb 999999 v g)
+may v b h g = simp (lt-ltb 0 v h, le-leb v 999999 g)
 
 may-not : (v b : ℕ) → 1 ≤ v → 999999 < v → may_follow v b ≡ false
 unfolding may_follow
-may-not v b h g = simp (le-ltb v 1 h, lt-ltb 999999 v g)
+may-not v b h g = simp (lt-ltb 0 v h, lt-leb v 999999 g)
 
 -- A first digit, by whether it is one: t.
 digit-step : (t : Bool) (x y : Option ℕ) (p q z : Bool) → (t ≡ true → x ≡ cond (p && q && z) y none) →

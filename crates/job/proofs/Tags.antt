@@ -1,14 +1,13 @@
 -- What `tagged_at` comes to, case by case.
-use Prim.Native.Nat.{ℕ, suc, ◌+◌, ◌<◌, ◌≤◌}
-use mathlib.Core.Path.{◌≡◌, refl, sym, ◌∙◌}
+use Prim.Native.Nat.{ℕ, ◌+◌, ◌-◌, ◌<◌, ◌≤◌}
+use mathlib.Core.Path.{◌≡◌, refl, sym, ap, ◌∙◌}
 use mathlib.Core.Bool.{true, false, cond, false≢true}
 use mathlib.Core.List.{List, [], ◌∷◌}
-use native.Mathlib.Numerals.{add-one}
 use native.Mathlib.Omega.{arith}
 use borrow.Author.Tests.{eq-eqb, ne_eqb}
 use lib.Dec.{eqb}
-use lib.ListN.{length, get_or, drop, length-drop}
-use lib.Seq.{drop-cons}
+use lib.ListN.{length, get_or, take, drop, length-drop}
+use Rattle.text.specs.laws.Put.{rest_all}
 use Rattle.job.specs.inner.FieldScan.{tagged_from, tagged_at}
 
 short : (tag : ℕ) (bs : List ℕ) → length bs ≤ 1 → false ≡ tagged_from tag bs
@@ -23,24 +22,34 @@ room tag [] e = absurd (false≢true e)
 room tag (b ∷ []) e = absurd (false≢true e)
 room tag (b ∷ d ∷ bs) e = omega arith
 
-module _ (text : List ℕ) (at tag : ℕ) where
-  pub tagged-short : length text ≤ at + 1 → false ≡ tagged_at text at tag
+two : (tag : ℕ) (bs : List ℕ) → 2 ≤ length bs → tagged_from tag bs ≡ cond (eqb (get_or bs 0 0) tag) (eqb (get_or bs 1 0) 9) false
+unfolding tagged_from
+two tag [] h = absurd (omega arith)
+two tag (b ∷ []) h = absurd (omega arith)
+two tag (b ∷ d ∷ bs) h = refl
+
+pub tagged-room : (text : List ℕ) (at tag : ℕ) → tagged_at text at tag ≡ true → at + 1 < length text
+unfolding tagged_at
+tagged-room text at tag e = omega (arith, simp length-drop at (room tag (drop at text) e))
+
+pub tagged-beyond : (text : List ℕ) (at tag : ℕ) → length text ≤ at → false ≡ tagged_at text at tag
+unfolding tagged_at
+tagged-beyond text at tag h = short tag (drop at text) (simp length-drop (omega arith))
+
+-- The text from the place on, as a slice of it.
+module _ (text : List ℕ) (at tag : ℕ) (rest : List ℕ) (r : rest ≡ take (length text - at) (drop at text)) where
+  from : rest ≡ drop at text
+  from = r ∙ rest_all at text
+
+  pub tagged-short : length rest < 2 → false ≡ tagged_at text at tag
   unfolding tagged_at
-  tagged-short h = short tag (drop at text) (simp length-drop (omega arith))
+  tagged-short h = short tag rest (omega arith) ∙ ap (tagged_from tag) from
 
-  tagged-two : at + 1 < length text → tagged_at text at tag ≡ cond (eqb (get_or text at 0) tag) (eqb (get_or text (at + 1) 0) 9) false
-  unfolding tagged_at tagged_from
-  tagged-two h =
-      let h₀ : at < length text = omega arith in
-      let h₁ : suc at < length text = omega arith in
-      simp (drop-cons text at 0 h₀, drop-cons text (suc at) 0 h₁, add-one)
+  module _ (h : 2 ≤ length rest) where
+    pub tagged-same : get_or rest 0 0 ≡ tag → eqb (get_or rest 1 0) 9 ≡ tagged_at text at tag
+    unfolding tagged_at
+    tagged-same e = sym (ap (tagged_from tag) (sym from) ∙ two tag rest h ∙ simp (eq-eqb _ _ e))
 
-  pub tagged-room : tagged_at text at tag ≡ true → at + 1 < length text
-  unfolding tagged_at
-  tagged-room e = omega (arith, simp length-drop at (room tag (drop at text) e))
-
-  pub tagged-same : at + 1 < length text → get_or text at 0 ≡ tag → eqb (get_or text (at + 1) 0) 9 ≡ tagged_at text at tag
-  tagged-same h e = sym (tagged-two h ∙ simp (eq-eqb _ _ e))
-
-  pub tagged-other : at + 1 < length text → (get_or text at 0 ≡ tag → ⊥) → false ≡ tagged_at text at tag
-  tagged-other h e = sym (tagged-two h ∙ simp (ne_eqb _ _ e))
+    pub tagged-other : (get_or rest 0 0 ≡ tag → ⊥) → false ≡ tagged_at text at tag
+    unfolding tagged_at
+    tagged-other e = sym (ap (tagged_from tag) (sym from) ∙ two tag rest h ∙ simp (ne_eqb _ _ e))

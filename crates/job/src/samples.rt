@@ -12,17 +12,11 @@ use crate::{Job, RefusedLine};
 use refusal::Refusal;
 
 // The n counts of a sample are kept from a place on.
-fn keep(counts: &mut [u32; 2048], numbers: [u32; 9], from: usize, n: usize)
+fn keep(counts: &mut [u32; 2048], numbers: &[u32; 9], from: usize, n: usize)
     requires { (n ≤ 8) × (from + n ≤ 2048) }
-    ensures { counts.new ≡ sets counts.old from (slice 1 (n + 1) numbers) }
+    ensures { counts.new ≡ sets counts.old from (slice 1 (n + 1) numbers.now) }
 {
-    let mut to = from;
-    let mut i = 1;
-    while i <= n {
-        counts[to] = numbers[i];
-        to += 1;
-        i += 1;
-    }
+    counts[from..from + n].copy_from_slice(&numbers[1..=n]);
 }
 
 // The line after the samples of a job.
@@ -30,12 +24,11 @@ fn finish(text: &[u8], at: usize, job: Job) -> Result<Job, RefusedLine>
     requires { job.k ≤ most_samples }
     ensures { result ≡ finished_at text.now at job }
 {
-    let k = job.k;
-    match last_line(text, at, k) {
+    match last_line(text, at, job.k) {
         Ok(()) => Ok(job),
         Err(refusal) => Err(RefusedLine {
             refusal,
-            line: k + 2,
+            line: job.k + 2,
         }),
     }
 }
@@ -50,7 +43,7 @@ pub(crate) fn samples(text: &[u8], from: usize, start: Job) -> Result<Job, Refus
     while let Some(line) = sample_line(text, at, job.n) {
         let n = job.n;
         let k = job.k;
-        if !sample_within(line.numbers, n) {
+        if !sample_within(&line.numbers, n) {
             return Err(RefusedLine {
                 refusal: Refusal::OutOfRange,
                 line: k + 2,
@@ -63,7 +56,7 @@ pub(crate) fn samples(text: &[u8], from: usize, start: Job) -> Result<Job, Refus
             });
         }
         job.dilutions[k] = line.numbers[0];
-        keep(&mut job.counts, line.numbers, k * n, n);
+        keep(&mut job.counts, &line.numbers, k * n, n);
         job.k = k + 1;
         at = line.next;
     }

@@ -1,12 +1,12 @@
 -- A field as the reader goes through it, from a place of the text on.
-use Rattle.std.specs.Prelude.{ℕ, ◌+◌, ◌-◌, ◌*◌, Bool, false, cond, List, [], ◌∷◌, ltb, eqb, drop}
+use Rattle.std.specs.Prelude.{ℕ, ◌+◌, ◌-◌, ◌*◌, Bool, false, cond, ◌&&◌, List, [], ◌∷◌, leb, ltb, eqb, drop}
 use Rattle.text.specs.inner.Numeral.{is_digit}
 use Rattle.job.specs.declared.field.Field.{Field}
 use Rattle.job.specs.declared.field.Field.TheVariants.{Inner, Last, Bad}
 
 -- Another digit may follow a value from 1 to 999,999: so 7 digits at most, and none after a leading zero.
 unfoldable pub may_follow : ℕ → ℕ → Bool
-may_follow value b = cond (ltb value 1) false (cond (ltb 999999 value) false (is_digit b))
+may_follow value b = ltb 0 value && leb value 999999 && is_digit b
 
 unfoldable pub digits_onward : ℕ → ℕ → List ℕ → Field
 digits_onward value at [] = Bad
