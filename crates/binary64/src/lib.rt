@@ -1,7 +1,7 @@
 // IEEE 754 binary64 numbers: a kept entry or an error times 2^e / 1024, and the bytes of a number.
 #![tactic(auto)]
 
-ghost use Rattle.std.specs.Prelude.{◌+◌, ◌%◌, ◌<◌, ◌≤◌, ◌^◌, ◌≡◌, not, T, pos, nat_abs, length};
+ghost use Rattle.std.specs.Prelude.{◌+◌, ◌<◌, ◌≤◌, ◌^◌, ◌≡◌, not, T, pos, nat_abs, length};
 ghost use Rattle.std.specs.Float.Ieee.{is_nan};
 ghost use Rattle.limits.specs.Limits.{most_shift};
 ghost use Rattle.binary64.specs.Binary64.{binary64_of, bytes_of};
@@ -23,35 +23,12 @@ pub fn scaled(z: i64, e: u32) -> f64
     z as f64 * factor(e)
 }
 
-fn low_byte(x: u64) -> u8
-    ensures { result ≡ x % 256 }
-{
-    (x % 256) as u8
-}
-
 // The eight bytes of x, least significant first. A NaN has no bits of its own.
 pub fn bytes_of(x: f64) -> [u8; 8]
     requires { T (not (is_nan x)) }
     ensures { result ≡ bytes_of x }
 {
-    let r0 = f64::to_bits(x);
-    let r1 = r0 / 256;
-    let r2 = r1 / 256;
-    let r3 = r2 / 256;
-    let r4 = r3 / 256;
-    let r5 = r4 / 256;
-    let r6 = r5 / 256;
-    let r7 = r6 / 256;
-    [
-        low_byte(r0),
-        low_byte(r1),
-        low_byte(r2),
-        low_byte(r3),
-        low_byte(r4),
-        low_byte(r5),
-        low_byte(r6),
-        low_byte(r7),
-    ]
+    x.to_bits().to_le_bytes()
 }
 
 // The eight bytes of x at the place; the answer is the place after them.
