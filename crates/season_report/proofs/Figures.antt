@@ -90,7 +90,8 @@ module _ (jobs : List JobEnd) (job : JobEnd) where
         rw (no-larger-stays (largest_error jobs) (first_job jobs) (axis_of jobs) (largest_of (y ∷ ys)) h most) (no-larger-more h most)
 
   -- the lowest axis, by the job that leads
-  axis-by : (t : Bool) → Placed jobs job t → axis_of (jobs ++ job ∷ []) ≡ cond t (lowest_axis (largest_of (errors_of job)) (errors_of job)) (axis_of jobs)
+  axis-by : (t : Bool) → Placed jobs job t →
+      axis_of (jobs ++ job ∷ []) ≡ cond t (lowest_axis (largest_of (errors_of job)) (errors_of job)) (axis_of jobs)
   axis-by true p = ap₂ lowest_axis p.error p.errors
   axis-by false p = ap₂ lowest_axis p.error p.errors
 

@@ -37,21 +37,17 @@ fn with_error(largest: Option<LargestError>, found: LargestError) -> Option<Larg
 }
 
 // The largest error so far, and those of axes 1 to n of a job.
-fn with_errors(largest: Option<LargestError>, job: u64, r: Record) -> Option<LargestError>
+fn with_errors(mut largest: Option<LargestError>, job: u64, r: Record) -> Option<LargestError>
     requires { Kept r }
     ensures { result ≡ larger largest job (record_errors r) }
 {
-    let mut largest = largest;
     for i in 1..=r.channels() {
-        let error = error_at(r, i);
-        largest = with_error(
-            largest,
-            LargestError {
-                error,
-                job,
-                axis: i as u64,
-            },
-        );
+        let found = LargestError {
+            error: error_at(r, i),
+            job,
+            axis: i as u64,
+        };
+        largest = with_error(largest, found);
     }
     largest
 }

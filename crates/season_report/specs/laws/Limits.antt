@@ -1,5 +1,6 @@
 -- No figure wraps: the limits of a season hold with one job more, and r_i and m of a kept record are small.
-use Rattle.std.specs.Prelude.{ℕ, zero, suc, ◌+◌, ◌-◌, ◌^◌, ◌<◌, ◌≤◌, refl, Bool, true, false, cond, List, [], ◌∷◌, eqb, get_or, length, Option, None, Some, IfSome}
+use Rattle.std.specs.Prelude.{ℕ, zero, suc, ◌+◌, ◌-◌, ◌^◌, ◌<◌, ◌≤◌, refl, Bool, true, false, cond, List, [], ◌∷◌, eqb, get_or, length}
+use Rattle.std.specs.Prelude.{Option, None, Some, IfSome}
 use Rattle.std.proofs.Math.Decide.{dec_lt}
 use Rattle.std.proofs.Math.Nat.{max-le}
 use Rattle.std.proofs.Common.{arith}
@@ -57,8 +58,8 @@ largest-stays : (l : Option LargestError) (jobs : ℕ) → IfSome l (LargestLimi
 largest-stays None jobs h = tt
 largest-stays (Some x) jobs h = record { error = h.error; job = omega (arith, h.job); axis = h.axis }
 
-largest-more : (l : Option LargestError) (jobs : ℕ) (xs : List ℕ) → IfSome l (LargestLimits jobs) → largest_of xs < 2 ^ 63 → length xs ≤ most_channels →
-    IfSome (larger l (jobs + 1) xs) (LargestLimits (jobs + 1))
+largest-more : (l : Option LargestError) (jobs : ℕ) (xs : List ℕ) → IfSome l (LargestLimits jobs) → largest_of xs < 2 ^ 63 →
+    length xs ≤ most_channels → IfSome (larger l (jobs + 1) xs) (LargestLimits (jobs + 1))
 unfolding larger
 largest-more l jobs [] h small few = largest-stays l jobs h
 largest-more l jobs (x ∷ xs) h small few = by (overtakes l (largest_of (x ∷ xs)))

@@ -13,7 +13,7 @@ pub loop-i-preserved : goal.loop-i-preserved
 loop-i-preserved c =
     let e : c.loop-i.i + 1 - 1 ≡ c.loop-i.i = omega arith in (
       omega (arith, c.loop-i-test.true),
-      rw e (errors-more _ _ _ _ c.loop-i.auto.i c.loop-i.invariant.1 c.error_at-error.ensures c.with_error-largest.ensures),
+      rw e (errors-more _ _ _ _ c.loop-i.auto.i c.loop-i.invariant.1 c.error_at.ensures c.with_error-largest.ensures),
     )
 
 pub returns : goal.returns
@@ -25,5 +25,5 @@ returns c =
 pub returns-2 : goal.returns-2
 returns-2 c =
     let e : c.loop-i.i ≡ c.args.r.solver.n = omega (arith, c.loop-i-test.true, c.channels-i-end.ensures) in
-    errors-more _ _ _ _ c.loop-i.auto.i c.loop-i.invariant.1 c.error_at-error.ensures c.with_error-largest.ensures
+    errors-more _ _ _ _ c.loop-i.auto.i c.loop-i.invariant.1 c.error_at.ensures c.with_error-largest.ensures
     ∙ rw e (ap (larger c.args.largest c.args.job) (errors-all c.args.r))

@@ -10,7 +10,8 @@ pub returns-then-end-start : goal.returns-then-end-start
 returns-then-end-start c =
     let p = c.loop-end in
     elim c.then-end-start.branch [
-      | then-end-start-via-then-end-start w ↦ low_end p.start c.args.size c.args.ends.now p.end-index c.loop-end-test.true w.if-end-start.true ∙ sym p.invariant
+      | then-end-start-via-then-end-start w ↦
+          low_end p.start c.args.size c.args.ends.now p.end-index c.loop-end-test.true w.if-end-start.true ∙ sym p.invariant
       | then-end-start-via-else-end-start+then-size-end w ↦
           high_end p.start c.args.size c.args.ends.now p.end-index c.loop-end-test.true w.if-end-start.false w.if-size-end.true ∙ sym p.invariant
     ]
