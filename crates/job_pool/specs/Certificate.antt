@@ -1,12 +1,11 @@
 -- What pooled bytes mean: they are what `axes` prints for the joined text, so its certificate is theirs. 'So pooled axes carry the certified error.'
 -- `proofs/Certificate` has the proofs.
-use Rattle.std.specs.Prelude.{ℕ, ◌≡◌, List, take}
+use Rattle.std.specs.Prelude.{ℕ, ◌≡◌, List, Ok, take}
 use Rattle.job.specs.Job.{Job, accepted, job_of}
 use Rattle.job.specs.Reply.{printed_of}
 use Rattle.job_text.specs.JobText.{job_text_of}
 use Rattle.report.specs.Certificate.{JobCertificate}
 use Rattle.report.specs.Report.{report_of}
-use Rattle.text.specs.declared.written.Written.TheVariants.{Length}
 use Rattle.job_pool.specs.Pooled.{joined_text, pooled_job}
 use Rattle.job_pool.specs.Printed.{pool_printed}
 use Rattle.job_pool.specs.Refusal.{pool_refusal}
@@ -22,7 +21,7 @@ pub record PoolCertificate (a b : Job) (bytes : List ℕ) : Type 0 where
 
 -- whatever was handed over, where the answer is a length: the bytes of the lent buffer
 abbrev pub WrittenIsCertified : Type 0
-WrittenIsCertified = (a b : Job) (entry exit : List ℕ) (k : ℕ) → WritesPooled a b entry exit (Length k) → PoolCertificate a b (take k exit)
+WrittenIsCertified = (a b : Job) (entry exit : List ℕ) (k : ℕ) → WritesPooled a b entry exit (Ok k) → PoolCertificate a b (take k exit)
 
 -- two texts that are accepted, and can be pooled: each is the text of its job, so its S lines are those that are joined; and the bytes that the
 -- program prints

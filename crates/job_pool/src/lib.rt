@@ -2,8 +2,8 @@
 #![tactic(auto)]
 
 pub mod arguments;
+mod check;
 mod line;
-mod refusal;
 pub mod texts;
 
 ghost use Rattle.std.specs.Prelude.{◌≡◌};
@@ -16,10 +16,10 @@ ghost use Rattle.job_text.specs.JobText.{job_with};
 ghost use Rattle.job_pool.specs.Writer.{WritesPooled};
 ghost use Rattle.job_pool.specs.inner.Readings.{BothReadings};
 
-use refusal::pool_refusal;
+use check::check_pool;
+use refusal::Refusal;
 use report::report_table;
 use scatter::table::Table;
-use text::Written;
 
 // By the numbers of samples, channel sums and cross sums of both.
 fn pooled_table(
@@ -51,16 +51,13 @@ pub fn write_pooled(
     dilutions2: &[u32],
     counts2: &[u32],
     buf: &mut [u8],
-) -> Written
+) -> Result<usize, Refusal>
     ensures { WritesPooled (job_with n1 limit1 tolerance1 dilutions1.now counts1.now)
         (job_with n2 limit2 tolerance2 dilutions2.now counts2.now) buf.old buf.new result }
 {
-    let number = pool_refusal(
+    check_pool(
         n1, limit1, tolerance1, dilutions1, counts1, n2, limit2, tolerance2, dilutions2, counts2,
-    );
-    if number != 0 {
-        return Written::Refused(number);
-    }
+    )?;
     let table = pooled_table(n1, dilutions1, counts1, dilutions2, counts2);
     let k = dilutions1.len() + dilutions2.len();
     report_table(n1, k, limit1, tolerance1, table, buf)

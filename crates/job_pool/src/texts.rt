@@ -10,7 +10,7 @@ ghost use Rattle.job_pool.specs.Writer.{WritesPooled};
 use crate::line::put_refused_job;
 use crate::write_pooled;
 use job::Job;
-use text::Written;
+use refusal::Refusal;
 
 // Of the first k dilutions and the first k × n counts of each. The arrays are lent, since a copy of them costs more than a small table.
 fn pool_arrays<'a, 'b>(
@@ -27,7 +27,7 @@ fn pool_arrays<'a, 'b>(
     dilutions2: &'b [u32],
     counts2: &'b [u32],
     buf: &mut [u8],
-) -> Written
+) -> Result<usize, Refusal>
     requires { ReadingsIn n1 k1 dilutions1.now counts1.now × ReadingsIn n2 k2 dilutions2.now counts2.now }
     ensures { WritesPooled (job_with n1 limit1 tolerance1 (take k1 dilutions1.now) (take (k1 * n1) counts1.now))
         (job_with n2 limit2 tolerance2 (take k2 dilutions2.now) (take (k2 * n2) counts2.now))
@@ -50,7 +50,7 @@ fn pool_arrays<'a, 'b>(
     )
 }
 
-fn pool_jobs(first: Job, second: Job, buf: &mut [u8]) -> Written
+fn pool_jobs(first: Job, second: Job, buf: &mut [u8]) -> Result<usize, Refusal>
     requires { Held first × Held second }
     ensures { WritesPooled (job_in first) (job_in second) buf.old buf.new result }
 {
@@ -75,21 +75,16 @@ fn pool_jobs(first: Job, second: Job, buf: &mut [u8]) -> Written
 pub fn answer(first: &[u8], second: &[u8], out: &mut [u8; 2048]) -> usize
     ensures { Put (pool_printed first.now second.now) 0 out.old out.new result }
 {
-    let reading1 = job::read(first);
-    let outcome1 = reading1.outcome;
-    if let job::Outcome::Refused(number, line) = outcome1 {
-        return put_refused_job(out, number as u64, line as u64, 1);
-    }
-    let reading2 = job::read(second);
-    let outcome2 = reading2.outcome;
-    if let job::Outcome::Refused(number, line) = outcome2 {
-        return put_refused_job(out, number as u64, line as u64, 2);
-    }
-    let job1 = reading1.job;
-    let job2 = reading2.job;
-    let done = pool_jobs(job1, job2, out);
-    match done {
-        Written::Length(length) => length,
-        Written::Refused(number) => put_refused_job(out, number as u64, 0, 0),
+    let job1 = match job::read(first) {
+        Ok(job) => job,
+        Err(refused) => return put_refused_job(out, refused.refusal, refused.line, 1),
+    };
+    let job2 = match job::read(second) {
+        Ok(job) => job,
+        Err(refused) => return put_refused_job(out, refused.refusal, refused.line, 2),
+    };
+    match pool_jobs(job1, job2, out) {
+        Ok(length) => length,
+        Err(refusal) => put_refused_job(out, refusal, 0, 0),
     }
 }

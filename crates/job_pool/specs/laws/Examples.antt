@@ -1,5 +1,5 @@
 -- Worked examples: refusals of two jobs with more than one cause, of which the first in W6's order is given; and the pooled job of two small ones.
-use Rattle.std.specs.Prelude.{ℕ, ◌≡◌, refl, [], ◌∷◌, true, false, replicate}
+use Rattle.std.specs.Prelude.{ℕ, ◌≡◌, refl, [], ◌∷◌, None, Some, true, false, replicate}
 use Rattle.integer.specs.Within.{all_within, within}
 use Rattle.job.specs.Job.{Job}
 use Rattle.job_text.specs.JobText.{job_line_e, job_line_p, job_text_of, job_with, sample_line, sample_numbers}
@@ -68,7 +68,7 @@ unfolding wrong_argument_line number_line line further number digits digits_by
 wrong-printed = refl
 
 -- the first argument that is wrong, whatever the later ones are; the program's name is the first of its words
-arguments : (wrong_argument false false 1 ≡ 1) × (wrong_argument true false 4 ≡ 2) × (wrong_argument true true 4 ≡ 3) ×
-    (wrong_argument true true 3 ≡ 0)
+arguments : (wrong_argument false false 1 ≡ Some 1) × (wrong_argument true false 4 ≡ Some 2) × (wrong_argument true true 4 ≡ Some 3) ×
+    (wrong_argument true true 3 ≡ None)
 unfolding wrong_argument
 arguments = (refl, refl, refl, refl)

@@ -1,6 +1,6 @@
 -- Laws of the refusals of two jobs: their order, whatever else is wrong; and what is not refused.
-use Rattle.std.specs.Prelude.{◌+◌, ◌<◌, ◌≤◌, ◌≡◌, eqb, length}
-use Rattle.std.proofs.Common.{arith}
+use Rattle.std.specs.Prelude.{ℕ, ◌+◌, ◌<◌, ◌≤◌, ◌≡◌, refl, Bool, true, false, cond, ◌⊎◌, eqb, length}
+use Rattle.std.proofs.Common.{arith, inl, inr}
 use borrow.Author.Tests.{eq-eqb, le-leb, lt-leb, ne_eqb}
 use Rattle.std.proofs.Math.Dec.{eqb→eq, leb→le}
 use Rattle.job.specs.Job.{Job}
@@ -8,6 +8,9 @@ use Rattle.job.specs.Values.{Proper}
 use Rattle.job_text.proofs.Writer.{proper-taken}
 use Rattle.limits.specs.Limits.{most_samples}
 use Rattle.limits.specs.Unless.{unless}
+use Rattle.readings.specs.Ranges.{job_within}
+use Rattle.readings.specs.Refusal.{are_counted, are_so_many, job_refusal, number_refusal}
+use Rattle.refusal.specs.Refusal.{number_of, numbered}
 use Rattle.limits.specs.laws.Unless.{neither, passed}
 use Rattle.job_pool.specs.Refusal.{few_together, or_later, pool_refusal, refusal_for}
 
@@ -17,6 +20,22 @@ pub record Poolable (a b : Job) : Type 0 where
   pub first : refusal_for a ≡ 0
   pub second : refusal_for b ≡ 0
   pub together : length a.dilutions + length b.dilutions ≤ most_samples
+
+-- 0, or the number of the refusal that has it
+abbrev Known : ℕ → Type 0
+Known number = (number ≡ 0) ⊎ (number_of (numbered number) ≡ number)
+
+test : (b : Bool) (number later : ℕ) → Known number → Known later → Known (cond b later number)
+test true number later n l = l
+test false number later n l = n
+
+job-known : (j : Job) → Known (refusal_for j)
+unfolding job_refusal number_refusal
+job-known j =
+    test (job_within j.n j.limit j.tolerance j.dilutions j.counts) 2
+    (unless (are_counted j.n j.dilutions j.counts) 6 (unless (are_so_many j.dilutions) 3 0)) (inr refl)
+    (test (are_counted j.n j.dilutions j.counts) 6 (unless (are_so_many j.dilutions) 3 0) (inr refl)
+    (test (are_so_many j.dilutions) 3 0 (inr refl) (inl refl)))
 
 module _ (a b : Job) where
   -- 'Jobs with unequal channel numbers give 13, tried first'
@@ -60,6 +79,20 @@ module _ (a b : Job) where
       let second = neither (refusal_for b) later first.1 in
       let together = passed (few_together a b) 3 0 second.1 (omega arith) in
       record { channels = eqb→eq _ _ channels.0; first = first.0; second = second.0; together = leb→le _ _ together.0 }
+
+  -- it is a refusal's number, where the jobs are refused
+  pub pool-known : (pool_refusal a b ≡ 0 → ⊥) → number_of (numbered (pool_refusal a b)) ≡ pool_refusal a b
+  unfolding pool_refusal
+  pool-known f =
+      by (pool_refusal a b)
+      (test (eqb a.n b.n) 13 (or_later (refusal_for a) (or_later (refusal_for b) (unless (few_together a b) 3 0))) (inr refl)
+      (test (eqb (refusal_for a) 0) (refusal_for a) (or_later (refusal_for b) (unless (few_together a b) 3 0)) (job-known a)
+      (test (eqb (refusal_for b) 0) (refusal_for b) (unless (few_together a b) 3 0) (job-known b) (test (few_together a b) 3 0 (inr refl) (inl refl)))))
+      f
+    where
+      by : (number : ℕ) → Known number → (number ≡ 0 → ⊥) → number_of (numbered number) ≡ number
+      by number (inl e) f = absurd (f e)
+      by number (inr e) f = e
 
   -- jobs that were read are taken each by itself: they are refused 13, or 3 for more than 256 samples together
   pub read-refusal : Proper a → Proper b → pool_refusal a b ≡ unless (eqb a.n b.n) 13 (unless (few_together a b) 3 0)
