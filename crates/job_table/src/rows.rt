@@ -3,18 +3,16 @@ ghost use Rattle.std.specs.Prelude.{◌≡◌, ◌∷◌, ◌++◌, [], ◌+◌,
 ghost use Rattle.integer.specs.Tabulate.{tabulate};
 ghost use Rattle.job_table.specs.inner.Rows.{table_row, table_rows};
 
+use std::array;
+
 // A number, eight numbers from a place on, and two that no line has.
 fn row_from(number: usize, sums: &[i64; 64], at: usize) -> [i64; 11]
     requires { (number ≤ 8) × (at ≤ 56) }
     ensures { result ≡ pos number ∷ (tabulate 8 (λ j. get_or sums.now (at + j) (pos 0)) ++ (pos 0 ∷ pos 0 ∷ [])) }
 {
-    let mut row = [0i64; 11];
+    let mut row = [0; 11];
     row[0] = number as i64;
-    let mut j = 0;
-    while j < 8 {
-        row[j + 1] = sums[at + j];
-        j += 1;
-    }
+    row[1..9].copy_from_slice(&sums[at..at + 8]);
     row
 }
 
@@ -30,14 +28,10 @@ pub(crate) fn rows_of(n: usize, sums: &[i64; 64]) -> [[i64; 11]; 8]
     requires { n ≤ 8 }
     ensures { result ≡ table_rows n sums.now }
 {
-    [
-        row_of(n, sums, 0),
-        row_of(n, sums, 1),
-        row_of(n, sums, 2),
-        row_of(n, sums, 3),
-        row_of(n, sums, 4),
-        row_of(n, sums, 5),
-        row_of(n, sums, 6),
-        row_of(n, sums, 7),
-    ]
+    array::from_fn(
+        |i|
+            requires { (n ≤ 8) × (i < 8) }
+            ensures { result ≡ table_row n sums.entry.now i }
+        { row_of(n, sums, i) },
+    )
 }

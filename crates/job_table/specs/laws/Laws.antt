@@ -8,7 +8,6 @@ use Rattle.job.specs.Reading.{in_arrays, reading_of}
 use Rattle.job.specs.Values.{Proper}
 use Rattle.job.specs.laws.Proper.{channels, number, readings}
 use Rattle.job.specs.declared.Job as arrays
-use Rattle.job.specs.declared.RefusedLine.{RefusedLine}
 use Rattle.job.proofs.Accepted.{accepted-proper}
 use Rattle.scatter.specs.laws.Bounds.{readings-shift}
 use Rattle.job_table.specs.Held.{Held, job_in, samples_of, table_for}

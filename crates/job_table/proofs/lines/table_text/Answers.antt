@@ -1,7 +1,7 @@
 -- `job_table::lines::table_text` meets its contract: the job's refusal is the answer, or the table of the job that was read.
 use Rattle.std.proofs.Common.{◌∙◌, sym}
 use Rattle.std.proofs.lemmas.Result.{err_from_is_err_and}
-use Rattle.job_table.specs.laws.Laws.{Read, accepted-read}
+use Rattle.job_table.specs.laws.Laws.{accepted-read}
 use Rattle.job.specs.laws.Replying.{replies-answered, replies-refused}
 use Rattle.job_table.proofs.lines.table_text.Goals as goal
 

@@ -1,0 +1,19 @@
+-- The first line, and the rows after it.
+use Rattle.std.proofs.Common.{arith, length-append}
+use Rattle.text.specs.laws.Put.{put_then}
+use Rattle.job_table.specs.inner.Done.{text_of_rows}
+use Rattle.job_table.proofs.lines.put_text.Goals as goal
+
+pub put_line-at-requires : goal.put_line-at-requires
+unfolding text_of_rows
+put_line-at-requires c = let sized = rw length-append at c.requires.2 in (omega arith, omega arith)
+
+pub put_rows-requires : goal.put_rows-requires
+unfolding text_of_rows
+put_rows-requires c =
+    let sized = rw length-append at c.requires.2 in
+    (c.requires.0, omega (arith, c.requires.0), c.requires.1, omega arith)
+
+pub returns : goal.returns
+unfolding text_of_rows
+returns c = put_then c.put_line-at.ensures c.put_rows.ensures
