@@ -27,28 +27,16 @@ use Rattle.book.specs.Book.{book_with, counts_of, dilutions_of, samples_in}
 use Rattle.book.specs.Calls.{add, book_after, book_refusal, channels_after, ith, samples_then, strike, summary_then, without}
 use Rattle.book.specs.Consistent.{AllProper, Consistent}
 use Rattle.book.specs.declared.Book.{Book}
-use Rattle.book.specs.inner.Arrays.{Closable, closed_up}
-use Rattle.book.specs.inner.Rebuild.{Rebuildable}
+use Rattle.book.specs.inner.Arrays.{closed_up}
 use Rattle.book.specs.laws.Book.{counts-append, dilutions-append, length-counts, length-dilutions, proper-front, proper-rest}
 use Rattle.book.specs.laws.Calls.{Takes, add-taken, after-taken, ith-place, number-held, strike-taken, summary-held}
-use Rattle.book.specs.laws.Held.{count_most, counts_end, counts-held, counts-length, counts-room, dilution-most, dilutions-end}
-use Rattle.book.specs.laws.Held.{dilutions-held, dilutions-length, few-held, so-many-counts, so-many-dilutions}
+use Rattle.book.specs.laws.Held.{count_most, counts-held, counts-length, counts-room, dilution-most}
+use Rattle.book.specs.laws.Held.{dilutions-held, few-held, so-many-counts, so-many-dilutions}
 
 -- one sample handed over
 one-sample : (n d : ℕ) (cs : List ℕ) → length cs ≡ n → samples n (d ∷ []) cs ≡ sample d cs ∷ []
 unfolding samples tabulate sample_at
 one-sample n d cs e = rw mul-zero (ap (λ l. sample d l ∷ []) (take_all n cs (omega arith)))
-
-pub rebuildable : (b : Book) → Consistent b → Rebuildable b.n b.summary.k b.dilutions b.counts
-rebuildable b c =
-    record {
-      channels = c.channels;
-      number = few-held b c;
-      held = omega (arith, few-held b c, dilutions-length b c);
-      counted = omega (arith, counts-room b c, counts-length b c);
-      dilution = dilution-most b c;
-      count = count_most b c;
-    }
 
 module _ (b : Book) (c : Consistent b) where
   module _ (d : ℕ) (cs : List ℕ) (e : book_refusal b.n b.summary.k (add d cs) ≡ 0) where
@@ -163,24 +151,6 @@ module _ (b : Book) (c : Consistent b) where
         let s : b.summary ≡ sums_of (take (i - 1) (samples_in b) ++ ith i (samples_in b) ∷ drop i (samples_in b)) =
         summary-held b c ∙ ap sums_of placed in
         rw (s, g, struck-sample) (sums-included (take (i - 1) (samples_in b)) (drop i (samples_in b)) (ith i (samples_in b)))
-
-    pub dilutions-closable : (width : ℕ) → width ≤ 1 → Closable (i - 1) width b.summary.k b.dilutions
-    dilutions-closable width h =
-        record {
-          held = omega (arith, struck-place);
-          within = omega (arith, few-held b c, dilutions-length b c);
-          few = omega (arith, few-held b c);
-          zero = dilutions-end b c;
-        }
-
-    pub counts-closable : (width : ℕ) → width ≤ b.n → Closable (b.n * (i - 1)) width (b.n * b.summary.k) b.counts
-    counts-closable width h =
-        record {
-          held = omega (arith, struck-end);
-          within = omega (arith, counts-room b c, counts-length b c);
-          few = omega (arith, counts-room b c, c.channels);
-          zero = counts_end b c;
-        }
 
     before-length : length (take (i - 1) (samples_in b)) ≡ i - 1
     before-length = length-take-le (i - 1) (samples_in b) (omega (arith, number-held b, struck-place))

@@ -1,4 +1,3 @@
-pub mod Closing
 pub mod Rebuilding
 pub mod Changing
 pub mod Answering

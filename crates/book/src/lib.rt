@@ -16,7 +16,6 @@ ghost use Rattle.book.specs.Done.{Changes, table_to};
 
 use arrays::{close_up, put_counts};
 use checks::{check_add, check_channels, check_strike, check_table};
-use rebuild::sums_by_pairs;
 use refusal::Refusal;
 use scatter::table::Table;
 use sums::Sums;
@@ -97,8 +96,8 @@ fn without_sample(b: Book, i: usize) -> Book
     let end = from + n;
     let dilution = dilutions[s];
     let part = sums::sums_of(n, &[dilution], &counts[from..end]);
-    close_up(&mut dilutions, s, 1, k);
-    close_up(&mut counts, from, n, n * k);
+    close_up(&mut dilutions, s, 1);
+    close_up(&mut counts, from, n);
     Book {
         n,
         summary: sums::minus(b.summary, part),
@@ -181,19 +180,6 @@ impl Book {
         ensures { result ≡ sums_of (samples_in self) }
     {
         self.summary
-    }
-
-    // 'A rebuild takes the sums one channel pair at a time, from the last sample to the first'.
-    pub fn rebuild(self) -> Sums
-        requires { Consistent self }
-        ensures { result ≡ sums_of (samples_in self) }
-    {
-        sums_by_pairs(
-            self.n,
-            self.summary.k as usize,
-            &self.dilutions,
-            &self.counts,
-        )
     }
 
     // Whether a call that asks for the summary or for a rebuild is refused.
