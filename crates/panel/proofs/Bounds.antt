@@ -5,8 +5,10 @@ use mathlib.Core.List.{List}
 use Prim.Native.Nat.{ℕ, ◌≤◌}
 use native.Mathlib.Omega.{arith}
 use lib.IntN.{ℤ, nat_abs}
+use Rattle.std.specs.Prelude.{Ok, Err}
+use Rattle.refusal.specs.declared.Refusal.{Refusal}
+use Rattle.refusal.specs.Refusal.{numbered}
 use Rattle.text.specs.Written.{Writes}
-use Rattle.text.specs.declared.written.Written.TheVariants.{Length}
 use Rattle.text.specs.laws.Written.{length-tells}
 use Rattle.panel.specs.Listed.{panel_within}
 use Rattle.panel.specs.Panels.{count_of}
@@ -14,22 +16,20 @@ use Rattle.panel.specs.Position.{The-positions, panel_at, position_of}
 use Rattle.panel.specs.Refusal.{panel_at_position, most_size, natural_within, of_panel, size_refusal, size_within}
 use Rattle.panel.specs.Text.{panels_text}
 use Rattle.panel.specs.declared.Panel.{Panel}
-use Rattle.panel.specs.declared.position.AtPosition.TheVariants as AtPosition
-use Rattle.panel.specs.declared.position.OfPanel.TheVariants as OfPanel
 use Rattle.panel.specs.laws.Places.{the-positions}
 use Rattle.panel.proofs.Answers.{text-room}
 use Rattle.panel.proofs.Ranges.{in-range}
 use Rattle.panel.proofs.Small.{count_small}
 
-pub text-short : (b : ℤ) (entry exit : List ℕ) (k : ℕ) → Writes (size_refusal b) (panels_text (nat_abs b)) entry exit (Length k) → k ≤ 112_999
+pub text-short : (b : ℤ) (entry exit : List ℕ) (k : ℕ) → Writes (size_refusal b) (panels_text (nat_abs b)) entry exit (Ok k) → k ≤ 112_999
 text-short b entry exit k w = let t = length-tells _ (panels_text (nat_abs b)) entry w in rw t.1 (text-room b t.0)
 
-pub position-small : (b : ℤ) (x : Panel) (p : ℕ) → OfPanel.Position p ≡ of_panel b x → p ≤ 4913
+pub position-small : (b : ℤ) (x : Panel) (p : ℕ) → Ok p ≡ of_panel b x → p ≤ 4913
 unfolding of_panel The-positions
 position-small b x p = by (size_within b) (panel_within (nat_abs b) x) refl refl
   where
     by : (s t : Bool) → size_within b ≡ s → panel_within (nat_abs b) x ≡ t →
-        OfPanel.Position p ≡ cond (s && t) (OfPanel.Position (position_of (nat_abs b) x)) (OfPanel.Refused 2) → p ≤ 4913
+        Ok p ≡ cond (s && t) (Ok (position_of (nat_abs b) x)) (Err (numbered 2)) → p ≤ 4913
     by true true q h e =
         let k : p ≡ position_of (nat_abs b) x = cc in
         omega (arith, k, ((the-positions (nat_abs b)).in-range x h).1, count_small (nat_abs b) (in-range 0 most_size b q).1)
@@ -37,11 +37,10 @@ position-small b x p = by (size_within b) (panel_within (nat_abs b) x) refl refl
     by false t q h e = absurd (let z : ◌≡◌ {A = ℕ} 0 1 = cc in omega arith)
 
 -- every refusal is 2
-pub position-refused : (b position : ℤ) (number : ℕ) → AtPosition.Refused number ≡ panel_at_position b position → number ≡ 2
+pub position-refused : (b position : ℤ) (refusal : Refusal) → Err refusal ≡ panel_at_position b position → refusal ≡ numbered 2
 unfolding panel_at_position
-position-refused b position number = by (size_within b && natural_within 1 (count_of (nat_abs b)) position)
+position-refused b position refusal = by (size_within b && natural_within 1 (count_of (nat_abs b)) position)
   where
-    by : (t : Bool) → AtPosition.Refused number ≡ cond t (AtPosition.Panel (panel_at (nat_abs b) (nat_abs position))) (AtPosition.Refused 2) →
-        number ≡ 2
+    by : (t : Bool) → Err refusal ≡ cond t (Ok (panel_at (nat_abs b) (nat_abs position))) (Err (numbered 2)) → refusal ≡ numbered 2
     by true e = absurd (let z : ◌≡◌ {A = ℕ} 0 1 = cc in omega arith)
     by false e = cc

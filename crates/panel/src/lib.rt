@@ -8,9 +8,8 @@ pub mod position;
 ghost use Rattle.text.specs.Put.{Put};
 ghost use Rattle.panel.specs.Printed.{panels_printed};
 
-use call_text::field::{Signed, number};
+use call_text::field::number;
 use lines::{MOST_BYTES, write_panels};
-use text::Written;
 
 // a_12 is a_21 too.
 #[derive(Clone, Copy)]
@@ -27,12 +26,11 @@ pub const MOST_SIZE: u64 = 8;
 pub fn answer(argument: &[u8], out: &mut [u8; MOST_BYTES]) -> usize
     ensures { Put (panels_printed argument.now) 0 out.old out.new result }
 {
-    let Signed::Is(b) = number(argument) else {
-        return text::line::put_line(out, b'?', &[0i64], 0);
+    let Some(b) = number(argument) else {
+        return text::line::put_line(out, b'?', &[], 0);
     };
-    let done = write_panels(b, out);
-    match done {
-        Written::Length(length) => length,
-        Written::Refused(refusal) => text::line::put_line(out, b'X', &[refusal as i64], 1),
+    match write_panels(b, out) {
+        Ok(length) => length,
+        Err(refusal) => text::line::put_line(out, b'X', &[i64::from(refusal.number())], 1),
     }
 }

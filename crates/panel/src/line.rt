@@ -52,10 +52,7 @@ pub(crate) fn line_length(x: Panel) -> usize
     ensures { Sized (panel_line x) 23 result }
 {
     let fields = line_fields(x);
-    let numbers = fields.numbers;
-    let outcome = fields.outcome;
-    let word = word_of(outcome);
-    text::line::numbers_length(&numbers, 5) + word.length + 1
+    text::line::numbers_length(&fields.numbers, 5) + word_of(fields.outcome).len() + 1
 }
 
 // A line of numbers and a word, at the front of the buffer.
@@ -76,10 +73,5 @@ pub(crate) fn put_line(buf: &mut [u8], x: Panel) -> usize
     ensures { Put (panel_line x) 0 buf.old buf.new result }
 {
     let fields = line_fields(x);
-    let numbers = fields.numbers;
-    let outcome = fields.outcome;
-    let word = word_of(outcome);
-    let bytes = word.bytes;
-    let length = word.length;
-    put_fields(buf, &numbers, &bytes[..length])
+    put_fields(buf, &fields.numbers, word_of(fields.outcome))
 }

@@ -6,9 +6,8 @@ ghost use Rattle.panel.specs.Refusal.{most_size, size_refusal};
 ghost use Rattle.panel.specs.Text.{panels_text};
 
 use crate::line::{line_length, put_line};
-use crate::position::{count_of, is_size, panel_after};
-use integer::magnitude;
-use text::Written;
+use crate::position::{count_of, panel_after, size_of};
+use refusal::Refusal;
 
 // Every text has at most so many bytes: 23 for each of 17^3 lines.
 pub const MOST_BYTES: usize = 112_999;
@@ -17,12 +16,9 @@ fn text_length(b: u64) -> usize
     requires { b ≤ most_size }
     ensures { Sized (panels_text b) 112_999 result }
 {
-    let count = count_of(b);
     let mut total = 0;
-    let mut i = 0;
-    while i < count {
+    for i in 0..count_of(b) {
         total += line_length(panel_after(b, i));
-        i += 1;
     }
     total
 }
@@ -34,25 +30,19 @@ fn put_text(b: u64, buf: &mut [u8]) -> usize
 {
     let lines = count_of(b);
     let mut at = 0;
-    let mut i = 0;
-    while i < lines {
-        let panel = panel_after(b, i);
-        at += put_line(&mut buf[at..], panel);
-        i += 1;
+    for i in 0..lines {
+        at += put_line(&mut buf[at..], panel_after(b, i));
     }
     at
 }
 
 // The length is known before the first byte is written, so a buffer that is too short stays as it is.
-pub fn write_panels(b: i64, out: &mut [u8]) -> Written
+pub fn write_panels(b: i64, out: &mut [u8]) -> Result<usize, Refusal>
     ensures { Writes (size_refusal b) (panels_text (nat_abs b)) out.old out.new result }
 {
-    if !is_size(b) {
-        return Written::Refused(2);
-    }
-    let size = magnitude(b);
+    let size = size_of(b)?;
     if out.len() < text_length(size) {
-        return Written::Refused(12);
+        return Err(Refusal::ShortBuffer);
     }
-    Written::Length(put_text(size, out))
+    Ok(put_text(size, out))
 }

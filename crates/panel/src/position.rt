@@ -1,44 +1,30 @@
 // The panel at a position of the list, and the position of a panel.
-ghost use Rattle.std.specs.Prelude.{true, ◌≡◌, ◌^◌, ◌<◌, ◌≤◌, nat_abs};
+ghost use Rattle.std.specs.Prelude.{Ok, Err, IfOk, cond, true, ◌≡◌, ◌^◌, ◌<◌, ◌≤◌, nat_abs};
+ghost use Rattle.refusal.specs.Refusal.{numbered};
 ghost use Rattle.panel.specs.Listed.{panel_within};
 ghost use Rattle.panel.specs.Panels.{count_of, entry_at};
 ghost use Rattle.panel.specs.Position.{panel_after, place_of_entry, position_of};
 ghost use Rattle.panel.specs.Refusal.{panel_at_position, most_size, natural_within, of_panel, size_within};
 
 use crate::{MOST_SIZE, Panel};
-use integer::magnitude;
+use refusal::Refusal;
 
-// The panel, or the refusal's number.
-#[derive(Clone, Copy)]
-pub enum AtPosition {
-    Panel(Panel),
-    Refused(u32),
-}
-
-// The position, from 1, or the refusal's number.
-#[derive(Clone, Copy)]
-pub enum OfPanel {
-    Position(u64),
-    Refused(u32),
-}
-
-// Whether z is from `low` to `high`; a negative number is not.
-fn natural_within(low: u64, high: u64, z: i64) -> bool
-    ensures { result ≡ natural_within low high z }
+// z, where it is from `low` to `high`; a negative number is not.
+#[tactic(auto, unfolding(crate::specs::Refusal::natural_within, integer::specs::Within::within))]
+fn natural_within(low: u64, high: u64, z: i64) -> Result<u64, Refusal>
+    ensures is { result ≡ cond (natural_within low high z) (Ok (nat_abs z)) (Err (numbered 2)) }
+    ensures within { IfOk result (λ n. (low ≤ n) × (n ≤ high)) }
 {
-    if z < 0 {
-        return false;
+    match u64::try_from(z) {
+        Ok(n) if low <= n && n <= high => Ok(n),
+        _ => Err(Refusal::OutOfRange),
     }
-    let n = magnitude(z);
-    if n < low {
-        return false;
-    }
-    n <= high
 }
 
-// Whether b is from 0 to 8.
-pub(crate) fn is_size(b: i64) -> bool
-    ensures { result ≡ size_within b }
+// b, where it is from 0 to 8.
+pub(crate) fn size_of(b: i64) -> Result<u64, Refusal>
+    ensures is { result ≡ cond (size_within b) (Ok (nat_abs b)) (Err (numbered 2)) }
+    ensures within { IfOk result (λ n. n ≤ most_size) }
 {
     natural_within(0, MOST_SIZE, b)
 }
@@ -48,8 +34,7 @@ pub(crate) fn count_of(b: u64) -> u64
     requires { b ≤ most_size }
     ensures { result ≡ count_of b }
 {
-    let width = 2 * b + 1;
-    width * width * width
+    (2 * b + 1).pow(3)
 }
 
 fn entry_at(b: u64, i: u64) -> i64
@@ -60,6 +45,7 @@ fn entry_at(b: u64, i: u64) -> i64
 }
 
 // The panel with i panels before it.
+#[tactic(auto, unfolding(crate::specs::Position::panel_after))]
 pub(crate) fn panel_after(b: u64, i: u64) -> Panel
     requires { (b ≤ most_size) × (i < count_of b) }
     ensures { result ≡ panel_after b i }
@@ -73,30 +59,21 @@ pub(crate) fn panel_after(b: u64, i: u64) -> Panel
 }
 
 // The panel at a position of the list, from 1; 2 for a b or a position outside its range.
-pub fn panel_at(b: i64, position: i64) -> AtPosition
+#[tactic(auto, unfolding(crate::specs::Refusal::panel_at_position, crate::specs::Position::panel_at))]
+pub fn panel_at(b: i64, position: i64) -> Result<Panel, Refusal>
     ensures { result ≡ panel_at_position b position }
 {
-    if !is_size(b) {
-        return AtPosition::Refused(2);
-    }
-    let size = magnitude(b);
-    if !natural_within(1, count_of(size), position) {
-        return AtPosition::Refused(2);
-    }
-    AtPosition::Panel(panel_after(size, magnitude(position) - 1))
+    let size = size_of(b)?;
+    let place = natural_within(1, count_of(size), position)?;
+    Ok(panel_after(size, place - 1))
 }
 
 // Whether each entry is from −b to b.
+#[tactic(auto, unfolding(crate::specs::Listed::panel_within))]
 fn entries_within(b: u64, x: Panel) -> bool
     ensures { result ≡ panel_within b x }
 {
-    if b < magnitude(x.a11) {
-        return false;
-    }
-    if b < magnitude(x.a12) {
-        return false;
-    }
-    magnitude(x.a22) <= b
+    x.a11.unsigned_abs() <= b && x.a12.unsigned_abs() <= b && x.a22.unsigned_abs() <= b
 }
 
 // How many places after −b an entry stands.
@@ -104,9 +81,10 @@ fn place_of(b: u64, z: i64) -> u64
     requires { (b ≤ most_size) × (nat_abs z ≤ b) }
     ensures { (result ≡ place_of_entry b z) × (result ≤ 16) }
 {
-    magnitude(z + b as i64)
+    (z + b as i64).unsigned_abs()
 }
 
+#[tactic(auto, unfolding(crate::specs::Position::position_of))]
 fn position_in(b: u64, x: Panel) -> u64
     requires { (b ≤ most_size) × (panel_within b x ≡ true) }
     ensures { result ≡ position_of b x }
@@ -117,15 +95,13 @@ fn position_in(b: u64, x: Panel) -> u64
 }
 
 // The position of a panel, from 1; 2 for a b outside 0 to 8 or an entry beyond ±b.
-pub fn position_of(b: i64, x: Panel) -> OfPanel
+#[tactic(auto, unfolding(crate::specs::Refusal::of_panel))]
+pub fn position_of(b: i64, x: Panel) -> Result<u64, Refusal>
     ensures { result ≡ of_panel b x }
 {
-    if !is_size(b) {
-        return OfPanel::Refused(2);
-    }
-    let size = magnitude(b);
+    let size = size_of(b)?;
     if !entries_within(size, x) {
-        return OfPanel::Refused(2);
+        return Err(Refusal::OutOfRange);
     }
-    OfPanel::Position(position_in(size, x))
+    Ok(position_in(size, x))
 }

@@ -30,8 +30,11 @@ plus-requires c = (
 )
 
 pub table_of-requires : goal.table_of-requires
-table_of-requires c = (
-  c.requires.first.channels,
-  rw c.plus.ensures (plus-bounded _ _ (bounded _ _ _ c.sums_of-first.ensures c.requires.first) (bounded _ _ _ c.sums_of-second.ensures c.requires.second)
-      (rw (counted _ _ _ c.sums_of-first.ensures, counted _ _ _ c.sums_of-second.ensures) c.requires.together)),
-)
+table_of-requires c =
+    let first = c.sums_of-first.ensures in
+    let second = c.sums_of-second.ensures in (
+      c.requires.first.channels,
+      rw c.plus.ensures
+          (plus-bounded _ _ (bounded _ _ _ first c.requires.first) (bounded _ _ _ second c.requires.second)
+          (rw (counted _ _ _ first, counted _ _ _ second) c.requires.together)),
+    )

@@ -84,10 +84,12 @@ module _ (a b : Job) where
   pub pool-known : (pool_refusal a b ≡ 0 → ⊥) → number_of (numbered (pool_refusal a b)) ≡ pool_refusal a b
   unfolding pool_refusal
   pool-known f =
+      let together = unless (few_together a b) 3 0 in
       by (pool_refusal a b)
-      (test (eqb a.n b.n) 13 (or_later (refusal_for a) (or_later (refusal_for b) (unless (few_together a b) 3 0))) (inr refl)
-      (test (eqb (refusal_for a) 0) (refusal_for a) (or_later (refusal_for b) (unless (few_together a b) 3 0)) (job-known a)
-      (test (eqb (refusal_for b) 0) (refusal_for b) (unless (few_together a b) 3 0) (job-known b) (test (few_together a b) 3 0 (inr refl) (inl refl)))))
+      (test (eqb a.n b.n) 13 (or_later (refusal_for a) (or_later (refusal_for b) together)) (inr refl)
+      (test (eqb (refusal_for a) 0) (refusal_for a) (or_later (refusal_for b) together) (job-known a)
+      (test (eqb (refusal_for b) 0) (refusal_for b) together (job-known b)
+      (test (few_together a b) 3 0 (inr refl) (inl refl)))))
       f
     where
       by : (number : ℕ) → Known number → (number ≡ 0 → ⊥) → number_of (numbered number) ≡ number

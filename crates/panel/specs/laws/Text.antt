@@ -10,11 +10,10 @@ use Rattle.integer.specs.laws.Tabulate.{tabulate-suc}
 use Rattle.ledger.specs.Call.{load}
 use Rattle.ledger.specs.laws.Accepted.{Loads}
 use Rattle.limits.specs.Limits.{entry_limit}
-use Rattle.record.specs.declared.run.Outcome.{Outcome}
-use Rattle.record.specs.declared.run.Outcome.TheVariants.{Settled, Still, Spent}
 use Rattle.record.specs.laws.Accepted.{load-taken}
 use Rattle.run.specs.Run.{Allowed}
 use Rattle.run.specs.Word.{outcome_word}
+use Rattle.run.specs.laws.Word.{short-word}
 use Rattle.run.specs.laws.Calls.{matrix-begins, run-calls}
 use Rattle.run.specs.laws.Course.{run_ends}
 use Rattle.text.specs.Decimal.{number}
@@ -118,12 +117,6 @@ count-few : (n : ℕ) → n ≤ 16 → length (number (pos n)) ≤ 2
 unfolding number
 count-few n h = length_digits 1 n (omega arith)
 
-word-few : (o : Outcome) → length (outcome_word o) ≤ 7
-unfolding outcome_word
-word-few Settled = omega arith
-word-few Still = omega arith
-word-few Spent = omega arith
-
 pub line-length : (x : Panel) → length (panel_line x) ≡ length (numbers (take 5 (line_numbers x))) + length (outcome_word (panel_run x).outcome) + 1
 unfolding panel_line line_numbers
 line-length x = fields-length x.a11 _ (outcome_word (panel_run x).outcome)
@@ -140,7 +133,7 @@ line-few x s =
       entry-few x.a22 s.a22,
       count-few (panel_run x).sweeps (sweeps-most x s),
       count-few (panel_run x).last.solver.m (turns-most x s),
-      word-few (panel_run x).outcome,
+      short-word (panel_run x).outcome,
     )))
 
 -- the line at a place of the list
