@@ -1,5 +1,4 @@
 mod Reading
-mod Saying
 mod LentCalls
 mod Stepping
 mod Passing

@@ -8,6 +8,8 @@ use borrow.Author.Tests.{le-leb, lt-leb, leb-true, leb-false}
 use lib.Dec.{leb}
 use lib.ListN.{length, take, length-append}
 use lib.Seq.{length-take-le}
+use Rattle.std.proofs.Common.{Err, None, Ok, Some}
+use Rattle.refusal.specs.Refusal.{numbered}
 use Rattle.record.specs.declared.Record.{Record}
 use Rattle.text.specs.Put.{Put, fitted}
 use Rattle.text.specs.laws.Put.{front_length, put-nothing, put_then, same_size}
@@ -16,7 +18,6 @@ use Rattle.play.specs.Buffer.{PlaysAll, played_into, output_of}
 use Rattle.play.specs.Steps.{Reached, Steps, begun, start_cursor}
 use Rattle.play.specs.laws.Steps.{Before, from_start, prints, prints-more, prints-last, printed_by, rest}
 use Rattle.play.specs.Text.{played}
-use Rattle.play.specs.declared.Output.TheVariants.{Written, TooShort}
 use Rattle.play.specs.declared.cursor.Cursor.{Cursor}
 use Rattle.play.specs.declared.step.Stepped.{Stepped}
 
@@ -61,11 +62,12 @@ module _ (text : List ℕ) (here : Cursor) (r : Record) (z : Stepped) (after : R
     fits_not h = sym (q ∙ lt-leb _ left (omega (arith, at_least)))
 
     module _ (h : z.line.len ≤ left) where
-      pub fits_all : z.more ≡ false → true ≡ leb (length (played false text)) most
+      pub fits_all : z.next ≡ None → true ≡ leb (length (played false text)) most
       fits_all last = sym (q ∙ rw (prints-last text false here r z after s last, size) (le-leb _ left h))
 
-      pub fits_on : z.more ≡ true → leb (length (played false text)) most ≡ leb (length (rest text false after z.next)) (left - z.line.len)
-      fits_on more = q ∙ rw (prints-more text false here r z after s more, length-append, size) (less z.line.len _ left h)
+      pub fits_on : (on : Cursor) → z.next ≡ Some on →
+          leb (length (played false text)) most ≡ leb (length (rest text false after on)) (left - z.line.len)
+      fits_on on more = q ∙ rw (prints-more text false here r z after s on more, length-append, size) (less z.line.len _ left h)
 
   module _ {entry buf : List ℕ} {end : ℕ} (b : Wrote text r here entry buf end) where
     pub room : length (played false text) ≤ length entry → end + length (take z.line.len z.line.bytes) ≤ length buf
@@ -76,28 +78,28 @@ module _ (text : List ℕ) (here : Cursor) (r : Record) (z : Stepped) (after : R
 
     -- the buffer and the place after the line is written
     module _ {out : List ℕ} {next : ℕ} (p : Put (take z.line.len z.line.bytes) end buf out next) where
-      pub written_last : z.more ≡ false → Put (played false text) 0 entry out next
+      pub written_last : z.next ≡ None → Put (played false text) 0 entry out next
       unfolding printed_by
       written_last last = rw (b.lines.is, prints-last text false here r z after s last) (put_then b.puts p)
 
-      pub written-more : z.more ≡ true → Wrote text after z.next entry out next
+      pub written-more : (on : Cursor) → z.next ≡ Some on → Wrote text after on entry out next
       unfolding printed_by
-      written-more more = record {
-        reached = s.reaches more;
+      written-more on more = record {
+        reached = s.reaches on more;
         lines = record {
           before = b.lines.before ++ printed_by z;
-          is = b.lines.is ∙ rw (prints-more text false here r z after s more, append_assoc);
+          is = b.lines.is ∙ rw (prints-more text false here r z after s on more, append_assoc);
         };
         puts = put_then b.puts p;
       }
 
 -- The buffer at exit, by whether what the text prints fits: t.
 module _ (text entry : List ℕ) (t : Bool) (q : t ≡ leb (length (played false text)) (length entry)) where
-  pub too_short : t ≡ false → PlaysAll text entry entry TooShort
+  pub too_short : t ≡ false → PlaysAll text entry entry (Err (numbered 12))
   unfolding output_of played_into fitted
   too_short e = record { answer = rw (← q, e); buffer = rw (← q, e) }
 
-  pub all-written : t ≡ true → {exit : List ℕ} {r : ℕ} → Put (played false text) 0 entry exit r → PlaysAll text entry exit (Written r)
+  pub all-written : t ≡ true → {exit : List ℕ} {r : ℕ} → Put (played false text) 0 entry exit r → PlaysAll text entry exit (Ok r)
   unfolding output_of played_into fitted
   all-written e p = record { answer = rw (← q, e, front_length p); buffer = rw (← q, e) p.leaves }
 

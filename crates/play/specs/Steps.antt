@@ -1,6 +1,6 @@
 -- A step of a text of calls: what the line at a cursor does to the record, and what it prints.
-use Rattle.std.specs.Prelude.{ℕ, ◌+◌, ◌≤◌, ◌<◌, ◌≡◌, Bool, true, false, cond, not, ◌&&◌, List, [], ◌∷◌, eqb, drop, length}
-use Rattle.std.proofs.Math.Option.{Option, none, some}
+use Rattle.std.specs.Prelude.{ℕ, ◌+◌, ◌≤◌, ◌<◌, ◌≡◌, Bool, cond, not, ◌&&◌, List, [], ◌∷◌, eqb, drop, length}
+use Rattle.std.specs.Prelude.{Option, Some, None}
 use Rattle.text.specs.Parts.{split}
 use Rattle.ledger.specs.Bench.{NamedCall}
 use Rattle.record.specs.Record.{fresh, record_after}
@@ -25,40 +25,40 @@ lines_from text here = split 10 (drop here.at text)
 
 -- the call of the first of them, if it is one
 unfoldable pub first_call : List (List ℕ) → Option NamedCall
-first_call [] = none
-first_call (part ∷ []) = none
+first_call [] = None
+first_call (part ∷ []) = None
 first_call (line ∷ part ∷ parts) = call_of line
 
 unfoldable pub after_call : Record → Option NamedCall → Record
-after_call r none = r
-after_call r (some call) = record_after r call
+after_call r None = r
+after_call r (Some call) = record_after r call
 
 -- the text's end, or a line that is no call
-unfoldable pub stopped_at : Cursor → List ℕ → Stepped
-stopped_at here text = record { more = false; next = here; line = line_printed text }
+unfoldable pub stopped_at : List ℕ → Stepped
+stopped_at text = record { next = None; line = line_printed text }
 
 unfoldable pub stepped_by : Record → Cursor → ℕ → Option NamedCall → Stepped
-stepped_by r here size none = stopped_at here (unknown_line here.line)
-stepped_by r here size (some call) = record { more = true; next = past_line here size; line = line_printed (answer_line r call) }
+stepped_by r here size None = stopped_at (unknown_line here.line)
+stepped_by r here size (Some call) = record { next = Some (past_line here size); line = line_printed (answer_line r call) }
 
 unfoldable pub stepped : Bool → Record → Cursor → List (List ℕ) → Stepped
-stepped left r here [] = stopped_at here []
-stepped left r here (part ∷ []) = cond (eqb (length part) 0 && not left) (stopped_at here []) (stopped_at here (unknown_line here.line))
+stepped left r here [] = stopped_at []
+stepped left r here (part ∷ []) = cond (eqb (length part) 0 && not left) (stopped_at []) (stopped_at (unknown_line here.line))
 stepped left r here (line ∷ part ∷ parts) = stepped_by r here (length line) (call_of line)
 
 -- What the lines before a cursor have come to: a fresh record at the text's start; or what a line that is a call leaves, and the cursor after it.
 pub data Reached (text : List ℕ) : Record → Cursor → Type 0 where
   begun : Reached text fresh start_cursor
   gone : {r : Record} {here : Cursor} (line part : List ℕ) (parts : List (List ℕ)) (call : NamedCall) → Reached text r here →
-      lines_from text here ≡ line ∷ part ∷ parts → call_of line ≡ some call → Reached text (record_after r call) (past_line here (length line))
+      lines_from text here ≡ line ∷ part ∷ parts → call_of line ≡ Some call → Reached text (record_after r call) (past_line here (length line))
 
 -- the line at a cursor, played on the record r: what it prints, and the record after it
 pub record Steps (text : List ℕ) (left : Bool) (here : Cursor) (r : Record) (z : Stepped) (next : Record) : Type 0 where
   pub is : z ≡ stepped left r here (lines_from text here)
   pub leaves : next ≡ after_call r (first_call (lines_from text here))
   pub short : z.line.len ≤ 256
-  pub moves : z.more ≡ true → (here.at < z.next.at) × (z.next.at ≤ length text)
-  pub reaches : z.more ≡ true → Reached text next z.next
+  pub moves : (on : Cursor) → z.next ≡ Some on → (here.at < on.at) × (on.at ≤ length text)
+  pub reaches : (on : Cursor) → z.next ≡ Some on → Reached text next on
 
 -- a text's last step: that of a record and a cursor that are reached, which says that there is no more. What it prints depends on whether input is
 -- left.
@@ -67,4 +67,4 @@ pub record Ends (text : List ℕ) (left : Bool) (z : Stepped) : Type 0 where
   pub here : Cursor
   pub reached : Reached text on here
   pub last : z ≡ stepped left on here (lines_from text here)
-  pub stops : z.more ≡ false
+  pub stops : z.next ≡ None

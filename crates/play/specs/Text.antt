@@ -1,6 +1,6 @@
 -- A text of calls, played on one record: one call a line, each line ended by a line feed.
 use Rattle.std.specs.Prelude.{ℕ, ◌+◌, Bool, cond, not, ◌&&◌, List, [], ◌∷◌, ◌++◌, eqb, ltb, length, take}
-use Rattle.std.proofs.Math.Option.{Option, none, some}
+use Rattle.std.specs.Prelude.{Option, Some, None}
 use Rattle.text.specs.Parts.{split}
 use Rattle.ledger.specs.Bench.{NamedCall}
 use Rattle.record.specs.Record.{fresh, record_after}
@@ -16,8 +16,8 @@ unknown_line k = line ((63 ∷ []) ∷ digits k ∷ [])
 
 -- a line that is a call prints its answer, and the lines after it are played on; at another line it stops
 unfoldable pub line_then : Record → ℕ → Option NamedCall → (Record → List ℕ) → List ℕ
-line_then r k none go = unknown_line k
-line_then r k (some call) go = answer_line r call ++ go (record_after r call)
+line_then r k None go = unknown_line k
+line_then r k (Some call) go = answer_line r call ++ go (record_after r call)
 
 -- What the lines from number k on print, played on the record r. The last part has no line feed after it: it is no line where it is empty and no
 -- input is left after the text, else a line that was not read whole.

@@ -8,6 +8,7 @@ use call_text::request::Request;
 use record::{Answer, AxisAnswer, Record, lent};
 
 // An answer that has no row.
+#[tactic(auto, unfolding(crate::specs::inner::Calls::plain_of))]
 fn plain(value: Answer) -> AxisAnswer
     ensures { result ≡ plain_of value }
 {
@@ -29,7 +30,7 @@ fn readings_at(readings: &[u32], from: usize, to: usize) -> &[u32]
     &readings[from..to]
 }
 
-// The request of a line with these numbers, and with the readings of those that are samples. Where it is no call, the record stays as it is.
+// The request of a line with these numbers, and with the readings of those that are samples.
 pub(crate) fn call(
     r: &mut Record,
     request: Request,
@@ -59,7 +60,6 @@ pub(crate) fn call(
         Request::Sweep(bench) => plain(lent::sweep(r, bench)),
         Request::LoosePair { bench, t } => plain(lent::loose_pair(r, bench, t)),
         Request::Axis { bench, i } => lent::axis(r, bench, i),
-        Request::NoCall => plain(Answer::Loaded),
         Request::TournamentSweep(bench) => plain(lent::tournament_sweep(r, bench)),
     }
 }

@@ -2,7 +2,7 @@
 ghost use Rattle.std.specs.Prelude.{◌≡◌, length};
 ghost use Rattle.call_text.specs.Calls.{number_limit};
 ghost use Rattle.play.specs.Steps.{start_cursor};
-ghost use Rattle.play.specs.inner.Lines.{Reads, Within, end_at, samples_end};
+ghost use Rattle.play.specs.inner.Lines.{Reads, Within};
 
 use call_text::find::find;
 use call_text::reading::put_readings;
@@ -17,6 +17,7 @@ pub struct Cursor {
 
 impl Cursor {
     // The text's start, which is line 1.
+    #[tactic(auto, unfolding(crate::specs::Steps::start_cursor))]
     pub fn start() -> Self
         ensures { result ≡ start_cursor }
     {
@@ -30,40 +31,12 @@ impl Cursor {
     }
 }
 
-// What the line at a cursor asks for, and the cursor after it; `ended` says that there is no line.
+// What stands at a cursor: no line; a line that is no call, or that is not whole; or a call and the cursor after it.
 #[derive(Clone, Copy)]
-pub struct NextLine {
-    pub request: Request,
-    pub ended: bool,
-    pub here: Cursor,
-    pub next: Cursor,
-}
-
-fn end_at(here: Cursor, ended: bool) -> NextLine
-    ensures { result ≡ end_at here ended }
-{
-    NextLine {
-        request: Request::NoCall,
-        ended,
-        here,
-        next: here,
-    }
-}
-
-// The place after a request's samples, of whose numbers the readings are wanted.
-fn samples_end(request: Request) -> usize
-    ensures { result ≡ samples_end request }
-{
-    match request {
-        Request::Load { .. } => 0,
-        Request::LoadSamples { to, .. } => to,
-        Request::Turn { .. } => 0,
-        Request::Sweep(_) => 0,
-        Request::LoosePair { .. } => 0,
-        Request::Axis { .. } => 0,
-        Request::NoCall => 0,
-        Request::TournamentSweep(_) => 0,
-    }
+pub enum NextLine {
+    Ended,
+    Unknown,
+    Call { request: Request, next: Cursor },
 }
 
 // `left` says that input is left after the text, so that a line at its end is not whole. The line's numbers go into the first lent array, and of a
@@ -78,24 +51,28 @@ pub(crate) fn next_line(
     requires { Within text.now here × (length numbers.old ≡ number_limit) × (length readings.old ≡ number_limit) }
     ensures { Reads text.now left here numbers.new readings.new result }
 {
-    let at = here.at;
-    let line = here.line;
-    if text.len() <= at {
-        return end_at(here, !left);
+    if text.len() <= here.at {
+        return if left {
+            NextLine::Unknown
+        } else {
+            NextLine::Ended
+        };
     }
-    let end = find(text, at, b'\n');
+    let end = find(text, here.at, b'\n');
     if text.len() <= end {
-        return end_at(here, false);
+        return NextLine::Unknown;
     }
-    let request = read_line(&text[at..end], numbers);
-    put_readings(numbers, samples_end(request), readings);
-    NextLine {
+    let Some(request) = read_line(&text[here.at..end], numbers) else {
+        return NextLine::Unknown;
+    };
+    if let Request::LoadSamples { to, .. } = request {
+        put_readings(&numbers[..to], readings);
+    }
+    NextLine::Call {
         request,
-        ended: false,
-        here,
         next: Cursor {
             at: end + 1,
-            line: line + 1,
+            line: here.line + 1,
         },
     }
 }

@@ -9,24 +9,18 @@ pub mod step;
 ghost use Rattle.play.specs.Buffer.{PlaysAll};
 
 use passes::{fits, put_played};
+use refusal::Refusal;
 
 // How many bytes of its input the program reads.
 pub const INPUT_LIMIT: usize = 65_536;
 
-// The length of what was written, or that the buffer is too short.
-#[derive(Clone, Copy)]
-pub enum Output {
-    Written(usize),
-    TooShort,
-}
-
-// Plays a whole text of calls on a fresh record, and writes what it prints into the buffer. That it fits is known before the first byte is
-// written, so a buffer that is too short stays as it is.
-pub fn play(text: &[u8], buf: &mut [u8]) -> Output
+// Plays a whole text of calls on a fresh record, and writes what it prints into the buffer: its length is answered. That it fits is known before the
+// first byte is written, so a buffer that is too short stays as it is.
+pub fn play(text: &[u8], buf: &mut [u8]) -> Result<usize, Refusal>
     ensures { PlaysAll text.now buf.old buf.new result }
 {
     if !fits(text, buf.len()) {
-        return Output::TooShort;
+        return Err(Refusal::ShortBuffer);
     }
-    Output::Written(put_played(text, buf))
+    Ok(put_played(text, buf))
 }

@@ -4,26 +4,26 @@ ghost use Rattle.call_text.specs.Answers.{shown};
 ghost use Rattle.call_text.specs.inner.Answers.{Prints};
 ghost use Rattle.play.specs.Steps.{Reached, Steps};
 ghost use Rattle.play.specs.Text.{unknown_line};
-ghost use Rattle.play.specs.inner.Lines.{Says, is_call, told_with};
+ghost use Rattle.play.specs.inner.Lines.{told_with};
 
 use crate::call::call;
 use crate::cursor::{Cursor, NextLine, next_line};
-use call_text::answer::{Printed, Told, answer_line, nothing, one_number};
-use call_text::request::{NUMBERS, Request};
+use call_text::answer::{Printed, Told, answer_line, nothing, numbers_line};
+use call_text::request::NUMBERS;
 use record::{AxisAnswer, Record};
 
-// Whether the next line is to be played, where that one starts, and what this one prints.
+// Where the next line starts that is to be played, and what this one prints.
 #[derive(Clone, Copy)]
 pub struct Stepped {
-    pub more: bool,
-    pub next: Cursor,
+    pub next: Option<Cursor>,
     pub line: Printed,
 }
 
+#[tactic(auto, unfolding(crate::specs::Text::unknown_line))]
 fn unknown_line(k: u64) -> Printed
     ensures { Prints (unknown_line k) result }
 {
-    one_number(b'?', k)
+    numbers_line(b'?', &[k])
 }
 
 fn answered_line(answer: AxisAnswer, r: Record) -> Printed
@@ -40,50 +40,6 @@ fn answered_line(answer: AxisAnswer, r: Record) -> Printed
     })
 }
 
-fn is_call(request: Request) -> bool
-    ensures { result ≡ is_call request }
-{
-    match request {
-        Request::Load { .. } => true,
-        Request::LoadSamples { .. } => true,
-        Request::Turn { .. } => true,
-        Request::Sweep(_) => true,
-        Request::LoosePair { .. } => true,
-        Request::Axis { .. } => true,
-        Request::NoCall => false,
-        Request::TournamentSweep(_) => true,
-    }
-}
-
-// What a line prints, by its answer and the record after it.
-fn said(line: NextLine, answer: AxisAnswer, r: Record) -> Stepped
-    requires { r.solver.n ≤ 8 }
-    ensures { Says line answer r result }
-{
-    let request = line.request;
-    let here = line.here;
-    let next = line.next;
-    if line.ended {
-        return Stepped {
-            more: false,
-            next: here,
-            line: nothing(),
-        };
-    }
-    if !is_call(request) {
-        return Stepped {
-            more: false,
-            next: here,
-            line: unknown_line(here.number()),
-        };
-    }
-    Stepped {
-        more: true,
-        next,
-        line: answered_line(answer, r),
-    }
-}
-
 // Plays the line at the cursor on the record that the lines before it left.
 pub fn step(r: &mut Record, text: &[u8], left: bool, here: Cursor) -> Stepped
     requires { Reached text.now r.old here }
@@ -91,7 +47,21 @@ pub fn step(r: &mut Record, text: &[u8], left: bool, here: Cursor) -> Stepped
 {
     let mut numbers = [0i64; NUMBERS];
     let mut readings = [0u32; NUMBERS];
-    let line = next_line(text, left, here, &mut numbers, &mut readings);
-    let answer = call(r, line.request, &numbers, &readings);
-    said(line, answer, *r)
+    match next_line(text, left, here, &mut numbers, &mut readings) {
+        NextLine::Ended => Stepped {
+            next: None,
+            line: nothing(),
+        },
+        NextLine::Unknown => Stepped {
+            next: None,
+            line: unknown_line(here.number()),
+        },
+        NextLine::Call { request, next } => {
+            let answer = call(r, request, &numbers, &readings);
+            Stepped {
+                next: Some(next),
+                line: answered_line(answer, *r),
+            }
+        }
+    }
 }

@@ -16,7 +16,7 @@ use Rattle.call_text.specs.Requests.{leading, left_by, onward}
 use Rattle.call_text.specs.inner.Read.{counted, fields_by}
 use Rattle.call_text.specs.declared.line.Fields.{Fields}
 
-pub all-lead : (fs : List (List ℕ)) (ys : List ℤ) → each_number fs ≡ Some ys → (leading fs ≡ ys) × (length ys ≡ length fs)
+all-lead : (fs : List (List ℕ)) (ys : List ℤ) → each_number fs ≡ Some ys → (leading fs ≡ ys) × (length ys ≡ length fs)
 unfolding each_number leading onward
 all-lead [] ys e = let q : [] ≡ ys = cc in (q, rw (← q))
 all-lead (f ∷ fs) ys e = by (signed_of f) (each_number fs) (λ xs q. all-lead fs xs q) e

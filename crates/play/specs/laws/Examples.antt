@@ -4,7 +4,7 @@ use Rattle.integer.specs.Matrix.{matrix_of}
 use Rattle.integer.specs.Within.{all_within, within}
 use Rattle.text.specs.Ascii.{ascii}
 use Rattle.text.specs.Numeral.{leading_zero, value_from}
-use Rattle.text.specs.Parts.{before, onto, split}
+use Rattle.text.specs.Parts.{onto, split}
 use Rattle.readings.specs.Refusal.{number_refusal, samples_refusal}
 use Rattle.ledger.specs.Bench.{is_bench}
 use Rattle.ledger.specs.Refusal.{equal, refusal_under, symmetric}
@@ -15,7 +15,8 @@ use Rattle.text.specs.Decimal.{digits, digits_by}
 use Rattle.call_text.specs.Answers.{answer_line, shown, shown_as, told_of}
 use Rattle.call_text.specs.Calls.{argument, call_by, call_of, call_of_fields, call_within, load_by}
 use Rattle.call_text.specs.Calls.{named, named_by, number_limit, one_by, reading, samples_by}
-use Rattle.call_text.specs.Calls.{sweep_by, turn_by, with_numbers}
+use Rattle.call_text.specs.Calls.{sweep_by, turn_by}
+use Rattle.call_text.specs.Fields.{of_fields, with_numbers}
 use Rattle.call_text.specs.Numbers.{each_number, numeral, signed_of, stands_for, unsigned_of, with_minus, without_minus}
 use Rattle.text.specs.Line.{further, line}
 use Rattle.play.specs.Text.{line_then, played, played_from, unknown_line}
@@ -48,9 +49,9 @@ examples :
     -- after a load: t of −1 and of 10,000,000,000; i of −1 and of 2^64 + 1
     × (played false (ascii "L\t1\t2\t1\t0\t0\t1\nQ\t1\t-1\nQ\t1\t10000000000\n") ≡ ascii "L\nX\t2\t1\t0\t0\t0\nX\t2\t2\t0\t0\t0\n")
     × (played false (ascii "L\t1\t2\t1\t0\t0\t1\nA\t1\t-1\nA\t1\t18446744073709551617\n") ≡ ascii "L\nX\t9\t1\t0\t0\t0\nX\t9\t2\t0\t0\t0\n")
-unfolding ascii played played_from line_then unknown_line split onto call_of call_within number_limit call_of_fields with_numbers named_by named
+unfolding ascii played played_from line_then unknown_line split onto call_of call_within number_limit call_of_fields of_fields with_numbers named_by named
     call_by load_by
-    turn_by sweep_by one_by argument each_number before signed_of with_minus without_minus unsigned_of stands_for numeral leading_zero value_from
+    turn_by sweep_by one_by argument each_number signed_of with_minus without_minus unsigned_of stands_for numeral leading_zero value_from
     all_within
     within answer_line told_of shown shown_as row_to row_of is_bench answer_to record_after_under called_under raised counted fresh unloaded
     after_of_under
@@ -69,9 +70,9 @@ benches :
     -- nor with a matrix loaded
     × (played false (ascii "L\t1\t2\t1\t0\t0\t1\nT\t0\t2\t1\nO\t5\nM\t6\t9\t0\n") ≡
     ascii "L\nX\t15\t0\t0\t0\t0\nX\t15\t0\t0\t0\t0\nX\t15\t0\t0\t0\t0\n")
-unfolding ascii played played_from line_then unknown_line split onto call_of call_within number_limit call_of_fields with_numbers named_by named
+unfolding ascii played played_from line_then unknown_line split onto call_of call_within number_limit call_of_fields of_fields with_numbers named_by named
     call_by load_by
-    turn_by sweep_by one_by argument each_number before signed_of with_minus without_minus unsigned_of stands_for numeral leading_zero value_from
+    turn_by sweep_by one_by argument each_number signed_of with_minus without_minus unsigned_of stands_for numeral leading_zero value_from
     all_within
     within answer_line told_of shown shown_as row_to row_of is_bench answer_to record_after_under called_under raised counted fresh unloaded
     after_of_under
@@ -88,9 +89,9 @@ samples :
     × (played false (ascii "M\t1\t2\n") ≡ ascii "?\t1\n")
     × (played false (ascii "M\t1\t2\t-1\n") ≡ ascii "?\t1\n")
     × (played false (ascii "M\t1\t2\t2\t1\n") ≡ ascii "?\t1\n")
-unfolding ascii played played_from line_then unknown_line split onto call_of call_within number_limit call_of_fields with_numbers named_by named
+unfolding ascii played played_from line_then unknown_line split onto call_of call_within number_limit call_of_fields of_fields with_numbers named_by named
     call_by
-    samples_by reading samples_refusal number_refusal argument each_number before signed_of with_minus without_minus unsigned_of stands_for
+    samples_by reading samples_refusal number_refusal argument each_number signed_of with_minus without_minus unsigned_of stands_for
     numeral leading_zero
     value_from all_within within answer_line told_of shown shown_as row_to row_of is_bench answer_to record_after_under called_under raised
     counted fresh unloaded

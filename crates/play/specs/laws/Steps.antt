@@ -5,7 +5,7 @@ use Rattle.std.proofs.Math.Path.{refl, sym}
 use Rattle.std.proofs.Common.{ap, ◌∙◌, arith, ltb-true, ltb-false}
 use Rattle.std.proofs.Math.Bool.{true, false, not}
 use mathlib.Core.List.{List, [], ◌∷◌, ◌++◌, append_assoc, append-nil}
-use Rattle.std.proofs.Math.Option.{Option, none, some}
+use Rattle.std.proofs.Common.{None, Option, Some}
 use Rattle.std.proofs.Math.ListN.{length}
 use Rattle.std.proofs.Math.Seq.{take-append_seam}
 use Rattle.ledger.specs.Bench.{NamedCall}
@@ -70,29 +70,34 @@ printed_by z = take z.line.len z.line.bytes
 abbrev pub rest : List ℕ → Bool → Record → Cursor → List ℕ
 rest text left r here = played_from left r here.line (lines_from text here)
 
+-- the same, where there may be no more
+abbrev pub onward : List ℕ → Bool → Record → Option Cursor → List ℕ
+onward text left r None = []
+onward text left r (Some here) = rest text left r here
+
 module _ (text : List ℕ) (left : Bool) (r : Record) (here : Cursor) where
   line-number : (size : ℕ) → (past_line here size).line ≡ here.line + 1
   unfolding past_line
   line-number size = refl
 
-  whole-line : (more : Bool) (next : Cursor) (u : List ℕ) → printed_by record { more = more; next = next; line = line_printed u } ≡ u
+  whole-line : (next : Option Cursor) (u : List ℕ) → printed_by record { next = next; line = line_printed u } ≡ u
   unfolding printed_by line_printed
-  whole-line more next u = take-append_seam u _
+  whole-line next u = take-append_seam u _
 
   -- what a step prints, and what follows it, where the parts from its cursor on are these
   abbrev Goes : List (List ℕ) → Type 0
   Goes parts =
       let z = stepped left r here parts in
-      played_from left r here.line parts ≡ printed_by z ++ cond z.more (rest text left (after_call r (first_call parts)) z.next) []
+      played_from left r here.line parts ≡ printed_by z ++ onward text left (after_call r (first_call parts)) z.next
 
-  alone : (u : List ℕ) → u ≡ printed_by (stopped_at here u) ++ []
+  alone : (u : List ℕ) → u ≡ printed_by (stopped_at u) ++ []
   unfolding stopped_at
-  alone u = sym (append-nil _ ∙ whole-line false here u)
+  alone u = sym (append-nil _ ∙ whole-line None u)
 
   -- the last part, by whether it is no line: t
   last : (t : Bool) → cond t [] (unknown_line here.line) ≡
-      (let z = cond t (stopped_at here []) (stopped_at here (unknown_line here.line)) in
-      printed_by z ++ cond z.more (rest text left r z.next) [])
+      (let z = cond t (stopped_at []) (stopped_at (unknown_line here.line)) in
+      printed_by z ++ onward text left r z.next)
   unfolding stopped_at
   last true = alone []
   last false = alone (unknown_line here.line)
@@ -100,10 +105,10 @@ module _ (text : List ℕ) (left : Bool) (r : Record) (here : Cursor) where
   -- a line, by its call: o
   called : (line part : List ℕ) (parts : List (List ℕ)) → lines_from text here ≡ line ∷ part ∷ parts → (o : Option NamedCall)
       → line_then r here.line o (λ next. played_from left next (here.line + 1) (part ∷ parts))
-      ≡ (let z = stepped_by r here (length line) o in printed_by z ++ cond z.more (rest text left (after_call r o) z.next) [])
+      ≡ (let z = stepped_by r here (length line) o in printed_by z ++ onward text left (after_call r o) z.next)
   unfolding line_then stepped_by stopped_at after_call
-  called line part parts q none = alone (unknown_line here.line)
-  called line part parts q (some call) = rw (lines-on text here line part parts q, line-number (length line), whole-line true _ _)
+  called line part parts q None = alone (unknown_line here.line)
+  called line part parts q (Some call) = rw (lines-on text here line part parts q, line-number (length line), whole-line _ _)
 
   goes : (parts : List (List ℕ)) → lines_from text here ≡ parts → Goes parts
   unfolding played_from stepped stopped_at first_call after_call
@@ -113,13 +118,13 @@ module _ (text : List ℕ) (left : Bool) (r : Record) (here : Cursor) where
 
 -- z is the step at a cursor, and next the record after it
 module _ (text : List ℕ) (left : Bool) (here : Cursor) (r : Record) (z : Stepped) (next : Record) (s : Steps text left here r z next) where
-  pub prints : rest text left r here ≡ printed_by z ++ cond z.more (rest text left next z.next) []
+  pub prints : rest text left r here ≡ printed_by z ++ onward text left next z.next
   prints = rw s.leaves (rw (← s.is) at (goes text left r here (lines_from text here) refl))
 
-  pub prints-more : z.more ≡ true → rest text left r here ≡ printed_by z ++ rest text left next z.next
-  prints-more more = prints ∙ rw more
+  pub prints-more : (on : Cursor) → z.next ≡ Some on → rest text left r here ≡ printed_by z ++ rest text left next on
+  prints-more on more = prints ∙ rw more
 
-  pub prints-last : z.more ≡ false → rest text left r here ≡ printed_by z
+  pub prints-last : z.next ≡ None → rest text left r here ≡ printed_by z
   prints-last last = prints ∙ rw last (append-nil _)
 
 -- What the lines before a cursor print, and then what those from it on print on the record that they left, is what the text prints.
@@ -133,7 +138,7 @@ from_start text left = refl
 
 -- a line that is a call prints its answer, and what the lines after it print on the record after it follows
 from-line : (text : List ℕ) (left : Bool) (r : Record) (here : Cursor) (line part : List ℕ) (parts : List (List ℕ)) (call : NamedCall) →
-    lines_from text here ≡ line ∷ part ∷ parts → call_of line ≡ some call →
+    lines_from text here ≡ line ∷ part ∷ parts → call_of line ≡ Some call →
     rest text left r here ≡ answer_line r call ++ rest text left (record_after r call) (past_line here (length line))
 unfolding played_from line_then
 from-line text left r here line part parts call q c =

@@ -1,8 +1,8 @@
--- `play::call::call` meets its contract: a request is its call on the lent record, and one that is no call leaves the record.
+-- `play::call::call` meets its contract: a request is its call on the lent record.
 use mathlib.Core.Path.{refl}
 use Rattle.call_text.specs.Requests.{request_call}
 use Rattle.record.specs.Solver.{row_of}
-use Rattle.play.proofs.LentCalls.{answers-plain, answers-axis, answers-none}
+use Rattle.play.proofs.LentCalls.{answers-plain, answers-axis}
 use Rattle.play.proofs.call.call.Goals as goal
 
 pub returns-in-Load : goal.returns-in-Load
@@ -34,7 +34,3 @@ returns-in-TournamentSweep c = rw (c.in-TournamentSweep.is) (answers-plain _ _ _
 pub returns-in-Axis : goal.returns-in-Axis
 unfolding request_call
 returns-in-Axis c = rw c.in-Axis.is (answers-axis _ _ _ _ _ c.axis.ensures)
-
-pub returns-in-NoCall : goal.returns-in-NoCall
-unfolding request_call
-returns-in-NoCall c = rw c.in-NoCall.is (answers-none _ _ c.requires.0 c.plain-in-NoCall.ensures)

@@ -1,10 +1,5 @@
--- `passes::fits` meets its contract. The invariant: what the text prints is within the limit if what the lines from here on print is within
--- what is left of it.
-use Prim.Native.Nat.{◌-◌}
-use mathlib.Core.Path.{◌≡◌}
-use mathlib.Core.Bool.{false}
-use lib.Dec.{leb}
-use lib.ListN.{length}
+-- The invariant: what the text prints is within the limit if what the lines from here on print is within what is left of it.
+use Rattle.std.proofs.Common.{◌≡◌, ◌-◌, false, leb, length}
 use Rattle.play.specs.Steps.{Reached}
 use Rattle.play.specs.laws.Steps.{rest}
 use Rattle.play.specs.Text.{played}

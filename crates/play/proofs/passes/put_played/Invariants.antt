@@ -1,12 +1,10 @@
--- `passes::put_played` meets its contract. The invariant: what the lines so far print is written, and the next one is to be played on the
--- record that they left.
-use Prim.Native.Nat.{◌-◌}
-use lib.ListN.{length}
+-- The invariant: what the lines so far print is written, and the next one is to be played on the record that they left.
+use Rattle.std.proofs.Common.{◌-◌, length}
 use Rattle.play.proofs.Passing.{Wrote}
 use Rattle.play.proofs.passes.put_played.Given as goal
 
-abbrev pub invariant-loop-own : goal.invariant-loop-own
-invariant-loop-own l = Wrote l.text l.r l.here l.initial.buf l.buf l.end
+abbrev pub invariant-loop-next : goal.invariant-loop-next
+invariant-loop-next l = Wrote l.text l.r l.here l.initial.buf l.buf l.end
 
-abbrev pub decreases-loop-own : goal.decreases-loop-own
-decreases-loop-own l = length l.text - l.here.at
+abbrev pub decreases-loop-next : goal.decreases-loop-next
+decreases-loop-next l = length l.text - l.here.at
