@@ -17,10 +17,10 @@
 
 ghost use Rattle.std.specs.Prelude.{◌^◌, ◌<◌, ◌≤◌};
 ghost use Rattle.sums.specs.inner.Ranges.{Room};
-ghost use Rattle.test_tables.specs.Limit.{limit_of};
+ghost use Rattle.limits.specs.Limits.{most_count, most_dilution};
 
 use scatter::table::Table;
-use std::io;
+use std::{array, io};
 
 fn draw(a: u64) -> u64
     requires { a < 2 ^ 32 }
@@ -34,30 +34,22 @@ fn samples_of(c: u64) -> usize
     requires { c < 210 }
     ensures { result ≤ 256 }
 {
-    if c % 5 == 0 {
-        return 2;
+    match c % 5 {
+        0 => 2,
+        1 => 256,
+        _ => (2 + draw(c) % 255) as usize,
     }
-    if c % 5 == 1 {
-        return 256;
-    }
-    (2 + draw(c) % 255) as usize
 }
 
 fn dilution_at(c: u64, s: u64) -> u64
     requires { (c < 210) × (s < 2048) }
     ensures { result ≤ 100 }
 {
-    let kind = c / 7 % 6;
-    if kind == 1 || kind == 2 {
-        return 100;
-    }
-    if kind == 3 {
-        return 1 + draw(2048 * c + s) % 100;
-    }
-    if kind == 5 {
-        if draw(2048 * c + s) % 2 == 0 { 1 } else { 100 }
-    } else {
-        1
+    match c / 7 % 6 {
+        1 | 2 => 100,
+        3 => 1 + draw(2048 * c + s) % 100,
+        5 if draw(2048 * c + s) % 2 == 1 => 100,
+        _ => 1,
     }
 }
 
@@ -65,46 +57,29 @@ fn count_at(c: u64, n: u64, p: u64) -> u64
     requires { (c < 210) × (0 < n) × (p < 2048) }
     ensures { result ≤ 65_535 }
 {
-    let kind = c / 7 % 6;
-    if kind == 0 {
-        return 0;
+    match c / 7 % 6 {
+        0 => 0,
+        1 => 65535,
+        2 if p / n % 2 == p % n % 2 => 65535,
+        2 => 0,
+        4 => draw(2048 * c + p) % 8,
+        _ => draw(2048 * c + p),
     }
-    if kind == 1 {
-        return 65535;
-    }
-    if kind == 2 {
-        return if p / n % 2 == p % n % 2 { 65535 } else { 0 };
-    }
-    if kind == 4 {
-        return draw(2048 * c + p) % 8;
-    }
-    draw(2048 * c + p)
 }
 
-// A count or a dilution.
-fn reading_at(c: u64, n: u64, counts: bool, p: u64) -> u32
-    requires { (c < 210) × (0 < n) × (p < 2048) }
-    ensures { result ≤ limit_of counts }
+// More dilutions than a set has samples, and more counts than it holds.
+fn dilutions_of(c: u64) -> [u32; 256]
+    requires { c < 210 }
+    ensures { Room 256 most_dilution result }
 {
-    if counts {
-        count_at(c, n, p) as u32
-    } else {
-        dilution_at(c, p) as u32
-    }
+    array::from_fn(|s| dilution_at(c, s as u64) as u32)
 }
 
-// The counts or the dilutions of a set; more of them than it holds.
-fn readings_of(c: u64, n: u64, counts: bool) -> [u32; 2048]
+fn counts_of(c: u64, n: u64) -> [u32; 2048]
     requires { (c < 210) × (0 < n) }
-    ensures { Room 2048 (limit_of counts) result }
+    ensures { Room 2048 most_count result }
 {
-    let mut readings = [0u32; 2048];
-    let mut p = 0;
-    while p < 2048 {
-        readings[p] = reading_at(c, n, counts, p as u64);
-        p += 1;
-    }
-    readings
+    array::from_fn(|p| count_at(c, n, p as u64) as u32)
 }
 
 fn channels_of(c: u64) -> usize
@@ -118,8 +93,8 @@ fn table_at(c: u64) -> Table
 {
     let n = channels_of(c);
     let k = samples_of(c);
-    let dilutions = readings_of(c, n as u64, false);
-    let counts = readings_of(c, n as u64, true);
+    let dilutions = dilutions_of(c);
+    let counts = counts_of(c, n as u64);
     let held = n * k;
     scatter::table::table_of_readings(n, &dilutions[..k], &counts[..held])
 }
