@@ -4,49 +4,29 @@
 mod samples;
 
 ghost use Rattle.std.specs.Prelude.{◌≤◌, length};
-ghost use Rattle.readings.specs.Ranges.{Readings};
 ghost use Rattle.text.specs.Put.{Put, Sized};
 ghost use Rattle.job_text.specs.Writer.{WritesJobText};
 ghost use Rattle.job_text.specs.inner.Lines.{text_of_lines};
 
 use refusal::Refusal;
-use samples::{put_samples, samples_length};
+use samples::Samples;
 use text::line::{numbers_length, put_line};
 
 // The length of the text, whose first line has the three numbers of `first`, and whose last has the one of `last`.
-fn text_length(
-    first: &[i64; 3],
-    n: usize,
-    dilutions: &[u32],
-    counts: &[u32],
-    last: &[i64; 1],
-) -> usize
-    requires { Readings n dilutions.now counts.now }
-    ensures { Sized (text_of_lines first.now n dilutions.now counts.now last.now) 49152 result }
+fn text_length(first: &[i64; 3], samples: &Samples, last: &[i64; 1]) -> usize
+    ensures { Sized (text_of_lines first.now samples.now.n samples.now.dilutions.now samples.now.counts.now last.now) 49152 result }
 {
-    numbers_length(first, 3)
-        + 2
-        + samples_length(n, dilutions, counts)
-        + numbers_length(last, 1)
-        + 2
+    numbers_length(first, 3) + 2 + samples.length() + numbers_length(last, 1) + 2
 }
 
 // Each line's writer gets the buffer's part from where the last line ended.
-fn put_text(
-    out: &mut [u8],
-    first: &[i64; 3],
-    n: usize,
-    dilutions: &[u32],
-    counts: &[u32],
-    last: &[i64; 1],
-) -> usize
-    requires { Readings n dilutions.now counts.now
-        × (length (text_of_lines first.now n dilutions.now counts.now last.now) ≤ length out.old) }
-    ensures { Put (text_of_lines first.now n dilutions.now counts.now last.now) 0
+fn put_text(out: &mut [u8], first: &[i64; 3], samples: &Samples, last: &[i64; 1]) -> usize
+    requires { length (text_of_lines first.now samples.now.n samples.now.dilutions.now samples.now.counts.now last.now) ≤ length out.old }
+    ensures { Put (text_of_lines first.now samples.now.n samples.now.dilutions.now samples.now.counts.now last.now) 0
         out.old out.new result }
 {
     let mut at = put_line(out, b'P', first, 3);
-    at = put_samples(out, at, n, dilutions, counts);
+    at = samples.put(out, at);
     at + put_line(&mut out[at..], b'E', last, 1)
 }
 
@@ -63,11 +43,16 @@ pub fn write_job(
     ensures { WritesJobText n limit tolerance dilutions.now counts.now out.old out.new result }
 {
     readings::check_job(n, limit, tolerance, dilutions, counts)?;
+    let samples = Samples {
+        n,
+        dilutions,
+        counts,
+    };
     let first = [n as i64, limit as i64, tolerance as i64];
     let last = [dilutions.len() as i64];
-    let length = text_length(&first, n, dilutions, counts, &last);
+    let length = text_length(&first, &samples, &last);
     if out.len() < length {
         return Err(Refusal::ShortBuffer);
     }
-    Ok(put_text(out, &first, n, dilutions, counts, &last))
+    Ok(put_text(out, &first, &samples, &last))
 }

@@ -1,5 +1,5 @@
-// The lines of a job's samples: how long they are together, and the writer.
-ghost use Rattle.std.specs.Prelude.{◌≡◌, map, ◌+◌, ◌*◌, ◌<◌, ◌≤◌, pos, length, take};
+// The samples of a job: how long their lines are together, and the writer.
+ghost use Rattle.std.specs.Prelude.{◌≡◌, map, ◌+◌, ◌<◌, ◌≤◌, pos, length, take};
 ghost use Rattle.readings.specs.Ranges.{Readings};
 ghost use Rattle.text.specs.Put.{Put, Sized};
 ghost use Rattle.job_text.specs.JobText.{sample_numbers};
@@ -7,60 +7,51 @@ ghost use Rattle.job_text.specs.inner.Lines.{sample_lines};
 
 use text::line::{numbers_length, put_line};
 
-fn wide(x: u32) -> i64
-    ensures { result ≡ pos x }
-{
-    x as i64
+// A dilution and n counts to each of them, within their ranges.
+#[derive(Clone, Copy)]
+pub(crate) struct Samples<'a> {
+    pub(crate) n: usize,
+    pub(crate) dilutions: &'a [u32],
+    pub(crate) counts: &'a [u32],
+    ghost readings: { Readings n dilutions.now counts.now },
 }
 
-// The dilution and the n counts of sample i.
-fn sample_numbers(n: usize, dilutions: &[u32], counts: &[u32], i: usize) -> [i64; 9]
-    requires { Readings n dilutions.now counts.now × (i < length dilutions.now) }
-    ensures { (length result ≡ 9) × (take (n + 1) result ≡ map pos (sample_numbers n dilutions.now counts.now i)) }
-{
-    let mut numbers = [0; 9];
-    numbers[0] = wide(dilutions[i]);
-    let from = n * i;
-    let mut j = 0;
-    while j < n {
-        numbers[j + 1] = wide(counts[from + j]);
-        j += 1;
+impl Samples<'_> {
+    // The dilution and the n counts of sample i.
+    fn numbers(&self, i: usize) -> [i64; 9]
+        requires { i < length self.now.dilutions.now }
+        ensures { (length result ≡ 9)
+            × (take (self.now.n + 1) result ≡ map pos (sample_numbers self.now.n self.now.dilutions.now self.now.counts.now i)) }
+    {
+        let mut numbers = [0; 9];
+        numbers[0] = i64::from(self.dilutions[i]);
+        let from = self.n * i;
+        for (j, count) in self.counts[from..from + self.n].iter().enumerate() {
+            numbers[j + 1] = i64::from(*count);
+        }
+        numbers
     }
-    numbers
-}
 
-// The length of all lines.
-pub(crate) fn samples_length(n: usize, dilutions: &[u32], counts: &[u32]) -> usize
-    requires { Readings n dilutions.now counts.now }
-    ensures { Sized (sample_lines n dilutions.now counts.now) 48896 result }
-{
-    let mut total = 0;
-    let mut i = 0;
-    while i < dilutions.len() {
-        let numbers = sample_numbers(n, dilutions, counts, i);
-        total = total + numbers_length(&numbers, n + 1) + 2;
-        i += 1;
+    // The length of all lines.
+    pub(crate) fn length(&self) -> usize
+        ensures { Sized (sample_lines self.now.n self.now.dilutions.now self.now.counts.now) 48896 result }
+    {
+        let mut total = 0;
+        for i in 0..self.dilutions.len() {
+            total += numbers_length(&self.numbers(i), self.n + 1) + 2;
+        }
+        total
     }
-    total
-}
 
-// Each line's writer gets the buffer's part from where the last line ended.
-pub(crate) fn put_samples(
-    out: &mut [u8],
-    from: usize,
-    n: usize,
-    dilutions: &[u32],
-    counts: &[u32],
-) -> usize
-    requires { Readings n dilutions.now counts.now × (from + length (sample_lines n dilutions.now counts.now) ≤ length out.old) }
-    ensures { Put (sample_lines n dilutions.now counts.now) from out.old out.new result }
-{
-    let mut at = from;
-    let mut i = 0;
-    while i < dilutions.len() {
-        let numbers = sample_numbers(n, dilutions, counts, i);
-        at += put_line(&mut out[at..], b'S', &numbers, n + 1);
-        i += 1;
+    // Each line's writer gets the buffer's part from where the last line ended.
+    pub(crate) fn put(&self, out: &mut [u8], from: usize) -> usize
+        requires { from + length (sample_lines self.now.n self.now.dilutions.now self.now.counts.now) ≤ length out.old }
+        ensures { Put (sample_lines self.now.n self.now.dilutions.now self.now.counts.now) from out.old out.new result }
+    {
+        let mut at = from;
+        for i in 0..self.dilutions.len() {
+            at += put_line(&mut out[at..], b'S', &self.numbers(i), self.n + 1);
+        }
+        at
     }
-    at
 }

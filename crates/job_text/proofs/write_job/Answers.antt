@@ -55,8 +55,8 @@ pub overflow_cast-first-3 : goal.overflow_cast-first-3
 overflow_cast-first-3 c =
     let t = (goal.at.overflow_cast-first-3 c).In_ok-check_job in record { sfits = omega (arith, tolerance-most (job t) (proper t)) }
 
-pub text_length-length-requires : goal.text_length-length-requires
-text_length-length-requires c = let t = (goal.at.text_length-length-requires c).In_ok-check_job in readings (job t) (proper t)
+pub invariant_of-samples : goal.invariant_of-samples
+invariant_of-samples c = let t = (goal.at.invariant_of-samples c).In_ok-check_job in record { readings = readings (job t) (proper t) }
 
 pub returns-then-out-length : goal.returns-then-out-length
 returns-then-out-length c =
@@ -65,9 +65,7 @@ returns-then-out-length c =
     (omega (arith, c.text_length-length.ensures.exact ∙ ap length (text (job t) (proper t)), c.if-out-length.true))
 
 pub put_text-requires : goal.put_text-requires
-put_text-requires c =
-    let t = (goal.at.put_text-requires c).In_ok-check_job in
-    (readings (job t) (proper t), omega (arith, c.text_length-length.ensures.exact, c.if-out-length.false))
+put_text-requires c = omega (arith, c.text_length-length.ensures.exact, c.if-out-length.false)
 
 pub returns : goal.returns
 returns c =
