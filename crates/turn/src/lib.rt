@@ -18,15 +18,13 @@ pub fn turn_axes(v: &mut [[i64; 8]; 8], n: usize, r: Rotation, p: usize, q: usiz
     ensures { v.new ≡ turn_axes n r p q v.old }
 {
     let back = r.inverse();
-    let mut j = 0;
-    while j < n {
+    for j in 0..n {
         let x = v[p][j];
         let y = v[q][j];
         let new_p = pair::turned(r, x, y);
         let new_q = pair::turned(back, y, x);
         v[p][j] = new_p;
         v[q][j] = new_q;
-        j += 1;
     }
 }
 
@@ -62,13 +60,11 @@ fn mirror(a: &mut [[i64; 8]; 8], n: usize, p: usize, q: usize)
     requires { (p < q) × (q < n) × (n ≤ 8) × Shaped a.old × (at a.old p q ≡ at a.old q p) }
     ensures { a.new ≡ square (mirror_of p q (at a.old) n) }
 {
-    let mut i = 0;
-    while i < n {
+    for i in 0..n {
         let x = a[p][i];
         let y = a[q][i];
         a[i][p] = x;
         a[i][q] = y;
-        i += 1;
     }
 }
 
