@@ -20,6 +20,3 @@ power_small l h = ltb→lt _ _ (up_to14 (λ k. ltb (4 ^ k) (2 ^ 29)) tt l h)
 
 pub sine : (l : ℕ) → l ≤ 14 → (1 * 2 ^ (l + 1)) % 2 ^ 64 ≡ 2 ^ (l + 1)
 sine l h = shifted_one (l + 1) (omega arith)
-
-pub sine-small : (l : ℕ) → l ≤ 14 → 2 ^ (l + 1) < 2 ^ 16
-sine-small l h = ltb→lt _ _ (up_to14 (λ k. ltb (2 ^ (k + 1)) (2 ^ 16)) tt l h)

@@ -32,7 +32,7 @@ impl Rotation {
     {
         Self {
             c: self.c,
-            s: 0 - self.s,
+            s: -self.s,
             n: self.n,
         }
     }
