@@ -1,17 +1,16 @@
 -- Laws of the loops that check the numbers of a load.
-use mathlib.Core.Path.{◌≡◌, refl, sym, ◌∙◌}
-use mathlib.Core.Bool.{Bool, true, false, true≢false, ◌&&◌}
-use mathlib.Core.List.{List}
-use Prim.Native.Nat.{ℕ, suc, ◌+◌, ◌*◌, ◌<◌, ◌≤◌}
+use mathlib.Core.Path.{◌≡◌, refl, sym, ap}
+use mathlib.Core.Bool.{Bool, true, false, ◌&&◌}
+use mathlib.Core.List.{List, [], ◌∷◌}
+use Rattle.std.specs.List.{list_all}
+use Prim.Native.Nat.{ℕ, ◌+◌, ◌*◌, ◌<◌, ◌≤◌}
 use native.Mathlib.Decide.{dec_lt}
 use native.Mathlib.Numerals.{add-one}
 use native.Mathlib.Omega.{arith}
 use lib.Dec.{T, leb}
-use lib.IntN.{ℤ, pos, negsuc, nat_abs}
-use lib.ListN.{length, get_or, drop}
-use lib.Seq.{drop-cons}
-use lib.Signed.{lt_z, le_z}
-use borrow.Author.Tests.{ltb-true, ltb-false, le-leb, lt-leb, eq-eqb}
+use lib.IntN.{ℤ, nat_abs}
+use lib.ListN.{length}
+use borrow.Author.Tests.{le-leb, eq-eqb}
 use Rattle.integer.specs.Range.{all}
 use Rattle.integer.specs.laws.Range.{below, from_each}
 use Rattle.ledger.specs.laws.Accepted.{equal_of, equal-same}
@@ -64,26 +63,11 @@ symmetric-left n a = same_test _ _ from_all from-left
         by_order i j h k (no l) (yes g) = equal_of _ _ (sym (equal-same (a j i) (a i j) (left j i k g)))
         by_order i j h k (no l) (no g) = let e : i ≡ j = omega arith in equal_of _ _ (rw e)
 
--- a number against −(l + 1) and l + 1, and against l + 1 in size
-pub beyond-below : (l : ℕ) (z : ℤ) → lt_z z (negsuc l) ≡ true → false ≡ leb (nat_abs z) (suc l)
-beyond-below l (pos n) e = absurd (true≢false (sym e))
-beyond-below l (negsuc n) e = sym (lt-leb (suc n) (suc l) (omega (arith, ltb-true)))
-
-pub not-below : (l : ℕ) (z : ℤ) → lt_z z (negsuc l) ≡ false → le_z z (pos (suc l)) ≡ leb (nat_abs z) (suc l)
-not-below l (pos n) e = refl
-not-below l (negsuc n) e = sym (le-leb (suc n) (suc l) (omega (arith, ltb-false)))
-
--- the numbers from place k on: whether number k is within decides whether all are, or the rest does
-module _ (xs : List ℤ) (k : ℕ) (h : k < length xs) (e : entries_within entry_limit xs ≡ entries_within entry_limit (drop k xs)) where
-  from : entries_within entry_limit xs ≡ (leb (nat_abs (get_or xs k (pos 0))) entry_limit && entries_within entry_limit (drop (k + 1) xs))
-  unfolding entries_within
-  from = e ∙ rw (add-one, drop-cons xs k (pos 0) h)
-
-  pub within-fails : leb (nat_abs (get_or xs k (pos 0))) entry_limit ≡ false → false ≡ entries_within entry_limit xs
-  within-fails t = sym (rw t at from)
-
-  pub within_more : leb (nat_abs (get_or xs k (pos 0))) entry_limit ≡ true → entries_within entry_limit xs ≡ entries_within entry_limit (drop (k + 1) xs)
-  within_more t = rw t at from
+-- the test of each number, as the library has it
+pub all-entries : (xs : List ℤ) → list_all (λ x. leb (nat_abs x) entry_limit) xs ≡ entries_within entry_limit xs
+unfolding entries_within
+all-entries [] = refl
+all-entries (x ∷ xs) = ap (λ b. leb (nat_abs x) entry_limit && b) (all-entries xs)
 
 -- the tests of a load after those of its size
 pub sized : (k : ℕ) (xs : List ℤ) → 2 ≤ k → k ≤ 8 → length xs ≡ k * k →

@@ -5,16 +5,23 @@ ghost use Rattle.ledger.specs.Call.{load, load_samples, sweep, tournament_sweep,
 ghost use Rattle.record.specs.Done.{AxisDone, Done, LooseDone};
 ghost use Rattle.record.specs.Kept.{Kept};
 
-use crate::{Answer, AxisAnswer, Record};
+use crate::{Answer, AxisAnswer, Record, Step};
+
+// A call by value on a lent record.
+fn lend<A, F: FnOnce(Record) -> Step<A>>(r: &mut Record, call: F) -> A
+    requires { F.pre call r.old }
+    ensures { F.post call r.old (record { answer = result; next = r.new }) }
+{
+    let done = call(*r);
+    *r = done.next;
+    done.answer
+}
 
 pub fn load(r: &mut Record, bench: usize, n: usize, numbers: &[i64]) -> Answer
     requires { Kept r.old }
     ensures { Done r.old (by bench (load n numbers.now)) result r.new }
 {
-    let done = (*r).load(bench, n, numbers);
-    let next = done.next;
-    *r = next;
-    done.answer
+    lend(r, |record| record.load(bench, n, numbers))
 }
 
 pub fn load_samples(
@@ -27,58 +34,40 @@ pub fn load_samples(
     requires { Kept r.old }
     ensures { Done r.old (by bench (load_samples n dilutions.now counts.now)) result r.new }
 {
-    let done = (*r).load_samples(bench, n, dilutions, counts);
-    let next = done.next;
-    *r = next;
-    done.answer
+    lend(r, |record| record.load_samples(bench, n, dilutions, counts))
 }
 
 pub fn turn(r: &mut Record, bench: usize, p: usize, q: usize) -> Answer
     requires { Kept r.old }
     ensures { Done r.old (by bench (turn p q)) result r.new }
 {
-    let done = (*r).turn(bench, p, q);
-    let next = done.next;
-    *r = next;
-    done.answer
+    lend(r, |record| record.turn(bench, p, q))
 }
 
 pub fn sweep(r: &mut Record, bench: usize) -> Answer
     requires { Kept r.old }
     ensures { Done r.old (by bench sweep) result r.new }
 {
-    let done = (*r).sweep(bench);
-    let next = done.next;
-    *r = next;
-    done.answer
+    lend(r, |record| record.sweep(bench))
 }
 
 pub fn tournament_sweep(r: &mut Record, bench: usize) -> Answer
     requires { Kept r.old }
     ensures { Done r.old (by bench tournament_sweep) result r.new }
 {
-    let done = (*r).tournament_sweep(bench);
-    let next = done.next;
-    *r = next;
-    done.answer
+    lend(r, |record| record.tournament_sweep(bench))
 }
 
 pub fn loose_pair(r: &mut Record, bench: usize, t: u64) -> Answer
     requires { Kept r.old }
     ensures { LooseDone r.old bench t result r.new }
 {
-    let done = (*r).loose_pair(bench, t);
-    let next = done.next;
-    *r = next;
-    done.answer
+    lend(r, |record| record.loose_pair(bench, t))
 }
 
 pub fn axis(r: &mut Record, bench: usize, i: usize) -> AxisAnswer
     requires { Kept r.old }
     ensures { AxisDone r.old bench i result r.new }
 {
-    let done = (*r).axis(bench, i);
-    let next = done.next;
-    *r = next;
-    done.answer
+    lend(r, |record| record.axis(bench, i))
 }

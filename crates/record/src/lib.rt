@@ -9,9 +9,10 @@ ghost use Rattle.record.specs.Kept.{Kept};
 ghost use Rattle.record.specs.Record.{counted, raised};
 ghost use Rattle.record.specs.RunDone.{RunDone, Runnable};
 ghost use Rattle.record.specs.declared.query.Answer.TheVariants.{Refused};
+ghost use Rattle.record.specs.declared.solver.SolverStep.{SolverStep};
 ghost use Rattle.record.specs.inner.Named.{counts_left, left_with};
 ghost use Rattle.refusal.specs.Refusal.{numbered};
-ghost use Rattle.std.specs.Prelude.{true, ◌≡◌};
+ghost use Rattle.std.specs.Prelude.{false, true, ◌≡◌};
 
 use ledger::Order;
 use refusal::Refusal;
@@ -37,8 +38,8 @@ pub struct Record {
 
 // A call's answer, and the record that it leaves.
 #[derive(Clone, Copy)]
-pub struct Step {
-    pub answer: Answer,
+pub struct Step<A = Answer> {
+    pub answer: A,
     pub next: Record,
 }
 
@@ -49,11 +50,7 @@ pub struct AxisAnswer {
     pub row: [i64; 8],
 }
 
-#[derive(Clone, Copy)]
-pub struct AxisStep {
-    pub answer: AxisAnswer,
-    pub next: Record,
-}
+pub type AxisStep = Step<AxisAnswer>;
 
 // One refused call more; the count stops at its limit.
 fn one_more(refused: u32) -> u32
@@ -80,10 +77,7 @@ fn raise(counts: [u32; 4], bench: usize) -> [u32; 4]
 fn is_bench(bench: usize) -> bool
     ensures { result ≡ is_bench bench }
 {
-    if bench < 1 {
-        return false;
-    }
-    bench <= Record::BENCHES
+    1 <= bench && bench <= Record::BENCHES
 }
 
 // The counts that a call of a bench leaves: 'A refused call raises its own bench's count and no other.'
@@ -95,20 +89,6 @@ fn counts_after(counts: [u32; 4], bench: usize, answer: Answer) -> [u32; 4]
         return raise(counts, bench);
     }
     counts
-}
-
-// What a call of a bench answers and leaves, by what it does to the state.
-fn answered(counts: [u32; 4], bench: usize, done: SolverStep) -> Step
-    requires { is_bench bench ≡ true }
-    ensures { (result.answer ≡ done.answer) × (result.next ≡ left_with counts bench done.answer done.next) }
-{
-    let answer = done.answer;
-    let solver = done.next;
-    let refused = counts_after(counts, bench, answer);
-    Step {
-        answer,
-        next: Record { solver, refused },
-    }
 }
 
 impl Record {
@@ -154,36 +134,28 @@ impl Record {
     pub fn channels(self) -> usize
         ensures { result ≡ self.solver.n }
     {
-        let solver = self.solver;
-        solver.channels()
+        self.solver.channels()
     }
 
     // How many turns were made of the matrix.
     pub fn turns(self) -> u64
         ensures { result ≡ self.solver.m }
     {
-        let solver = self.solver;
-        solver.turns()
+        self.solver.turns()
     }
 
     // The shift e of the table that was loaded, 0 for a plain load.
     pub fn shift(self) -> u32
         ensures { result ≡ self.solver.e }
     {
-        let solver = self.solver;
-        solver.shift()
+        self.solver.shift()
     }
 
     pub fn load(self, bench: usize, n: usize, numbers: &[i64]) -> Step
         requires { Kept self }
         ensures { Done self (by bench (load n numbers.now)) result.answer result.next }
     {
-        if !is_bench(bench) {
-            return self.no_bench();
-        }
-        let solver = self.solver;
-        let refused = self.refused;
-        answered(refused, bench, solver.load(n, numbers))
+        self.named(bench, |solver| solver.load(n, numbers))
     }
 
     // Document 02, W5: the second load, of the table of samples.
@@ -191,12 +163,7 @@ impl Record {
         requires { Kept self }
         ensures { Done self (by bench (load_samples n dilutions.now counts.now)) result.answer result.next }
     {
-        if !is_bench(bench) {
-            return self.no_bench();
-        }
-        let solver = self.solver;
-        let refused = self.refused;
-        answered(refused, bench, solver.load_samples(n, dilutions, counts))
+        self.named(bench, |solver| solver.load_samples(n, dilutions, counts))
     }
 
     // The load of a table, its entries and its e. It is no call and names no bench: a run, whose record is its own, begins with it.
@@ -215,12 +182,7 @@ impl Record {
         requires { Kept self }
         ensures { Done self (by bench (turn p q)) result.answer result.next }
     {
-        if !is_bench(bench) {
-            return self.no_bench();
-        }
-        let solver = self.solver;
-        let refused = self.refused;
-        answered(refused, bench, solver.turn(p, q))
+        self.named(bench, |solver| solver.turn(p, q))
     }
 
     pub fn sweep(self, bench: usize) -> Step
@@ -242,27 +204,20 @@ impl Record {
         requires { Kept self }
         ensures { Done self (by bench (sweep_in order)) result.answer result.next }
     {
-        if !is_bench(bench) {
-            return self.no_bench();
-        }
-        let solver = self.solver;
-        let refused = self.refused;
-        answered(refused, bench, solver.sweep_in(order))
+        self.named(bench, |solver| solver.sweep_in(order))
     }
 
     pub fn loose_pair(self, bench: usize, t: u64) -> Step
         requires { Kept self }
         ensures { LooseDone self bench t result.answer result.next }
     {
-        if !is_bench(bench) {
-            return self.no_bench();
-        }
-        let solver = self.solver;
-        let answer = solver.loose_pair(t);
-        Step {
-            answer,
-            next: self.asked(bench, answer),
-        }
+        self.named(
+            bench,
+            |solver| SolverStep {
+                answer: solver.loose_pair(t),
+                next: solver,
+            },
+        )
     }
 
     pub fn axis(self, bench: usize, i: usize) -> AxisStep
@@ -270,7 +225,7 @@ impl Record {
         ensures { AxisDone self bench i result.answer result.next }
     {
         if !is_bench(bench) {
-            return AxisStep {
+            return Step {
                 answer: AxisAnswer {
                     value: Answer::Refused(Refusal::NoSuchBench),
                     row: [0; 8],
@@ -278,12 +233,13 @@ impl Record {
                 next: self,
             };
         }
-        let solver = self.solver;
-        let answer = solver.axis(i);
-        let value = answer.value;
-        AxisStep {
+        let answer = self.solver.axis(i);
+        Step {
             answer,
-            next: self.asked(bench, value),
+            next: Record {
+                solver: self.solver,
+                refused: counts_after(self.refused, bench, answer.value),
+            },
         }
     }
 
@@ -292,39 +248,39 @@ impl Record {
         requires { Runnable self limit tolerance }
         ensures { RunDone self limit tolerance result }
     {
-        let solver = self.solver;
-        let ended = solver.run(limit, tolerance);
-        let outcome = ended.outcome;
-        let last = ended.last;
+        let ended = self.solver.run(limit, tolerance);
         let refused = self.refused;
         Run {
-            outcome,
+            outcome: ended.outcome,
             sweeps: ended.sweeps,
             last: Record {
-                solver: last,
+                solver: ended.last,
                 refused,
             },
         }
     }
 
-    // Document 02, W8: 'A bench outside 1 to 4 gives 15, tried before everything else, and raises no count.' An axis call has its own.
-    fn no_bench(self) -> Step
-        ensures { (result.answer ≡ Refused (numbered 15)) × (result.next ≡ self) }
+    // What a call of a bench answers and leaves, by what it does to the state. Document 02, W8: 'A bench outside 1 to 4 gives 15, tried before
+    // everything else, and raises no count.' An axis call has its own.
+    fn named<F: FnOnce(Solver) -> SolverStep>(self, bench: usize, call: F) -> Step
+        requires { F.pre call self.solver }
+        ensures outside { is_bench bench ≡ false → (result.answer ≡ Refused (numbered 15)) × (result.next ≡ self) }
+        ensures of_bench { is_bench bench ≡ true → (done : SolverStep) × F.post call self.solver done × (result.answer ≡ done.answer)
+            × (result.next ≡ left_with self.refused bench done.answer done.next) }
     {
-        Step {
-            answer: Answer::Refused(Refusal::NoSuchBench),
-            next: self,
+        if !is_bench(bench) {
+            return Step {
+                answer: Answer::Refused(Refusal::NoSuchBench),
+                next: self,
+            };
         }
-    }
-
-    // The record after a query of a bench, which leaves the state as it is.
-    fn asked(mut self, bench: usize, answer: Answer) -> Self
-        requires { is_bench bench ≡ true }
-        ensures { result ≡ left_with self.refused bench answer self.solver }
-    {
-        let refused = self.refused;
-        let counts = counts_after(refused, bench, answer);
-        self.refused = counts;
-        self
+        let done = call(self.solver);
+        Step {
+            answer: done.answer,
+            next: Record {
+                solver: done.next,
+                refused: counts_after(self.refused, bench, done.answer),
+            },
+        }
     }
 }

@@ -23,14 +23,7 @@ fn is_within(x: i64) -> bool
 fn all_within(numbers: &[i64]) -> bool
     ensures { result ≡ entries_within entry_limit numbers.now }
 {
-    let mut k = 0;
-    while k < numbers.len() {
-        if !is_within(numbers[k]) {
-            return false;
-        }
-        k += 1;
-    }
-    true
+    numbers.iter().all(|x| is_within(*x))
 }
 
 // Whether row i of the n×n numbers is the mirror of column i, left of the diagonal.
@@ -38,12 +31,10 @@ fn row_mirrored(n: usize, numbers: &[i64], i: usize) -> bool
     requires { (i < n) × (n ≤ 8) × (length numbers.now ≡ n * n) }
     ensures { result ≡ all (λ j. equal (matrix_of n numbers.now i j) (matrix_of n numbers.now j i)) i }
 {
-    let mut j = 0;
-    while j < i {
+    for j in 0..i {
         if numbers[i * n + j] != numbers[j * n + i] {
             return false;
         }
-        j += 1;
     }
     true
 }
@@ -52,12 +43,10 @@ fn is_symmetric(n: usize, numbers: &[i64]) -> bool
     requires { (n ≤ 8) × (length numbers.now ≡ n * n) }
     ensures { result ≡ symmetric n (matrix_of n numbers.now) }
 {
-    let mut i = 0;
-    while i < n {
+    for i in 0..n {
         if !row_mirrored(n, numbers, i) {
             return false;
         }
-        i += 1;
     }
     true
 }
@@ -93,14 +82,10 @@ pub(crate) fn load_matrix(matrix: &mut [[i64; 8]; 8], n: usize, numbers: &[i64])
     requires { (matrix.old ≡ blank) × (n ≤ 8) × (length numbers.now ≡ n * n) × (entries_within entry_limit numbers.now ≡ true) }
     ensures { matrix.new ≡ square (in_use n (λ i j. pos units *ℤ matrix_of n numbers.now i j)) }
 {
-    let mut i = 0;
-    while i < n {
-        let mut j = 0;
-        while j < n {
+    for i in 0..n {
+        for j in 0..n {
             matrix[i][j] = loaded_entry(n, numbers, i, j);
-            j += 1;
         }
-        i += 1;
     }
 }
 
@@ -109,9 +94,7 @@ pub(crate) fn load_axes(axes: &mut [[i64; 8]; 8], n: usize)
     requires { (axes.old ≡ blank) × (n ≤ 8) }
     ensures { axes.new ≡ square (in_use n (diagonal (pos whole))) }
 {
-    let mut i = 0;
-    while i < n {
+    for i in 0..n {
         axes[i][i] = Record::WHOLE;
-        i += 1;
     }
 }

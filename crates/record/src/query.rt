@@ -73,17 +73,13 @@ pub(crate) fn loose_pair_of(a: &[[i64; 8]; 8], n: usize, t: u64) -> Answer
     ensures { result ≡ loose_of (at a.now) t (cyclic n) }
 {
     let mut answer = Answer::NoPair;
-    let mut p = 0;
-    'search: while p < n {
-        let mut q = p + 1;
-        while q < n {
+    'search: for p in 0..n {
+        for q in p + 1..n {
             if t < entry_size(a, p, q) {
                 answer = Answer::Pair { p: p + 1, q: q + 1 };
                 break 'search;
             }
-            q += 1;
         }
-        p += 1;
     }
     answer
 }
@@ -117,10 +113,8 @@ pub(crate) fn error_of(a: &[[i64; 8]; 8], n: usize, e: u32, m: u64, i: usize) ->
     ensures { result ≡ error_of n e (at a.now) m i }
 {
     let mut sum = 0;
-    let mut j = 0;
-    while j < n {
+    for j in 0..n {
         sum += off_diagonal(a, i, j);
-        j += 1;
     }
     sum + (7 * m + 1) / 2 + table_error(e, n)
 }

@@ -9,42 +9,28 @@ pub fn row(a: &[i64; 64], i: usize) -> [i64; 8]
 {
     let start = 8 * i;
     let mut row = [0i64; 8];
-    let mut j = 0;
-    while j < 8 {
-        row[j] = a[start + j];
-        j += 1;
-    }
+    row.copy_from_slice(&a[start..start + 8]);
     row
 }
 
 pub(crate) fn unpacked(a: &[i64; 64]) -> [[i64; 8]; 8]
     ensures { result ≡ rows_of a.now }
 {
-    [
-        row(a, 0),
-        row(a, 1),
-        row(a, 2),
-        row(a, 3),
-        row(a, 4),
-        row(a, 5),
-        row(a, 6),
-        row(a, 7),
-    ]
+    let mut rows = [[0i64; 8]; 8];
+    for i in 0..8 {
+        rows[i] = row(a, i);
+    }
+    rows
 }
 
 pub(crate) fn packed(b: [[i64; 8]; 8]) -> [i64; 64]
     ensures { result ≡ flat_of (at b) }
 {
     let mut a = [0i64; 64];
-    let mut i = 0;
-    while i < 8 {
-        let start = 8 * i;
-        let mut j = 0;
-        while j < 8 {
-            a[start + j] = b[i][j];
-            j += 1;
+    for i in 0..8 {
+        for j in 0..8 {
+            a[8 * i + j] = b[i][j];
         }
-        i += 1;
     }
     a
 }

@@ -212,14 +212,10 @@ pub(crate) fn work_pairs(
     let rows = rows_of(order, n);
     let columns = columns_of(order, n);
     let mut made = m;
-    let mut row = 0;
-    while row < rows {
-        let mut column = first_of(order, row);
-        while column < columns {
+    for row in 0..rows {
+        for column in first_of(order, row)..columns {
             made = work_place(matrix, axes, n, made, order, row, column);
-            column += 1;
         }
-        row += 1;
     }
     made
 }

@@ -1,0 +1,12 @@
+use Rattle.std.proofs.Common.{rules}
+use Rattle.ledger.specs.Call.{sweep_in}
+use Rattle.record.proofs.Benches.{named}
+use Rattle.record.specs.inner.Solved.{Solved}
+use Rattle.record.proofs.Record.sweep_in.Goals as goal
+
+pub returns : goal.returns
+returns c =
+    let call = sweep_in c.args.order in
+    named c.args.self c.args.bench call c.requires _ _
+    (λ done p. let solved : Solved c.args.self.solver call done.answer done.next = search rules in (solved.answers, solved.leaves))
+    c.named.ensures.outside c.named.ensures.of_bench
