@@ -2,8 +2,7 @@
 // an argument.
 #![tactic(auto)]
 
-ghost use Rattle.std.specs.Prelude.{◌≡◌, ◌≤◌, length, take};
-
+use input::read_readable;
 use job_pool::arguments::{put_wrong_argument, wrong_argument};
 use job_pool::texts::answer;
 use limits::MOST_BYTES;
@@ -34,28 +33,12 @@ fn words(rt: &impl Env) -> usize {
     }
 }
 
-// Reads until the buffer is full, the file ends or can't be read.
-fn read_full<F: Read>(file: &mut F, text: &mut [u8]) -> usize
-    ensures within { result ≤ length text.new }
-    ensures front { result ≡ length (take result text.new) }
-{
-    let mut at = 0;
-    while at < text.len() {
-        let n = file.read(&mut text[at..]).unwrap_or(0);
-        if n == 0 {
-            break;
-        }
-        at += n;
-    }
-    at
-}
-
 // Both files are read before either is judged.
 fn print_pooled<F: Read + Drop>(rt: &impl Print, mut first: F, mut second: F) -> io::Result<()> {
     let mut text1 = [0u8; MOST_BYTES];
-    let n1 = read_full(&mut first, &mut text1);
+    let n1 = read_readable(&mut first, &mut text1);
     let mut text2 = [0u8; MOST_BYTES];
-    let n2 = read_full(&mut second, &mut text2);
+    let n2 = read_readable(&mut second, &mut text2);
     let mut out = [0u8; 2048];
     let length = answer(&text1[..n1], &text2[..n2], &mut out);
     rt.write_all(&out[..length])
@@ -67,12 +50,12 @@ fn print_wrong(rt: &impl Print, number: u32) -> io::Result<()> {
     rt.write_all(&out[..length])
 }
 
+#[tactic(auto, unfolding(job_pool::specs::Arguments::wrong_argument))]
 fn main(rt: HostRuntime) -> io::Result<()> {
     let first = open_argument(&rt, 1);
     let second = open_argument(&rt, 2);
-    let number = wrong_argument(first.is_some(), second.is_some(), words(&rt));
-    match (first, second) {
-        (Some(first), Some(second)) if number == 0 => print_pooled(&rt, first, second),
-        _ => print_wrong(&rt, number),
+    match wrong_argument(first.is_some(), second.is_some(), words(&rt)) {
+        Some(number) => print_wrong(&rt, number),
+        None => print_pooled(&rt, first.unwrap(), second.unwrap()),
     }
 }
