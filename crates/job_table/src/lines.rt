@@ -1,32 +1,58 @@
 // The text of a job's table: job text in, the lines of its exact sums or the refusal out.
-ghost use Rattle.std.specs.Prelude.{◌≤◌, length, take};
+ghost use Rattle.std.specs.Prelude.{◌≡◌, ◌∷◌, [], ◌≤◌, length, pos, take};
 ghost use Rattle.job.specs.Job.{accepted};
 ghost use Rattle.job.specs.Reply.{Answers, Replies, printed_of};
 ghost use Rattle.job_table.specs.Held.{Held, job_in};
 ghost use Rattle.text.specs.Put.{Put, Sized};
 ghost use Rattle.text.specs.Rows.{Wide};
 ghost use Rattle.job_table.specs.inner.Done.{text_of_rows};
+ghost use Rattle.job_table.specs.inner.Rows.{table_rows};
 ghost use Rattle.job_table.specs.Table.{PutsTable, table_text};
 ghost use Rattle.limits.specs.Limits.{most_samples};
 
-use crate::rows;
+use crate::rows::rows_of;
 use job::{Job, RefusedLine};
 use refusal::Refusal;
 use scatter::table::Table;
+use text::line::{numbers_length, put_line, put_refusal};
+use text::rows::{put_rows, rows_length};
 
-fn text_length(head: &[i64; 3], n: usize, rows: &[[i64; 11]; 8]) -> usize
-    requires { (n ≤ 8) × Wide rows.now }
-    ensures { Sized (text_of_rows (take 3 head.now) n rows.now) 2048 result }
-{
-    text::line::numbers_length(head, 3) + 2 + text::rows::rows_length(rows, n, n + 1)
+// The numbers of a table's text: those of its first line, and rows, of which the first n are the table's.
+#[derive(Clone, Copy)]
+struct Lines {
+    head: [i64; 3],
+    n: usize,
+    rows: [[i64; 11]; 8],
+    ghost few: { n ≤ 8 },
+    ghost wide: { Wide rows },
 }
 
-fn put_text(buf: &mut [u8], head: &[i64; 3], n: usize, rows: &[[i64; 11]; 8]) -> usize
-    requires { (n ≤ 8) × Wide rows.now × (length (text_of_rows (take 3 head.now) n rows.now) ≤ length buf.old) }
-    ensures { Put (text_of_rows (take 3 head.now) n rows.now) 0 buf.old buf.new result }
-{
-    let at = text::line::put_line(buf, b'T', head, 3);
-    text::rows::put_rows(buf, at, b'S', rows, n, n + 1)
+impl Lines {
+    fn of(n: usize, k: usize, table: Table) -> Lines
+        requires { (n ≤ 8) × (k ≤ most_samples) }
+        ensures { (result.head ≡ pos n ∷ pos k ∷ pos table.e ∷ []) × (result.n ≡ n) × (result.rows ≡ table_rows n table.scatter) }
+    {
+        let sums = table.scatter;
+        Lines {
+            head: [n as i64, k as i64, i64::from(table.e)],
+            n,
+            rows: rows_of(n, &sums),
+        }
+    }
+
+    fn length(&self) -> usize
+        ensures { Sized (text_of_rows (take 3 self.now.head) self.now.n self.now.rows) 2048 result }
+    {
+        numbers_length(&self.head, 3) + 2 + rows_length(&self.rows, self.n, self.n + 1)
+    }
+
+    fn put(&self, buf: &mut [u8]) -> usize
+        requires { length (text_of_rows (take 3 self.now.head) self.now.n self.now.rows) ≤ length buf.old }
+        ensures { Put (text_of_rows (take 3 self.now.head) self.now.n self.now.rows) 0 buf.old buf.new result }
+    {
+        let at = put_line(buf, b'T', &self.head, 3);
+        put_rows(buf, at, b'S', &self.rows, self.n, self.n + 1)
+    }
 }
 
 // The length is known before the first byte is written, so a buffer that is too short stays as it is.
@@ -34,19 +60,15 @@ fn table_job(job: Job, buf: &mut [u8]) -> Result<usize, RefusedLine>
     requires { Held job }
     ensures { Answers table_text (accepted (job_in job)) buf.old buf.new result }
 {
-    let n = job.n;
     let table = crate::table_of(job);
-    let sums = table.scatter;
-    let head = [n as i64, job.k as i64, table.e as i64];
-    let rows = rows::rows_of(n, &sums);
-    let length = text_length(&head, n, &rows);
-    if buf.len() < length {
+    let lines = Lines::of(job.n, job.k, table);
+    if buf.len() < lines.length() {
         return Err(RefusedLine {
             refusal: Refusal::ShortBuffer,
             line: 0,
         });
     }
-    Ok(put_text(buf, &head, n, &rows))
+    Ok(lines.put(buf))
 }
 
 // The text of a table of k samples of n channels.
@@ -54,11 +76,9 @@ pub fn put_table(buf: &mut [u8; 2048], n: usize, k: usize, table: Table) -> usiz
     requires { (n ≤ 8) × (k ≤ most_samples) }
     ensures { PutsTable n k table buf.old buf.new result }
 {
-    let exact = table.scatter;
-    let head = [n as i64, k as i64, table.e as i64];
-    let rows = rows::rows_of(n, &exact);
-    let length = text_length(&head, n, &rows);
-    put_text(buf, &head, n, &rows);
+    let lines = Lines::of(n, k, table);
+    let length = lines.length();
+    lines.put(buf);
     length
 }
 
@@ -75,6 +95,6 @@ pub fn answer(text: &[u8], out: &mut [u8; 2048]) -> usize
 {
     match table_text(text, out) {
         Ok(length) => length,
-        Err(refused) => text::line::put_refusal(out, refused.refusal, refused.line),
+        Err(refused) => put_refusal(out, refused.refusal, refused.line),
     }
 }

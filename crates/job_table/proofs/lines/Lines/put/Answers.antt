@@ -2,17 +2,18 @@
 use Rattle.std.proofs.Common.{arith, length-append}
 use Rattle.text.specs.laws.Put.{put_then}
 use Rattle.job_table.specs.inner.Done.{text_of_rows}
-use Rattle.job_table.proofs.lines.put_text.Goals as goal
+use Rattle.job_table.proofs.lines.Lines.put.Goals as goal
 
 pub put_line-at-requires : goal.put_line-at-requires
 unfolding text_of_rows
-put_line-at-requires c = let sized = rw length-append at c.requires.2 in (omega arith, omega arith)
+put_line-at-requires c = let sized = rw length-append at c.requires in (omega arith, omega arith)
 
 pub put_rows-requires : goal.put_rows-requires
 unfolding text_of_rows
 put_rows-requires c =
-    let sized = rw length-append at c.requires.2 in
-    (c.requires.0, omega (arith, c.requires.0), c.requires.1, omega arith)
+    let sized = rw length-append at c.requires in
+    let few = c.args.self.now.few in
+    (few, omega arith, c.args.self.now.wide, omega arith)
 
 pub returns : goal.returns
 unfolding text_of_rows
