@@ -3,29 +3,19 @@
 // independent implementation.
 #![tactic(auto)]
 
-ghost use Rattle.std.specs.Prelude.{◌≤◌, ◌<◌, length};
+ghost use Rattle.std.specs.Prelude.{◌≤◌, ◌<◌, IfSome, length};
 
-use job::reply::Reply;
 use std::fs::File;
 use std::io;
 
-// The value of a digit, and 10 for another byte.
-fn digit(b: u8) -> usize
-    ensures { result ≤ 10 }
+// The value of a digit.
+fn digit(b: u8) -> Option<usize>
+    ensures { IfSome result (λ d. d ≤ 9) }
 {
-    if b < b'0' {
-        return 10;
+    match b {
+        b'0'..=b'9' => Some(usize::from(b - b'0')),
+        _ => None,
     }
-    if b'9' < b {
-        return 10;
-    }
-    (b - b'0') as usize
-}
-
-fn least(a: usize, b: usize) -> usize
-    ensures { (result ≤ a) × (result ≤ b) }
-{
-    if a < b { a } else { b }
 }
 
 // A number of the file, at most 65,536, and the place after the byte that ends it.
@@ -40,16 +30,19 @@ fn number_at(jobs: &[u8], from: usize) -> Number
     ensures { (from ≤ result.next) × (result.next ≤ length jobs.now) × (from < length jobs.now → from < result.next) }
 {
     let mut value = 0;
-    let mut at = from;
-    while at < jobs.len() {
-        let d = digit(jobs[at]);
-        at += 1;
-        if 9 < d {
-            return Number { value, next: at };
-        }
-        value = least(value * 10 + d, 65536);
+    for at in from..jobs.len() {
+        let Some(d) = digit(jobs[at]) else {
+            return Number {
+                value,
+                next: at + 1,
+            };
+        };
+        value = (value * 10 + d).min(65_536);
     }
-    Number { value, next: at }
+    Number {
+        value,
+        next: jobs.len(),
+    }
 }
 
 // A job: its bytes stand from `start` to before `end`, and its report has a buffer of `size` bytes.
@@ -68,9 +61,9 @@ fn next_job(jobs: &[u8], from: usize) -> Stored
     let size = number_at(jobs, length.next);
     let start = size.next;
     Stored {
-        size: least(size.value, 2048),
+        size: size.value.min(2048),
         start,
-        end: start + least(length.value, jobs.len() - start),
+        end: start + length.value.min(jobs.len() - start),
     }
 }
 
@@ -78,10 +71,9 @@ fn printed(text: &[u8], size: usize, out: &mut [u8]) -> usize
     requires { (size ≤ length out.old) × (44 ≤ length out.old) }
     ensures { result ≤ length out.old }
 {
-    let done = report::report(text, &mut out[..size]);
-    match done {
-        Reply::Written(length) => length,
-        Reply::Refused(number, line) => text::line::put_refusal(out, number, line),
+    match report::report(text, &mut out[..size]) {
+        Ok(length) => length,
+        Err(refused) => text::line::put_refusal(out, refused.refusal, refused.line),
     }
 }
 
@@ -95,6 +87,7 @@ fn print_job(rt: &impl Print, text: &[u8], size: usize) -> io::Result<()>
 
 fn print_jobs(rt: &impl Print, jobs: &[u8]) -> io::Result<()> {
     let mut at = 0;
+    // no plainer: where a job ends is known only once its numbers are read, so no range goes over the places
     while at < jobs.len() {
         let job = next_job(jobs, at);
         let start = job.start;

@@ -19,15 +19,7 @@ fn two_lines(buf: &mut [u8], values: &[i64], n: usize, word: &[u8]) -> usize
 }
 
 fn main(rt: HostRuntime) -> io::Result<()> {
-    let values = [
-        0i64,
-        9,
-        10,
-        -1,
-        -10,
-        9223372036854775807,
-        -9223372036854775807 - 1,
-    ];
+    let values = [0i64, 9, 10, -1, -10, i64::MAX, i64::MIN];
     let mut buffer = [0u8; 512];
     let end = two_lines(&mut buffer, &values, 7, b"settled");
     rt.write_all(&buffer[..end])
