@@ -15,13 +15,10 @@ const MINUS: u8 = b'-';
 pub(crate) fn natural_length(x: u64) -> usize
     ensures { Sized (digits x) 20 result }
 {
-    let mut rest = x;
-    let mut n = 1;
-    while 10 <= rest {
-        rest /= 10;
-        n += 1;
+    match x.checked_ilog10() {
+        Some(power) => power as usize + 1,
+        None => 1,
     }
-    n
 }
 
 // How many bytes z's text has, its minus counted.

@@ -1,6 +1,7 @@
 -- Laws of the decimal digits: one more digit, how many there are at most, and the number that they read as.
 use Rattle.std.specs.Prelude.{ℕ, zero, suc, ◌+◌, ◌-◌, ◌*◌, ◌/◌, ◌%◌, ◌^◌, ◌<◌, ◌≤◌, ◌≡◌, refl, Bool, true, false, List, [], ◌∷◌, ◌++◌, ltb, ℤ, pos, negsuc, length}
 use Rattle.std.proofs.Common.{pow-suc, arith, ltb-true, ltb-false, lt-ltb, le-ltb, length-append}
+use Rattle.std.proofs.Math.Nat.{one-le-pow}
 use Rattle.std.specs.Int.Signed.{mag}
 use Rattle.text.specs.Decimal.{digits_by, digits, number}
 use Rattle.text.specs.Numeral.{value_from}
@@ -43,6 +44,15 @@ length_digits (suc k) x h =
     cases _ x (ltb x 10) refl
     (λ one. rw (one-digit x one) (omega arith))
     (λ more. rw (more-length x more) (let p = pow-suc 10 (suc k) in omega (arith, length_digits k (x / 10) (omega arith))))
+
+-- A number from 10^k on has more than k digits.
+pub length-from : (k x : ℕ) → 10 ^ k ≤ x → suc k ≤ length (digits x)
+length-from zero x h = cases _ x (ltb x 10) refl (λ one. rw (one-digit x one) (omega arith)) (λ more. rw (more-length x more) (omega arith))
+length-from (suc k) x h =
+    let p = pow-suc 10 k in
+    let one : 1 ≤ 10 ^ k = one-le-pow k 10 (omega arith) in
+    let few = length-from k (x / 10) (omega arith) in
+    rw (more-length x (omega arith)) (omega arith)
 
 pub length-natural : (x : ℕ) → x < 2 ^ 64 → length (digits x) ≤ 20
 length-natural x h = length_digits 19 x (omega arith)
