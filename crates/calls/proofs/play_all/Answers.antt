@@ -2,5 +2,5 @@
 use Rattle.play.specs.Steps.{begun}
 use Rattle.calls.proofs.play_all.Goals as goal
 
-pub loop-r-init : goal.loop-r-init
-loop-r-init g c = rw (c.new-r.ensures.is, c.start-here.ensures) begun
+pub loop-next-init : goal.loop-next-init
+loop-next-init g c = rw (c.new-r.ensures.is, c.start-here.ensures) begun

@@ -4,8 +4,8 @@ use lib.ListN.{length}
 use Rattle.play.specs.Steps.{Reached}
 use Rattle.calls.proofs.play_all.Given as goal
 
-abbrev pub invariant-loop-r : goal.invariant-loop-r
-invariant-loop-r g l = Reached l.text l.r l.here
+abbrev pub invariant-loop-next : goal.invariant-loop-next
+invariant-loop-next g l = Reached l.text l.r l.here
 
-abbrev pub decreases-loop-r : goal.decreases-loop-r
-decreases-loop-r g l = length l.text - l.here.at
+abbrev pub decreases-loop-next : goal.decreases-loop-next
+decreases-loop-next g l = length l.text - l.here.at
