@@ -15,7 +15,7 @@ use Rattle.record.specs.declared.Record.{Record}
 use Rattle.record.specs.declared.query.Answer.{Answer}
 use Rattle.record.specs.declared.query.Answer.TheVariants.{Refused}
 use Rattle.record.specs.declared.solver.Solver.{Solver}
-use Rattle.record.specs.declared.solver.SolverStep.{SolverStep}
+use Rattle.record.specs.declared.Step.{Step}
 use Rattle.record.specs.inner.Named.{counts_left, left_with}
 use Rattle.record.specs.laws.Named.{bench-answers, bench-leaves, named-kept, no-bench-answers, no-bench-leaves, refused-answer}
 use Rattle.refusal.specs.Refusal.{numbered}
@@ -52,10 +52,10 @@ module _ (r : Record) (bench : ℕ) (call : Call) (k : Kept r) where
       }
 
   -- from what the call does to the state, where the bench is one of the four: P is what is known of it
-  pub named : {P : SolverStep → Type 0} (answer : Answer) (next : Record) →
-      ((done : SolverStep) → P done → (done.answer ≡ answer_of r.solver call) × (done.next ≡ after_of r.solver call)) →
+  pub named : {P : Step Answer Solver → Type 0} (answer : Answer) (next : Record) →
+      ((done : Step Answer Solver) → P done → (done.answer ≡ answer_of r.solver call) × (done.next ≡ after_of r.solver call)) →
       (is_bench bench ≡ false → (answer ≡ Refused (numbered 15)) × (next ≡ r)) →
-      (is_bench bench ≡ true → (done : SolverStep) × P done × (answer ≡ done.answer) × (next ≡ left_with r.refused bench done.answer done.next)) →
+      (is_bench bench ≡ true → (done : Step Answer Solver) × P done × (answer ≡ done.answer) × (next ≡ left_with r.refused bench done.answer done.next)) →
       Done r (by bench call) answer next
   named answer next solves outside inside = by-bench (is_bench bench) refl
     where

@@ -16,7 +16,7 @@ use Rattle.record.specs.Flat.{rows_of}
 use Rattle.record.specs.Kept.{KeptSolver}
 use Rattle.record.specs.Solver.{accepted_of, after_of, after_of_under, answer_of, value_of, work_of}
 use Rattle.record.specs.declared.solver.Solver.{Solver}
-use Rattle.record.specs.declared.solver.SolverStep.{SolverStep}
+use Rattle.record.specs.declared.Step.{Step}
 use Rattle.record.specs.laws.Fill.{shaped-rows}
 
 -- a check of a number that finds a refusal, and one that passes
@@ -46,7 +46,7 @@ passed number = by-test (eqb number 0) refl
 
 -- a call whose check, of its number, found a refusal, and one whose check passed
 module _ (r : Solver) (call : Call) (k : KeptSolver r) (number : ℕ) (e : number ≡ refusal_of r.n r.m call) where
-  pub refuses : (refusal : Refusal) (z : SolverStep) → Finds number refusal →
+  pub refuses : (refusal : Refusal) (z : Step Answer Solver) → Finds number refusal →
       (z.answer ≡ Refused refusal) × (z.next ≡ r) → Solved r call z.answer z.next
   unfolding answer_of after_of_under
   refuses refusal z f h =

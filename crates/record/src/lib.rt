@@ -8,8 +8,10 @@ ghost use Rattle.record.specs.Done.{AxisDone, Done, Fresh, GivesCounts, LooseDon
 ghost use Rattle.record.specs.Kept.{Kept};
 ghost use Rattle.record.specs.Record.{counted, raised};
 ghost use Rattle.record.specs.RunDone.{RunDone, Runnable};
+ghost use Rattle.record.specs.declared.Step.{Step};
+ghost use Rattle.record.specs.declared.query.Answer.{Answer};
 ghost use Rattle.record.specs.declared.query.Answer.TheVariants.{Refused};
-ghost use Rattle.record.specs.declared.solver.SolverStep.{SolverStep};
+ghost use Rattle.record.specs.declared.solver.Solver.{Solver};
 ghost use Rattle.record.specs.inner.Named.{counts_left, left_with};
 ghost use Rattle.refusal.specs.Refusal.{numbered};
 ghost use Rattle.std.specs.Prelude.{false, true, ◌≡◌};
@@ -27,7 +29,7 @@ pub mod sweep;
 
 pub use query::Answer;
 pub use run::{Outcome, Run};
-use solver::{Solver, SolverStep};
+use solver::Solver;
 
 // The state that holds the matrix, and the refused calls of bench 1, 2, 3 and 4.
 #[derive(Clone, Copy)]
@@ -36,11 +38,11 @@ pub struct Record {
     refused: [u32; 4],
 }
 
-// A call's answer, and the record that it leaves.
+// A call's answer, and what it leaves: the record, or within this crate the state that holds the matrix.
 #[derive(Clone, Copy)]
-pub struct Step<A = Answer> {
+pub struct Step<A = Answer, S = Record> {
     pub answer: A,
-    pub next: Record,
+    pub next: S,
 }
 
 // The answer of an axis call, with row i of v; the row of a refused call is 0.
@@ -213,7 +215,7 @@ impl Record {
     {
         self.named(
             bench,
-            |solver| SolverStep {
+            |solver| Step {
                 answer: solver.loose_pair(t),
                 next: solver,
             },
@@ -262,10 +264,10 @@ impl Record {
 
     // What a call of a bench answers and leaves, by what it does to the state. Document 02, W8: 'A bench outside 1 to 4 gives 15, tried before
     // everything else, and raises no count.' An axis call has its own.
-    fn named<F: FnOnce(Solver) -> SolverStep>(self, bench: usize, call: F) -> Step
+    fn named<F: FnOnce(Solver) -> Step<Answer, Solver>>(self, bench: usize, call: F) -> Step
         requires { F.pre call self.solver }
         ensures outside { is_bench bench ≡ false → (result.answer ≡ Refused (numbered 15)) × (result.next ≡ self) }
-        ensures of_bench { is_bench bench ≡ true → (done : SolverStep) × F.post call self.solver done × (result.answer ≡ done.answer)
+        ensures of_bench { is_bench bench ≡ true → (done : Step Answer Solver) × F.post call self.solver done × (result.answer ≡ done.answer)
             × (result.next ≡ left_with self.refused bench done.answer done.next) }
     {
         if !is_bench(bench) {

@@ -29,12 +29,12 @@ pub struct Run {
     pub last: Record,
 }
 
-// The same of rows: m as the sweeps leave it, in place of the record.
+// The same of the state that holds the matrix, or of rows, of which it tells m.
 #[derive(Clone, Copy)]
-pub struct Ended {
+pub struct Ended<S> {
     pub outcome: Outcome,
     pub sweeps: u64,
-    pub m: u64,
+    pub last: S,
 }
 
 // Whether a loose-pair call answers none.
@@ -52,38 +52,32 @@ pub(crate) fn run_rows(
     n: usize,
     limit: u64,
     tolerance: u64,
-) -> Ended
+) -> Ended<u64>
     requires { RowsRunnable n limit tolerance matrix.old axes.old }
     ensures { RowsRun n limit tolerance matrix.old axes.old matrix.new axes.new result }
 {
     let mut m = 0;
     let mut sweeps = 0;
     let mut idle = false;
-    loop {
+    // No plainer: a `for` over the sweeps would need an `unreachable!` behind it, since its last round is left by the limit.
+    let outcome = loop {
         if is_settled(matrix, n, tolerance) {
-            return Ended {
-                outcome: Outcome::Settled,
-                sweeps,
-                m,
-            };
+            break Outcome::Settled;
         }
         if idle {
-            return Ended {
-                outcome: Outcome::Still,
-                sweeps,
-                m,
-            };
+            break Outcome::Still;
         }
         if sweeps == limit {
-            return Ended {
-                outcome: Outcome::Spent,
-                sweeps,
-                m,
-            };
+            break Outcome::Spent;
         }
         sweeps += 1;
         let made = sweep::work_pairs(matrix, axes, n, m, Order::Cyclic);
         idle = made == m;
         m = made;
+    };
+    Ended {
+        outcome,
+        sweeps,
+        last: m,
     }
 }

@@ -9,8 +9,8 @@ ghost use Rattle.record.specs.inner.Solved.{Solved, SolverLoaded, SolverRan, Sol
 ghost use Rattle.std.specs.Prelude.{◌≡◌};
 
 use crate::query::Answer;
-use crate::run::Outcome;
-use crate::{AxisAnswer, load, query, rows, run, sweep};
+use crate::run::Ended;
+use crate::{AxisAnswer, Step, load, query, rows, run, sweep};
 use ledger::Order;
 use refusal::Refusal;
 
@@ -26,19 +26,7 @@ pub struct Solver {
 }
 
 // A call's answer, and the state that it leaves.
-#[derive(Clone, Copy)]
-pub struct SolverStep {
-    pub answer: Answer,
-    pub next: Solver,
-}
-
-// The end of a run: its outcome, how many sweeps were run, and the state as they leave it.
-#[derive(Clone, Copy)]
-pub struct SolverRun {
-    pub outcome: Outcome,
-    pub sweeps: u64,
-    pub last: Solver,
-}
+type SolverStep = Step<Answer, Solver>;
 
 impl Solver {
     // No matrix.
@@ -97,7 +85,7 @@ impl Solver {
         if let Err(refusal) = load::check_load(n, numbers) {
             return self.refuse(refusal);
         }
-        SolverStep {
+        Step {
             answer: Answer::Loaded,
             next: Solver::of_table(n, numbers, 0),
         }
@@ -112,7 +100,7 @@ impl Solver {
             return self.refuse(refusal);
         }
         let table = scatter::table::table_of_readings(n, dilutions, counts);
-        SolverStep {
+        Step {
             answer: Answer::SamplesLoaded(table.e),
             next: Solver::of_table(n, &table.entries[..n * n], table.e),
         }
@@ -128,7 +116,7 @@ impl Solver {
         let mut matrix = rows::unpacked(&self.a);
         let mut axes = rows::unpacked(&self.v);
         let made = sweep::work_pair(&mut matrix, &mut axes, self.n, self.m, p - 1, q - 1);
-        SolverStep {
+        Step {
             answer: Answer::Turned(self.m < made),
             next: self.with_rows(matrix, axes, made),
         }
@@ -145,7 +133,7 @@ impl Solver {
         let mut matrix = rows::unpacked(&self.a);
         let mut axes = rows::unpacked(&self.v);
         let made = sweep::work_pairs(&mut matrix, &mut axes, self.n, self.m, order);
-        SolverStep {
+        Step {
             answer: sweep::swept(order, made - self.m),
             next: self.with_rows(matrix, axes, made),
         }
@@ -183,7 +171,7 @@ impl Solver {
     }
 
     // The loose-pair and sweep calls of a run, one after the other, unpacked and packed once for all of them.
-    pub(crate) fn run(self, limit: u64, tolerance: u64) -> SolverRun
+    pub(crate) fn run(self, limit: u64, tolerance: u64) -> Ended<Solver>
         requires { SolverRunnable self limit tolerance }
         ensures { SolverRan self limit tolerance result }
     {
@@ -191,10 +179,10 @@ impl Solver {
         let mut axes = rows::unpacked(&self.v);
         let ended = run::run_rows(&mut matrix, &mut axes, self.n, limit, tolerance);
         let outcome = ended.outcome;
-        SolverRun {
+        Ended {
             outcome,
             sweeps: ended.sweeps,
-            last: self.with_rows(matrix, axes, ended.m),
+            last: self.with_rows(matrix, axes, ended.last),
         }
     }
 
@@ -202,7 +190,7 @@ impl Solver {
     fn refuse(self, refusal: Refusal) -> SolverStep
         ensures { (result.answer ≡ Refused refusal) × (result.next ≡ self) }
     {
-        SolverStep {
+        Step {
             answer: Answer::Refused(refusal),
             next: self,
         }

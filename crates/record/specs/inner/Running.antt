@@ -31,7 +31,7 @@ pub record RowsRunnable (n limit t : ℕ) (a v : List (List ℤ)) : Type 0 where
   pub holds : (shift : ℕ) → Holds shift n 0 a v
 
 -- the run of the record that holds the rows, whatever its e and its counts of refused calls are
-pub record RowsRun (n limit t : ℕ) (a v a' v' : List (List ℤ)) (z : Ended) : Type 0 where
+pub record RowsRun (n limit t : ℕ) (a v a' v' : List (List ℤ)) (z : Ended ℕ) : Type 0 where
   pub is : (shift : ℕ) (refused : List ℕ) →
-      stop z.outcome z.sweeps (held_of shift refused n z.m a' v') ≡ run_from limit 0 false t (held_of shift refused n 0 a v)
-  pub holds : (shift : ℕ) → Holds shift n z.m a' v'
+      stop z.outcome z.sweeps (held_of shift refused n z.last a' v') ≡ run_from limit 0 false t (held_of shift refused n 0 a v)
+  pub holds : (shift : ℕ) → Holds shift n z.last a' v'

@@ -7,7 +7,7 @@ use Rattle.record.specs.Kept.{KeptSolver}
 use Rattle.record.specs.Run.{run_from, stop}
 use Rattle.record.specs.Solver.{after_of, answer_of, loaded_solver, unloaded}
 use Rattle.record.specs.declared.solver.Solver.{Solver}
-use Rattle.record.specs.declared.solver.SolverRun.{SolverRun}
+use Rattle.record.specs.declared.run.Ended.{Ended}
 
 pub record Unloaded (s : Solver) : Type 0 where
   pub is : s ≡ unloaded
@@ -31,7 +31,7 @@ pub record SolverRunnable (s : Solver) (limit tolerance : ℕ) : Type 0 where
   pub tolerated : tolerance ≤ tolerance_limit
 
 -- the run of the record that has the state, whatever its counts of refused calls are
-pub record SolverRan (s : Solver) (limit tolerance : ℕ) (z : SolverRun) : Type 0 where
+pub record SolverRan (s : Solver) (limit tolerance : ℕ) (z : Ended Solver) : Type 0 where
   pub is : (counts : List ℕ) → stop z.outcome z.sweeps (record { solver = z.last; refused = counts }) ≡
       run_from limit 0 false tolerance (record { solver = s; refused = counts })
   pub keeps : KeptSolver z.last
