@@ -1,18 +1,94 @@
--- The answer of a refusal, and of numbers or bytes that are written.
-use Prim.Native.Nat.{ℕ}
-use mathlib.Core.Path.{◌≡◌, ap}
-use mathlib.Core.List.{List}
-use lib.IntN.{pos, neg_ℤ}
+-- The answer of what is written or refused.
+use Rattle.std.proofs.Common.{ℕ, ◌<◌, ◌≤◌, ◌^◌, ◌≡◌, refl, sym, ap, ◌∙◌, Bool, true, false, cond, List, Result, Ok, Err, IfOk, pos}
+use Rattle.std.proofs.Common.{neg_ℤ, arith, eqb, length}
 use borrow.Author.Tests.{eq-eqb, ne_eqb}
+use Rattle.std.proofs.lemmas.Bool.{eqb-false, eqb-true}
+use Rattle.refusal.specs.Refusal.{judged, numbered}
+use Rattle.refusal.specs.declared.Refusal.{Refusal}
 use Rattle.text.specs.Put.{Put}
+use Rattle.text.specs.Written.{Writes, or_short, written_of}
 use Rattle.text.specs.laws.Put.{front_length}
-use Rattle.field_axes.specs.Answer.{count_or_refusal}
+use Rattle.text.specs.laws.Written.{buffer-stays, buffer-written, taken}
+use Rattle.field_axes.specs.Answer.{answered, count_or_refusal}
+use Rattle.field_axes.specs.inner.Given.{Gives}
+use Rattle.field_axes.proofs.Numbers.{number-of-numbered, or_short-known}
+
+-- ---- what a test answers
+
+module _ {X : Type 0} (x : X) where
+  pub is_refused : {refusal : ℕ} (k : ℕ) → k ≡ refusal → (k ≡ 0 → ⊥) → Err (numbered k) ≡ judged refusal x
+  unfolding judged
+  is_refused k e f = rw (← e, ne_eqb k 0 f)
+
+  pub is_taken : (refusal : ℕ) → refusal ≡ 0 → Ok x ≡ judged refusal x
+  unfolding judged
+  is_taken refusal e = rw (eq-eqb refusal 0 e)
+
+  pub tells : (refusal : ℕ) (y : X) → Ok y ≡ judged refusal x → (refusal ≡ 0) × (y ≡ x)
+  unfolding judged
+  tells refusal y = by (eqb refusal 0) refl
+    where
+      by : (t : Bool) → eqb refusal 0 ≡ t → Ok y ≡ cond t (Ok x) (Err (numbered refusal)) → (refusal ≡ 0) × (y ≡ x)
+      by true q e = (eqb-true refusal 0 q, cc)
+      by false q e = absurd (let z : ◌≡◌ {A = ℕ} 0 1 = cc in omega arith)
+
+  -- a refusal before the others
+  pub first-refused : {Y : Type 0} (first later : ℕ) (y : Y) (r : Refusal) → Err r ≡ judged first x →
+      Err r ≡ judged (cond (eqb first 0) later first) y
+  unfolding judged
+  first-refused {Y} first later y r = by (eqb first 0) refl
+    where
+      by : (t : Bool) → eqb first 0 ≡ t → Err r ≡ cond t (Ok x) (Err (numbered first)) →
+          Err r ≡ cond (eqb (cond t later first) 0) (Ok y) (Err (numbered (cond t later first)))
+      by true q e = absurd (let z : ◌≡◌ {A = ℕ} 0 1 = cc in omega arith)
+      by false q e = rw q cc
+
+-- ---- what is given
 
 module _ {X : Type 0} (refusal : ℕ) (written entry : List X) where
-  pub refused-answer : (number : ℕ) → number ≡ refusal → (number ≡ 0 → ⊥) → neg_ℤ (pos number) ≡ count_or_refusal refusal written
-  unfolding count_or_refusal
-  refused-answer number e f = rw (← e, ne_eqb number 0 f)
+  pub given : {exit : List X} {r : ℕ} → refusal ≡ 0 → Put written 0 entry exit r → Gives refusal written entry exit (Ok r)
+  given e p = record { answer = ap Ok (front_length p) ∙ is_taken (length written) refusal e; buffer = buffer-written refusal written entry e p }
 
-  pub written-answer : refusal ≡ 0 → {exit : List X} {r : ℕ} → Put written 0 entry exit r → pos r ≡ count_or_refusal refusal written
-  unfolding count_or_refusal
-  written-answer e p = rw (eq-eqb refusal 0 e) (ap pos (front_length p))
+  pub refused : {Y : Type 0} (x : Y) (r : Refusal) → Err r ≡ judged refusal x → Gives refusal written entry entry (Err r)
+  unfolding judged
+  refused {Y} x r = by (eqb refusal 0) refl
+    where
+      by : (t : Bool) → eqb refusal 0 ≡ t → Err r ≡ cond t (Ok x) (Err (numbered refusal)) → Gives refusal written entry entry (Err r)
+      by true q e = absurd (let z : ◌≡◌ {A = ℕ} 0 1 = cc in omega arith)
+      by false q e = record { answer = rw q cc; buffer = buffer-stays refusal written entry refusal refl (eqb-false refusal 0 q) }
+
+  pub as_number : {exit : List X} {r : Result ℕ Refusal} → refusal ≤ 16 → Gives refusal written entry exit r →
+      answered r ≡ count_or_refusal refusal written
+  unfolding answered judged count_or_refusal
+  as_number known g = rw g.answer (by (eqb refusal 0) refl)
+    where
+      by : (t : Bool) → eqb refusal 0 ≡ t →
+          answered (cond t (Ok (length written)) (Err (numbered refusal))) ≡ cond t (pos (length written)) (neg_ℤ (pos refusal))
+      by true q = refl
+      by false q = ap (λ k. neg_ℤ (pos k)) (number-of-numbered refusal (eqb-false refusal 0 q) known)
+
+-- ---- how many that is
+
+pub each-ok : {E : Type 0} (r : Result ℕ E) → ((k : ℕ) → r ≡ Ok k → k < 2 ^ 63) → IfOk r (λ k. k < 2 ^ 63)
+each-ok (Ok k) h = h k refl
+each-ok (Err e) h = tt
+
+pub given-fits : {X : Type 0} (refusal : ℕ) (written entry exit : List X) (r : Result ℕ Refusal) → Gives refusal written entry exit r →
+    (refusal ≡ 0 → length written < 2 ^ 63) → IfOk r (λ k. k < 2 ^ 63)
+given-fits refusal written entry exit r g h =
+    each-ok r (λ k e. let t = tells (length written) refusal k (sym e ∙ g.answer) in rw t.1 (h t.0))
+
+-- ---- a text that a writer writes, with room for it
+
+module _ (refusal : ℕ) (text entry exit : List ℕ) (r : Result ℕ Refusal) (w : Writes refusal text entry exit r) where
+  gives : Gives (or_short refusal (length text) (length entry)) text entry exit r
+  unfolding written_of
+  gives = record { answer = w.answer; buffer = w.buffer }
+
+  pub fits : length entry < 2 ^ 63 → IfOk r (λ k. k < 2 ^ 63)
+  fits h =
+      given-fits _ text entry exit r gives
+      (λ e. let t = taken refusal (length text) (length entry) e in omega (arith, t.1))
+
+  pub number : refusal ≤ 16 → answered r ≡ count_or_refusal (or_short refusal (length text) (length entry)) text
+  number known = as_number _ text entry (or_short-known refusal (length text) (length entry) known) gives

@@ -1,9 +1,6 @@
+mod Numbers
 mod Answered
+mod Paneling
 mod Reporting
-mod Writing
-mod Pooling
-mod Listing
-mod Reckoning
-mod Playing
 mod RunRefusals
 mod Following

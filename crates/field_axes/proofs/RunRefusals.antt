@@ -1,8 +1,8 @@
 -- The refusals of a run one after the other.
-use mathlib.Core.Path.{◌≡◌, ◌∙◌}
+use mathlib.Core.Path.{◌≡◌}
 use mathlib.Core.List.{List}
 use Prim.Native.Nat.{ℕ, ◌+◌, ◌*◌, ◌≤◌, ◌<◌}
-use borrow.Author.Tests.{eq-eqb, le-leb, lt-leb, ne_eqb}
+use borrow.Author.Tests.{eq-eqb, le-leb, lt-leb}
 use lib.IntN.{ℤ}
 use Rattle.ledger.specs.Call.{load}
 use Rattle.ledger.specs.Refusal.{refusal_of}
@@ -10,10 +10,6 @@ use Rattle.limits.specs.Limits.{tolerance_limit, least_sweeps, most_sweeps}
 use Rattle.field_axes.specs.Solution.{solve_refusal}
 
 module _ (n : ℕ) (numbers : List ℤ) (limit t size : ℕ) where
-  pub load-refused : (number : ℕ) → number ≡ refusal_of 0 0 (load n numbers) → (number ≡ 0 → ⊥) → number ≡ solve_refusal n numbers limit t size
-  unfolding solve_refusal
-  load-refused number e f = e ∙ rw (ne_eqb (refusal_of 0 0 (load n numbers)) 0 (λ z. f (e ∙ z)))
-
   module _ (taken : refusal_of 0 0 (load n numbers) ≡ 0) where
     pub limit-low : limit < 1 → 2 ≡ solve_refusal n numbers limit t size
     unfolding solve_refusal

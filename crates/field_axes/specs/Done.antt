@@ -8,8 +8,7 @@ use Rattle.text.specs.Written.{lent_after}
 use Rattle.panel.specs.Refusal.{panel_at_position}
 use Rattle.panel.specs.Text.{panels_text}
 use Rattle.season_report.specs.Texts.{texts_line}
-use Rattle.field_axes.specs.Answer.{count_or_refusal}
-use Rattle.field_axes.specs.Calls.{length_or_short}
+use Rattle.field_axes.specs.Answer.{answered, count_or_refusal}
 use Rattle.field_axes.specs.JobText.{text_for, text_refusal}
 use Rattle.field_axes.specs.Panels.{panel_numbers, panel_refusal, panels_refusal}
 use Rattle.field_axes.specs.Pooled.{pooled_refusal, pooled_report}
@@ -42,7 +41,7 @@ pub record ReportsText (text entry exit : List ℕ) (at : ℕ) (r : ℤ) : Type 
   pub buffer : exit ≡ buffer_of report_of text entry
 
 pub record PlaysText (text entry exit : List ℕ) (r : ℤ) : Type 0 where
-  pub answer : r ≡ length_or_short (output_of text (length entry))
+  pub answer : r ≡ answered (output_of text (length entry))
   pub buffer : exit ≡ played_into text entry
 
 -- the text's length, or the refusal's number negated

@@ -2,7 +2,6 @@ pub mod Answer
 pub mod Report
 pub mod JobText
 pub mod Pooled
-pub mod Calls
 pub mod Season
 pub mod Done
 pub mod Solution

@@ -1,3 +1,4 @@
+pub mod Given
 pub mod Solution
 pub mod Solvable
 pub mod Readable

@@ -4,23 +4,26 @@
 mod solve;
 mod table;
 
-ghost use Rattle.std.specs.Prelude.{◌≡◌, pos, neg_ℤ};
+ghost use Rattle.std.specs.Prelude.{◌≡◌, ◌<◌, ◌^◌, IfOk, length};
 ghost use Rattle.job_text.specs.JobText.{job_with};
-ghost use Rattle.panel.specs.Refusal.{of_panel};
+ghost use Rattle.panel.specs.Refusal.{of_panel, panel_at_position};
+ghost use Rattle.field_axes.specs.Answer.{answered};
 ghost use Rattle.field_axes.specs.Done.{GivesPanel, ListsPanels, PlaysText, ReportsPooled, ReportsSeason, ReportsText, Solves, Tabulates, WritesJob};
-ghost use Rattle.field_axes.specs.Panels.{panel_of, position_or_refusal};
+ghost use Rattle.field_axes.specs.Panels.{panel_numbers, panel_of, panel_refusal};
+ghost use Rattle.field_axes.specs.inner.Given.{Gives};
 
-use job::reply::Reply;
 use panel::Panel;
-use panel::position::{AtPosition, OfPanel};
-use play::Output;
-use text::Written;
+use refusal::Refusal;
 
-// The answer of a refusal.
-fn refused(number: u32) -> i64
-    ensures { result ≡ neg_ℤ (pos number) }
+// The answer of every function here: how many numbers or bytes were written, or the refusal's number negated.
+fn answer(done: Result<usize, Refusal>) -> i64
+    requires { IfOk done (λ count. count < 2 ^ 63) }
+    ensures { result ≡ answered done }
 {
-    0 - number as i64
+    match done {
+        Ok(count) => count as i64,
+        Err(refusal) => -i64::from(refusal.number()),
+    }
 }
 
 // A run on n×n numbers, row after row, and its axes. Into `out`: the outcome (0 settled, 1 still, 2 spent), the sweeps run, m, then for
@@ -34,11 +37,7 @@ pub fn field_axes_solve(
 ) -> i64
     ensures { Solves n numbers.now limit tolerance out.old out.new result }
 {
-    let number = solve::solve_refusal(n, numbers, limit, tolerance, out.len());
-    if number != 0 {
-        return refused(number);
-    }
-    solve::put_solution(n, numbers, limit, tolerance, out) as i64
+    answer(solve::solve(n, numbers, limit, tolerance, out))
 }
 
 // The table of samples, a dilution each and n counts each, sample after sample. Into `out`: the shift e, the n×n exact S_ij, and the n×n
@@ -46,11 +45,7 @@ pub fn field_axes_solve(
 pub fn field_axes_table(n: usize, dilutions: &[u32], counts: &[u32], out: &mut [i64]) -> i64
     ensures { Tabulates n dilutions.now counts.now out.old out.new result }
 {
-    let number = table::table_refusal(n, dilutions, counts, out.len());
-    if number != 0 {
-        return refused(number);
-    }
-    table::put_table(n, dilutions, counts, out) as i64
+    answer(table::tabulate(n, dilutions, counts, out))
 }
 
 // Job text of n, the sweep limit, the tolerance and samples, a dilution each and n counts each, sample after sample. Into `out`: the text. The
@@ -65,11 +60,7 @@ pub fn field_axes_job(
 ) -> i64
     ensures { WritesJob n limit tolerance dilutions.now counts.now out.old out.new result }
 {
-    let done = job_text::write_job(n, limit, tolerance, dilutions, counts, out);
-    match done {
-        Written::Length(length) => length as i64,
-        Written::Refused(number) => refused(number),
-    }
+    answer(job_text::write_job(n, limit, tolerance, dilutions, counts, out))
 }
 
 // A job text to its report, document 01's `axes` as a function. Into `out`: the report. The answer is its length, or the refusal's number
@@ -77,15 +68,14 @@ pub fn field_axes_job(
 pub fn field_axes_report(text: &[u8], out: &mut [u8], line: &mut usize) -> i64
     ensures { ReportsText text.now out.old out.new line.new result }
 {
-    let done = report::report(text, out);
-    match done {
-        Reply::Written(length) => {
+    match report::report(text, out) {
+        Ok(length) => {
             *line = 0;
-            length as i64
+            answer(Ok(length))
         }
-        Reply::Refused(number, at) => {
-            *line = at;
-            refused(number as u32)
+        Err(refused) => {
+            *line = refused.line;
+            answer(Err(refused.refusal))
         }
     }
 }
@@ -109,7 +99,7 @@ pub fn field_axes_pool(
         (job_with other_n other_limit other_tolerance other_dilutions.now other_counts.now)
         out.old out.new result }
 {
-    let done = job_pool::write_pooled(
+    answer(job_pool::write_pooled(
         n,
         limit,
         tolerance,
@@ -121,11 +111,7 @@ pub fn field_axes_pool(
         other_dilutions,
         other_counts,
         out,
-    );
-    match done {
-        Written::Length(length) => length as i64,
-        Written::Refused(refusal) => refused(refusal),
-    }
+    ))
 }
 
 // A text of calls, a line each, played on a fresh record. Into `out`: an answer a line. The answer is their length, or 12 negated where the
@@ -133,11 +119,7 @@ pub fn field_axes_pool(
 pub fn field_axes_calls(text: &[u8], out: &mut [u8]) -> i64
     ensures { PlaysText text.now out.old out.new result }
 {
-    let done = play::play(text, out);
-    match done {
-        Output::Written(length) => length as i64,
-        Output::TooShort => -12,
-    }
+    answer(play::play(text, out))
 }
 
 // All panels of size b, each run with limit 16 and tolerance 0. Into `out`: a line each. The answer is their length, or the refusal's number
@@ -145,39 +127,39 @@ pub fn field_axes_calls(text: &[u8], out: &mut [u8]) -> i64
 pub fn field_axes_panels(b: i64, out: &mut [u8]) -> i64
     ensures { ListsPanels b out.old out.new result }
 {
-    let done = panel::lines::write_panels(b, out);
-    match done {
-        Written::Length(length) => length as i64,
-        Written::Refused(refusal) => refused(refusal),
-    }
+    answer(panel::lines::write_panels(b, out))
 }
 
 // The panel at a position of that list, from 1. Into `out`: a_11, a_12, a_22. The answer is 3, or the refusal's number negated.
 pub fn field_axes_panel(b: i64, position: i64, out: &mut [i64]) -> i64
     ensures { GivesPanel b position out.old out.new result }
 {
-    let found = panel::position::panel_at(b, position);
-    match found {
-        AtPosition::Panel(x) => {
-            if out.len() < 3 {
-                return -12;
-            }
-            let entries = [x.a11, x.a12, x.a22];
-            text::numbers::put(out, 0, &entries) as i64
-        }
-        AtPosition::Refused(number) => refused(number),
+    answer(put_panel(b, position, out))
+}
+
+// The numbers of the panel at a position.
+fn put_panel(b: i64, position: i64, out: &mut [i64]) -> Result<usize, Refusal>
+    ensures { Gives (panel_refusal b position (length out.old)) (panel_numbers (panel_at_position b position)) out.old out.new result }
+{
+    let x = panel::position::panel_at(b, position)?;
+    if out.len() < 3 {
+        return Err(Refusal::ShortBuffer);
     }
+    let entries = [x.a11, x.a12, x.a22];
+    Ok(text::numbers::put(out, 0, &entries))
 }
 
 // The position in that list, from 1, of the panel of these entries, or the refusal's number negated.
 pub fn field_axes_panel_position(b: i64, a11: i64, a12: i64, a22: i64) -> i64
-    ensures { result ≡ position_or_refusal (of_panel b (panel_of a11 a12 a22)) }
+    ensures { result ≡ answered (of_panel b (panel_of a11 a12 a22)) }
 {
-    let found = panel::position::position_of(b, Panel { a11, a12, a22 });
-    match found {
-        OfPanel::Position(position) => position as i64,
-        OfPanel::Refused(number) => refused(number),
-    }
+    answer(position(b, Panel { a11, a12, a22 }))
+}
+
+fn position(b: i64, x: Panel) -> Result<usize, Refusal>
+    ensures { result ≡ of_panel b x }
+{
+    Ok(panel::position::position_of(b, x)? as usize)
 }
 
 // The season of job texts that stand one after another in one buffer, each to before its end. Into `out`: the line of its figures. The answer is its
@@ -185,9 +167,5 @@ pub fn field_axes_panel_position(b: i64, a11: i64, a12: i64, a22: i64) -> i64
 pub fn field_axes_season(texts: &[u8], ends: &[usize], out: &mut [u8]) -> i64
     ensures { ReportsSeason texts.now ends.now out.old out.new result }
 {
-    let done = season_report::texts::write_season(texts, ends, out);
-    match done {
-        Written::Length(length) => length as i64,
-        Written::Refused(refusal) => refused(refusal),
-    }
+    answer(season_report::texts::write_season(texts, ends, out))
 }

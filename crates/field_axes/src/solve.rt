@@ -1,42 +1,44 @@
-// A run and its axes: the refusal, and the numbers.
+// A run and its axes: what refuses it, and the numbers.
 ghost use Rattle.std.specs.Prelude.{◌≡◌, ◌+◌, ◌*◌, ◌≤◌, pos, length};
+ghost use Rattle.refusal.specs.Refusal.{judged};
 ghost use Rattle.text.specs.Put.{Put};
 ghost use Rattle.text.specs.Rows.{Wide};
 ghost use Rattle.field_axes.specs.Solution.{outcome_number, solution_of, solve_refusal};
+ghost use Rattle.field_axes.specs.inner.Given.{Gives};
 ghost use Rattle.field_axes.specs.inner.Solution.{used};
 ghost use Rattle.field_axes.specs.inner.Solvable.{Solvable};
 
 use record::Outcome;
+use refusal::Refusal;
 
-// The refusal's number, or 0.
-pub(crate) fn solve_refusal(
+// Those of the load first, then the limits, then the buffer.
+fn check_solve(
     n: usize,
     numbers: &[i64],
     limit: u64,
     tolerance: u64,
     size: usize,
-) -> u32
-    ensures { result ≡ solve_refusal n numbers.now limit tolerance size }
+) -> Result<(), Refusal>
+    ensures { result ≡ judged (solve_refusal n numbers.now limit tolerance size) (record {}) }
 {
-    let number = record::load::load_refusal(n, numbers);
-    if number != 0 {
-        return number;
-    }
+    record::load::check_load(n, numbers)?;
     if limit < limits::LEAST_SWEEPS {
-        return 2;
+        return Err(Refusal::OutOfRange);
     }
     if limits::MOST_SWEEPS < limit {
-        return 2;
+        return Err(Refusal::OutOfRange);
     }
     if limits::TOLERANCE_LIMIT < tolerance {
-        return 2;
+        return Err(Refusal::OutOfRange);
     }
     if size < 3 + n * (n + 2) {
-        return 12;
+        return Err(Refusal::ShortBuffer);
     }
-    0
+    Ok(())
 }
 
+// no plainer: a match, since the definition gives the number of each outcome, whatever their order is.
+#[tactic(auto, unfolding(crate::specs::Solution::outcome_number))]
 fn outcome_number(outcome: Outcome) -> i64
     ensures { result ≡ pos (outcome_number outcome) }
 {
@@ -54,35 +56,39 @@ fn put_axes(n: usize, axes: &[[i64; 11]; 8], out: &mut [i64], at: usize) -> usiz
 {
     let end = n + 3;
     let mut next = at;
-    let mut i = 0;
-    while i < n {
-        let numbers = axes[i];
+    for numbers in &axes[..n] {
         next = text::numbers::put(out, next, &numbers[1..end]);
-        i += 1;
     }
     next
 }
 
 // The numbers of a run that is not refused.
-pub(crate) fn put_solution(
+fn put_solution(n: usize, numbers: &[i64], limit: u64, tolerance: u64, out: &mut [i64]) -> usize
+    requires { Solvable n numbers.now limit tolerance (length out.old) }
+    ensures { Put (solution_of n numbers.now limit tolerance) 0 out.old out.new result }
+{
+    let run = run::run(n, numbers, limit, tolerance);
+    let axes = report::axes::axes_numbers(run.last);
+    let head = [
+        outcome_number(run.outcome),
+        run.sweeps as i64,
+        run.last.turns() as i64,
+    ];
+    let at = text::numbers::put(out, 0, &head);
+    put_axes(n, &axes, out, at)
+}
+
+// A run and its axes as numbers.
+pub(crate) fn solve(
     n: usize,
     numbers: &[i64],
     limit: u64,
     tolerance: u64,
     out: &mut [i64],
-) -> usize
-    requires { Solvable n numbers.now limit tolerance (length out.old) }
-    ensures { Put (solution_of n numbers.now limit tolerance) 0 out.old out.new result }
+) -> Result<usize, Refusal>
+    ensures { Gives (solve_refusal n numbers.now limit tolerance (length out.old))
+        (solution_of n numbers.now limit tolerance) out.old out.new result }
 {
-    let run = run::run(n, numbers, limit, tolerance);
-    let outcome = run.outcome;
-    let last = run.last;
-    let axes = report::axes::axes_numbers(last);
-    let head = [
-        outcome_number(outcome),
-        run.sweeps as i64,
-        last.turns() as i64,
-    ];
-    let at = text::numbers::put(out, 0, &head);
-    put_axes(n, &axes, out, at)
+    check_solve(n, numbers, limit, tolerance, out.len())?;
+    Ok(put_solution(n, numbers, limit, tolerance, out))
 }

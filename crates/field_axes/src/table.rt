@@ -1,34 +1,47 @@
-// A table from readings: the refusal, and the numbers.
+// A table from readings: what refuses it, and the numbers.
 ghost use Rattle.std.specs.Prelude.{◌≡◌, length};
+ghost use Rattle.refusal.specs.Refusal.{judged};
 ghost use Rattle.text.specs.Put.{Put};
-ghost use Rattle.field_axes.specs.inner.Readable.{Readable};
 ghost use Rattle.field_axes.specs.Table.{table_numbers_of, table_refusal};
+ghost use Rattle.field_axes.specs.inner.Given.{Gives};
+ghost use Rattle.field_axes.specs.inner.Readable.{Readable};
 
-// The refusal's number, or 0.
-pub(crate) fn table_refusal(n: usize, dilutions: &[u32], counts: &[u32], size: usize) -> u32
-    ensures { result ≡ table_refusal n dilutions.now counts.now size }
+use refusal::Refusal;
+
+// Those of the samples first, then the buffer.
+fn check_table(n: usize, dilutions: &[u32], counts: &[u32], size: usize) -> Result<(), Refusal>
+    ensures { result ≡ judged (table_refusal n dilutions.now counts.now size) (record {}) }
 {
-    let number = readings::samples_refusal(n, dilutions, counts);
-    if number != 0 {
-        return number;
-    }
+    readings::check_samples(n, dilutions, counts)?;
     if size < 1 + 2 * (n * n) {
-        return 12;
+        return Err(Refusal::ShortBuffer);
     }
-    0
+    Ok(())
 }
 
 // The numbers of a table that is not refused.
-pub(crate) fn put_table(n: usize, dilutions: &[u32], counts: &[u32], out: &mut [i64]) -> usize
+fn put_table(n: usize, dilutions: &[u32], counts: &[u32], out: &mut [i64]) -> usize
     requires { Readable n dilutions.now counts.now (length out.old) }
     ensures { Put (table_numbers_of n dilutions.now counts.now) 0 out.old out.new result }
 {
     let table = scatter::table::table_of_readings(n, dilutions, counts);
     let sums = table.scatter;
     let entries = table.entries;
-    let head = [table.e as i64];
     let size = n * n;
-    let mut at = text::numbers::put(out, 0, &head);
+    let mut at = text::numbers::put(out, 0, &[table.e as i64]);
     at = text::numbers::put(out, at, &sums[..size]);
     text::numbers::put(out, at, &entries[..size])
+}
+
+// A table from readings as numbers.
+pub(crate) fn tabulate(
+    n: usize,
+    dilutions: &[u32],
+    counts: &[u32],
+    out: &mut [i64],
+) -> Result<usize, Refusal>
+    ensures { Gives (table_refusal n dilutions.now counts.now (length out.old)) (table_numbers_of n dilutions.now counts.now) out.old out.new result }
+{
+    check_table(n, dilutions, counts, out.len())?;
+    Ok(put_table(n, dilutions, counts, out))
 }

@@ -5,8 +5,9 @@
 ghost use Rattle.std.specs.Prelude.{◌≡◌};
 ghost use Rattle.job_text.specs.JobText.{job_with};
 ghost use Rattle.panel.specs.Refusal.{of_panel};
+ghost use Rattle.field_axes.specs.Answer.{answered};
 ghost use Rattle.field_axes.specs.Done.{GivesPanel, ListsPanels, PlaysText, ReportsPooled, ReportsSeason, ReportsText, Solves, Tabulates, WritesJob};
-ghost use Rattle.field_axes.specs.Panels.{panel_of, position_or_refusal};
+ghost use Rattle.field_axes.specs.Panels.{panel_of};
 
 // A run on n×n numbers, row after row, and its axes. Into `out`: the outcome (0 settled, 1 still, 2 spent), the sweeps run, m, then for
 // each axis a_ii, r_i and the n numbers of its row. The answer is how many numbers these are, or the refusal's number negated.
@@ -126,7 +127,7 @@ pub extern "C" fn field_axes_panel(b: i64, position: i64, out: &mut [i64]) -> i6
 // The position in that list, from 1, of the panel of these entries, or the refusal's number negated.
 #[unsafe(no_mangle)]
 pub extern "C" fn field_axes_panel_position(b: i64, a11: i64, a12: i64, a22: i64) -> i64
-    ensures { result ≡ position_or_refusal (of_panel b (panel_of a11 a12 a22)) }
+    ensures { result ≡ answered (of_panel b (panel_of a11 a12 a22)) }
 {
     field_axes::field_axes_panel_position(b, a11, a12, a22)
 }

@@ -1,23 +1,21 @@
--- `field_axes::field_axes_calls` meets its contract.
-use Prim.Native.Nat.{◌<◌, ◌^◌}
-use native.Mathlib.Omega.{arith}
+-- `field_axes_calls` meets its contract.
+use Rattle.std.proofs.Common.{◌<◌, ◌^◌, ap, length, arith}
+use mir.Facts.{to_z-of_z}
 use mir.Syntax.{w64}
-use mir.Facts.{to_z_pos}
-use Rattle.field_axes.specs.Calls.{length_or_short}
-use Rattle.field_axes.proofs.Playing.{as_number, fits}
+use mir.Val.{SFits}
+use borrow.Author.Rules.{rules}
+use Rattle.field_axes.specs.Answer.{answered}
+use Rattle.field_axes.proofs.Answered.{each-ok}
+use Rattle.field_axes.proofs.Reporting.{played-fits}
 use Rattle.field_axes.proofs.field_axes_calls.Goals as goal
 
-pub overflow_cast-result : goal.overflow_cast-result
-overflow_cast-result c =
-    record { sfits = omega (arith, fits _ _ _ _ c.play-done.ensures _ c.in-Written.is, c.well_formed.1.0.1) }
+-- a buffer has fewer than 2^63 bytes
+pub answer-requires : goal.answer-requires
+answer-requires c =
+    let h : length c.args.out.now < 2 ^ 63 = omega (arith, c.well_formed) in
+    each-ok c.play.result (λ k e. omega (arith, played-fits _ _ _ _ c.play.ensures k e))
 
-pub returns-in-Written : goal.returns-in-Written
-unfolding length_or_short
-returns-in-Written c =
-    -- a buffer has fewer than 2^63 bytes
-    let few : c.in-Written.length < 2 ^ 63 = omega (arith, fits _ _ _ _ c.play-done.ensures _ c.in-Written.is, c.well_formed.1.0.1) in
-    rw (to_z_pos w64 few) (as_number _ _ _ _ c.play-done.ensures _ c.in-Written.is)
-
-pub returns-in-TooShort : goal.returns-in-TooShort
-unfolding length_or_short
-returns-in-TooShort c = as_number _ _ _ _ c.play-done.ensures _ c.in-TooShort.is
+pub returns : goal.returns
+returns c =
+    let f : SFits w64 c.answer.result = search rules in
+    rw (to_z-of_z f, c.answer.ensures) (record { answer = ap answered c.play.ensures.answer; buffer = c.play.ensures.buffer })
