@@ -1,5 +1,7 @@
 -- What a call on a book prints.
-use Rattle.std.specs.Prelude.{ℕ, zero, suc, ◌-◌, ◌*◌, List, [], ◌∷◌, ◌++◌, map, drop, length, take}
+use Rattle.std.specs.Prelude.{ℕ, zero, suc, ◌-◌, ◌*◌, List, [], ◌∷◌, ◌++◌, Result, Ok, Err, map, drop, length, take}
+use Rattle.refusal.specs.Refusal.{number_of}
+use Rattle.refusal.specs.declared.Refusal.{Refusal}
 use Rattle.sums.specs.Sums.{sums_of}
 use Rattle.sums.specs.declared.Sums.{Sums}
 use Rattle.text.specs.Decimal.{digits}
@@ -9,7 +11,7 @@ use Rattle.book.specs.Book.{samples_in}
 use Rattle.book.specs.Calls.{BookCall, book_answer}
 use Rattle.book.specs.declared.Book.{Book}
 use Rattle.book.specs.declared.BookAnswer.{BookAnswer}
-use Rattle.book.specs.declared.BookAnswer.TheVariants.{Begun, Added, Struck, Summed, Tabled, Refused}
+use Rattle.book.specs.declared.BookAnswer.TheVariants.{Begun, Added, Struck, Summed, Tabled}
 
 -- the cross sums of channel i, counted from 0, with itself and those after it: they stand from 8 × i + i on
 unfoldable pub cross_row : ℕ → List ℕ → ℕ → List ℕ
@@ -25,13 +27,13 @@ unfoldable pub sums_line : ℕ → Sums → List ℕ
 sums_line n t = line ((90 ∷ []) ∷ map digits (t.k ∷ (take n t.channel ++ cross_rows n t.cross n)))
 
 -- `N`; `A` and `K` with the number of samples now held; the sums or the table of the samples in the book; of a refused call `X` and its number
-unfoldable pub answer_text : BookAnswer → Book → List ℕ
-answer_text Begun b = line ((78 ∷ []) ∷ [])
-answer_text (Added k) b = line ((65 ∷ []) ∷ digits k ∷ [])
-answer_text (Struck k) b = line ((75 ∷ []) ∷ digits k ∷ [])
-answer_text Summed b = sums_line b.n (sums_of (samples_in b))
-answer_text Tabled b = samples_text b.n (length (samples_in b)) (samples_in b)
-answer_text (Refused number) b = line ((88 ∷ []) ∷ digits number ∷ [])
+unfoldable pub answer_text : Result BookAnswer Refusal → Book → List ℕ
+answer_text (Ok Begun) b = line ((78 ∷ []) ∷ [])
+answer_text (Ok (Added k)) b = line ((65 ∷ []) ∷ digits k ∷ [])
+answer_text (Ok (Struck k)) b = line ((75 ∷ []) ∷ digits k ∷ [])
+answer_text (Ok Summed) b = sums_line b.n (sums_of (samples_in b))
+answer_text (Ok Tabled) b = samples_text b.n (length (samples_in b)) (samples_in b)
+answer_text (Err refusal) b = line ((88 ∷ []) ∷ digits (number_of refusal) ∷ [])
 
 -- a call on the book b
 unfoldable pub call_text : Book → BookCall → List ℕ

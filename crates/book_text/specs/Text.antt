@@ -1,6 +1,5 @@
 -- A text of calls on a book: one call a line, each line ended by a line feed.
-use Rattle.std.specs.Prelude.{ℕ, ◌+◌, Bool, cond, not, ◌&&◌, List, [], ◌∷◌, ◌++◌, eqb, ltb, length, take}
-use Rattle.std.proofs.Math.Option.{Option, none, some}
+use Rattle.std.specs.Prelude.{ℕ, ◌+◌, Bool, cond, not, ◌&&◌, List, [], ◌∷◌, ◌++◌, eqb, ltb, length, take, Option, Some, None}
 use Rattle.text.specs.Parts.{split}
 use Rattle.book.specs.Book.{no_book}
 use Rattle.book.specs.Calls.{BookCall, book_after}
@@ -11,8 +10,8 @@ use Rattle.book_text.specs.Calls.{book_call_of}
 
 -- a line that is a call prints its answer, and the lines after it are played on the book after it; at another line it stops
 unfoldable pub book_line_then : Book → ℕ → Option BookCall → (Book → List ℕ) → List ℕ
-book_line_then b k none go = unknown_line k
-book_line_then b k (some call) go = call_text b call ++ go (book_after b call)
+book_line_then b k None go = unknown_line k
+book_line_then b k (Some call) go = call_text b call ++ go (book_after b call)
 
 -- What the lines from number k on print, played on the book b. The last part has no line feed after it: it is no line where it is empty and no
 -- input is left after the text, else a line that was not read whole.

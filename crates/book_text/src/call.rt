@@ -1,40 +1,27 @@
 // A call on a book, by the tag and the numbers of its line.
-ghost use Rattle.std.specs.Prelude.{◌≡◌, ◌≤◌, length, take};
-ghost use Rattle.std.proofs.Math.Option.{none};
+ghost use Rattle.std.specs.Prelude.{◌≡◌, ◌≤◌, length};
 ghost use Rattle.sums.specs.Sums.{sums_of};
 ghost use Rattle.book.specs.Book.{samples_in};
 ghost use Rattle.book.specs.Calls.{begin, make_table, read_summary, rebuild, strike};
 ghost use Rattle.book.specs.Consistent.{Consistent};
 ghost use Rattle.call_text.specs.Calls.{number_limit};
 ghost use Rattle.book_text.specs.Answers.{call_text};
-ghost use Rattle.book_text.specs.Calls.{book_call_by, book_call_of, one_number_of, sample_by};
+ghost use Rattle.book_text.specs.Calls.{book_call_by, book_call_of, no_number_of, one_number_of, sample_by};
 ghost use Rattle.book_text.specs.Pages.{Pages};
-ghost use Rattle.book_text.specs.inner.Played.{PlaysBare, PlaysCall, ShortPlay, is_refused};
+ghost use Rattle.book_text.specs.inner.Played.{PlaysCall, ShortPlay, number_alone};
 
-use crate::page::{Page, empty, short_page, sums_page, table_page};
-use book::{Book, BookAnswer, Changed};
-use call_text::line::{Fields, read_fields};
+use crate::page::{Page, refused, short_page, sums_page, table_page};
+use book::{Book, Changed};
+use call_text::line::read_fields;
 use call_text::reading::put_readings;
 use call_text::request::{NUMBERS, argument};
 use sums::Sums;
 
-// Whether the line is a call, the book after it, and what it prints.
+// The book after a call, and what the call prints.
 #[derive(Drop)]
 pub struct BookPlay {
-    pub known: bool,
     pub book: Book,
     pub page: Page,
-}
-
-fn no_call(b: Book) -> BookPlay
-    requires { Consistent b }
-    ensures { PlaysCall b none result }
-{
-    BookPlay {
-        known: false,
-        book: b,
-        page: empty(),
-    }
 }
 
 fn changed(z: Changed) -> BookPlay
@@ -43,55 +30,47 @@ fn changed(z: Changed) -> BookPlay
     let answer = z.answer;
     let book = z.book;
     BookPlay {
-        known: true,
         book,
         page: short_page(answer),
     }
 }
 
-fn begun(b: Book, numbers: &[i64], count: usize) -> BookPlay
-    requires { Consistent b × (count ≤ length numbers.now) }
-    ensures { PlaysCall b (one_number_of begin (take count numbers.now)) result }
+// The number of a call that has one.
+fn one_number(numbers: &[i64]) -> Option<usize>
+    ensures { result ≡ number_alone numbers.now }
 {
-    if count != 1 {
-        return no_call(b);
+    match numbers {
+        [x] => Some(argument(*x) as usize),
+        _ => None,
     }
-    changed(b.begin(argument(numbers[0]) as usize))
 }
 
-fn struck(b: Book, numbers: &[i64], count: usize) -> BookPlay
-    requires { Consistent b × (count ≤ length numbers.now) }
-    ensures { PlaysCall b (one_number_of strike (take count numbers.now)) result }
+fn begun(b: Book, numbers: &[i64]) -> Option<BookPlay>
+    requires { Consistent b }
+    ensures { PlaysCall b (one_number_of begin numbers.now) result }
 {
-    if count != 1 {
-        return no_call(b);
-    }
-    changed(b.strike(argument(numbers[0]) as usize))
+    let n = one_number(numbers)?;
+    Some(changed(b.begin(n)))
 }
 
-fn added(b: Book, numbers: &[i64], count: usize) -> BookPlay
-    requires { Consistent b × (count ≤ length numbers.now) × (count ≤ number_limit) }
-    ensures { PlaysCall b (sample_by (take count numbers.now)) result }
+fn struck(b: Book, numbers: &[i64]) -> Option<BookPlay>
+    requires { Consistent b }
+    ensures { PlaysCall b (one_number_of strike numbers.now) result }
 {
-    if count < 1 {
-        return no_call(b);
+    let i = one_number(numbers)?;
+    Some(changed(b.strike(i)))
+}
+
+fn added(b: Book, numbers: &[i64]) -> Option<BookPlay>
+    requires { Consistent b × (length numbers.now ≤ number_limit) }
+    ensures { PlaysCall b (sample_by numbers.now) result }
+{
+    if numbers.is_empty() {
+        return None;
     }
     let mut readings = [0u32; NUMBERS];
-    put_readings(numbers, count, &mut readings);
-    changed(b.add(readings[0], &readings[1..count]))
-}
-
-fn is_refused(answer: BookAnswer) -> bool
-    ensures { result ≡ is_refused answer }
-{
-    match answer {
-        BookAnswer::Begun => false,
-        BookAnswer::Added(_) => false,
-        BookAnswer::Struck(_) => false,
-        BookAnswer::Summed => false,
-        BookAnswer::Tabled => false,
-        BookAnswer::Refused(_) => true,
-    }
+    put_readings(numbers, &mut readings);
+    Some(changed(b.add(readings[0], &readings[1..numbers.len()])))
 }
 
 // The line of the sums t, or of the refusal.
@@ -99,102 +78,83 @@ fn sums_said(b: Book, t: Sums) -> Page
     requires { Consistent b × (t ≡ sums_of (samples_in b)) }
     ensures { Pages (call_text b read_summary) result × Pages (call_text b rebuild) result }
 {
-    let answer = b.summary_answer();
-    if is_refused(answer) {
-        return short_page(answer);
+    match b.summary_answer() {
+        Ok(()) => sums_page(b.channels(), t),
+        Err(refusal) => refused(refusal),
     }
-    sums_page(b.channels(), t)
 }
 
 fn table_said(b: Book) -> Page
     requires { Consistent b }
     ensures { Pages (call_text b make_table) result }
 {
-    let tabled = b.table();
-    let answer = tabled.answer;
-    let table = tabled.table;
-    if is_refused(answer) {
-        return short_page(answer);
+    match b.table() {
+        Ok(table) => table_page(b.channels(), b.summary().k as usize, table),
+        Err(refusal) => refused(refusal),
     }
-    let summary = b.summary();
-    table_page(b.channels(), summary.k as usize, table)
 }
 
-fn summed(b: Book, count: usize) -> BookPlay
+fn summed(b: Book, numbers: &[i64]) -> Option<BookPlay>
     requires { Consistent b }
-    ensures { PlaysBare b read_summary count result }
+    ensures { PlaysCall b (no_number_of read_summary numbers.now) result }
 {
-    if count != 0 {
-        return no_call(b);
+    if !numbers.is_empty() {
+        return None;
     }
-    BookPlay {
-        known: true,
+    Some(BookPlay {
         book: b,
         page: sums_said(b, b.summary()),
-    }
+    })
 }
 
-fn rebuilt(b: Book, count: usize) -> BookPlay
+fn rebuilt(b: Book, numbers: &[i64]) -> Option<BookPlay>
     requires { Consistent b }
-    ensures { PlaysBare b rebuild count result }
+    ensures { PlaysCall b (no_number_of rebuild numbers.now) result }
 {
-    if count != 0 {
-        return no_call(b);
+    if !numbers.is_empty() {
+        return None;
     }
-    BookPlay {
-        known: true,
+    Some(BookPlay {
         book: b,
         page: sums_said(b, b.rebuild()),
-    }
+    })
 }
 
-fn tabled(b: Book, count: usize) -> BookPlay
+fn tabled(b: Book, numbers: &[i64]) -> Option<BookPlay>
     requires { Consistent b }
-    ensures { PlaysBare b make_table count result }
+    ensures { PlaysCall b (no_number_of make_table numbers.now) result }
 {
-    if count != 0 {
-        return no_call(b);
+    if !numbers.is_empty() {
+        return None;
     }
-    BookPlay {
-        known: true,
+    Some(BookPlay {
         book: b,
         page: table_said(b),
-    }
+    })
 }
 
-fn by_tag(b: Book, tag: u8, numbers: &[i64], count: usize) -> BookPlay
-    requires { Consistent b × (count ≤ length numbers.now) × (count ≤ number_limit) }
-    ensures { PlaysCall b (book_call_by tag (take count numbers.now)) result }
+#[tactic(auto, unfolding(crate::specs::Calls::book_call_by))]
+fn by_tag(b: Book, tag: u8, numbers: &[i64]) -> Option<BookPlay>
+    requires { Consistent b × (length numbers.now ≤ number_limit) }
+    ensures { PlaysCall b (book_call_by tag numbers.now) result }
 {
-    if tag == b'N' {
-        return begun(b, numbers, count);
+    match tag {
+        b'N' => begun(b, numbers),
+        b'A' => added(b, numbers),
+        b'K' => struck(b, numbers),
+        b'Z' => summed(b, numbers),
+        b'B' => rebuilt(b, numbers),
+        b'T' => tabled(b, numbers),
+        _ => None,
     }
-    if tag == b'A' {
-        return added(b, numbers, count);
-    }
-    if tag == b'K' {
-        return struck(b, numbers, count);
-    }
-    if tag == b'Z' {
-        return summed(b, count);
-    }
-    if tag == b'B' {
-        return rebuilt(b, count);
-    }
-    if tag == b'T' {
-        return tabled(b, count);
-    }
-    no_call(b)
 }
 
 // The call of a line, on the book that the lines before it left.
-pub(crate) fn play_line(b: Book, line: &[u8]) -> BookPlay
+pub(crate) fn play_line(b: Book, line: &[u8]) -> Option<BookPlay>
     requires { Consistent b }
     ensures { PlaysCall b (book_call_of line.now) result }
 {
     let mut numbers = [0i64; NUMBERS];
-    let Fields::Are { tag, count } = read_fields(line, &mut numbers) else {
-        return no_call(b);
-    };
-    by_tag(b, tag, &numbers, count)
+    let fields = read_fields(line, &mut numbers)?;
+    by_tag(b, fields.tag, &numbers[..fields.count])
 }

@@ -10,10 +10,8 @@ pub(crate) fn put_naturals(buf: &mut [u8], at: usize, values: &[u64]) -> usize
     ensures { NaturalsPut values.now at (length values.now) buf.old buf.new result }
 {
     let mut next = at;
-    let mut i = 0;
-    while i < values.len() {
-        next = natural_field(buf, next, values[i]);
-        i += 1;
+    for value in values {
+        next = natural_field(buf, next, *value);
     }
     next
 }
@@ -24,12 +22,10 @@ pub(crate) fn put_cross(buf: &mut [u8], at: usize, cross: &[u64], n: usize) -> u
     ensures { NaturalsPut (cross_rows n cross.now n) at (8 * n) buf.old buf.new result }
 {
     let mut next = at;
-    let mut i = 0;
-    while i < n {
+    for i in 0..n {
         let from = 9 * i;
         let to = 8 * i + n;
         next = put_naturals(buf, next, &cross[from..to]);
-        i += 1;
     }
     next
 }

@@ -1,6 +1,7 @@
 // What a line prints, in an array.
-ghost use Rattle.std.specs.Prelude.{[], ◌∷◌, ◌≡◌, ◌≤◌};
+ghost use Rattle.std.specs.Prelude.{[], ◌∷◌, ◌≡◌, ◌≤◌, length, map};
 ghost use Rattle.limits.specs.Limits.{most_samples};
+ghost use Rattle.refusal.specs.Refusal.{number_of};
 ghost use Rattle.text.specs.Decimal.{digits};
 ghost use Rattle.text.specs.Line.{line};
 ghost use Rattle.book_text.specs.Answers.{sums_line};
@@ -11,6 +12,7 @@ use crate::naturals::{put_cross, put_naturals};
 use book::BookAnswer;
 use call_text::answer::natural_field;
 use job_table::lines::put_table;
+use refusal::Refusal;
 use scatter::table::Table;
 use sums::Sums;
 use text::put_byte;
@@ -31,21 +33,14 @@ pub(crate) fn empty() -> Page
     Page { bytes, len: 0 }
 }
 
-pub(crate) fn tag_alone(tag: u8) -> Page
-    ensures { Pages (line ((tag ∷ []) ∷ [])) result }
-{
-    let mut bytes = [0u8; 2048];
-    let end = put_byte(&mut bytes, 0, tag);
-    let len = put_byte(&mut bytes, end, LINE_FEED);
-    Page { bytes, len }
-}
-
-pub(crate) fn tag_and_number(tag: u8, x: u64) -> Page
-    ensures { Pages (line ((tag ∷ []) ∷ digits x ∷ [])) result }
+// A tag and the numbers after it, each after a tab.
+pub(crate) fn tagged(tag: u8, numbers: &[u64]) -> Page
+    requires { length numbers.now ≤ 64 }
+    ensures { Pages (line ((tag ∷ []) ∷ map digits numbers.now)) result }
 {
     let mut bytes = [0u8; 2048];
     let first = put_byte(&mut bytes, 0, tag);
-    let end = natural_field(&mut bytes, first, x);
+    let end = put_naturals(&mut bytes, first, numbers);
     let len = put_byte(&mut bytes, end, LINE_FEED);
     Page { bytes, len }
 }
@@ -75,16 +70,23 @@ pub(crate) fn table_page(n: usize, k: usize, table: Table) -> Page
     Page { bytes, len }
 }
 
-// The line of an answer that has one number or none.
-pub(crate) fn short_page(answer: BookAnswer) -> Page
+// `X` and the refusal's number.
+pub(crate) fn refused(refusal: Refusal) -> Page
+    ensures { Pages (line ((88 ∷ []) ∷ digits (number_of refusal) ∷ [])) result }
+{
+    tagged(b'X', &[u64::from(refusal.number())])
+}
+
+// The line of an answer that has one number or none, or of a refusal.
+#[tactic(auto, unfolding(crate::specs::inner::Played::short_text))]
+pub(crate) fn short_page(answer: Result<BookAnswer, Refusal>) -> Page
     ensures { Pages (short_text answer) result }
 {
     match answer {
-        BookAnswer::Begun => tag_alone(b'N'),
-        BookAnswer::Added(k) => tag_and_number(b'A', k),
-        BookAnswer::Struck(k) => tag_and_number(b'K', k),
-        BookAnswer::Summed => empty(),
-        BookAnswer::Tabled => empty(),
-        BookAnswer::Refused(number) => tag_and_number(b'X', number as u64),
+        Ok(BookAnswer::Begun) => tagged(b'N', &[]),
+        Ok(BookAnswer::Added(k)) => tagged(b'A', &[k]),
+        Ok(BookAnswer::Struck(k)) => tagged(b'K', &[k]),
+        Ok(BookAnswer::Summed | BookAnswer::Tabled) => empty(),
+        Err(refusal) => refused(refusal),
     }
 }

@@ -1,77 +1,91 @@
 // A line of a text of calls on a book, played on the book that the lines before it left.
-ghost use Rattle.std.specs.Prelude.{cond, []};
+ghost use Rattle.std.specs.Prelude.{◌≡◌, cond, []};
 ghost use Rattle.book.specs.Consistent.{Consistent};
 ghost use Rattle.play.specs.Text.{unknown_line};
-ghost use Rattle.book_text.specs.Steps.{Starts, StepsBook};
-ghost use Rattle.book_text.specs.inner.Played.{StopsOn};
+ghost use Rattle.book_text.specs.Steps.{Starts, StepsBook, start_place};
+ghost use Rattle.book_text.specs.inner.Played.{Stops};
 
 use crate::call::play_line;
-use crate::page::{Page, empty, tag_and_number};
+use crate::page::{Page, empty, tagged};
 use book::Book;
 use call_text::find::find;
 
-// Whether the next line is to be played, where that one starts and its number, the book to play it on, and what this one prints.
-#[derive(Drop)]
-pub struct BookStep {
-    pub more: bool,
+// Where a line starts and its number, and the book that the lines before it left.
+#[derive(Clone, Copy)]
+pub struct Place {
     pub at: usize,
     pub line: u64,
     pub book: Book,
+}
+
+impl Place {
+    // The text's start: line 1, and no book.
+    #[tactic(auto, unfolding(crate::specs::Steps::start_place))]
+    pub fn start() -> Self
+        ensures { (result ≡ start_place) × Consistent result.book }
+    {
+        Place {
+            at: 0,
+            line: 1,
+            book: Book::none(),
+        }
+    }
+}
+
+// What a line prints, and where the next one is to be played, if one is.
+#[derive(Drop)]
+pub struct BookStep {
     pub page: Page,
+    pub next: Option<Place>,
 }
 
 // `?` and the line's number: no call, or a line that was not read whole.
-fn unknown(b: Book, at: usize, line: u64) -> BookStep
-    ensures { StopsOn b at line (unknown_line line) result }
+#[tactic(auto, unfolding(play::specs::Text::unknown_line))]
+fn unknown(line: u64) -> BookStep
+    ensures { Stops (unknown_line line) result }
 {
     BookStep {
-        more: false,
-        at,
-        line,
-        book: b,
-        page: tag_and_number(b'?', line),
+        page: tagged(b'?', &[line]),
+        next: None,
     }
 }
 
 // The text's end: a line that was not read whole starts there where input is left.
-fn ended(b: Book, left: bool, at: usize, line: u64) -> BookStep
-    ensures { StopsOn b at line (cond left (unknown_line line) []) result }
+fn ended(left: bool, line: u64) -> BookStep
+    ensures { Stops (cond left (unknown_line line) []) result }
 {
     if left {
-        return unknown(b, at, line);
+        return unknown(line);
     }
     BookStep {
-        more: false,
-        at,
-        line,
-        book: b,
         page: empty(),
+        next: None,
     }
 }
 
 // Plays the line that starts at a place of the text; `left` says that input is left after the text, so that a line at its end is not whole.
-pub fn step(b: Book, text: &[u8], left: bool, at: usize, line: u64) -> BookStep
-    requires { Consistent b × Starts text.now at line }
-    ensures { StepsBook text.now left b at line result }
+pub fn step(here: Place, text: &[u8], left: bool) -> BookStep
+    requires { Consistent here.book × Starts text.now here.at here.line }
+    ensures { StepsBook text.now left here result }
 {
+    let at = here.at;
+    let line = here.line;
     if text.len() <= at {
-        return ended(b, left, at, line);
+        return ended(left, line);
     }
     let end = find(text, at, b'\n');
     if text.len() <= end {
-        return unknown(b, at, line);
+        return unknown(line);
     }
-    let done = play_line(b, &text[at..end]);
-    if !done.known {
-        return unknown(b, at, line);
-    }
-    let book = done.book;
-    let page = done.page;
+    let Some(done) = play_line(here.book, &text[at..end]) else {
+        return unknown(line);
+    };
     BookStep {
-        more: true,
-        at: end + 1,
-        line: line + 1,
-        book,
-        page,
+        page: done.page,
+        next: Some(Place {
+            at: end + 1,
+            line: line + 1,
+            book: done.book,
+        }),
     }
 }

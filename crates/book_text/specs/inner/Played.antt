@@ -1,6 +1,7 @@
 -- What private functions promise of a call's line.
-use Rattle.std.specs.Prelude.{ℕ, ◌+◌, ◌*◌, ◌≤◌, ◌≡◌, Bool, true, false, List, [], ◌∷◌, map, ℤ, length}
-use Rattle.std.proofs.Math.Option.{Option, none, some}
+use Rattle.std.specs.Prelude.{ℕ, ◌+◌, ◌*◌, ◌≤◌, ◌≡◌, List, [], ◌∷◌, map, ℤ, Option, Some, None, Result, Ok, Err}
+use Rattle.refusal.specs.Refusal.{number_of}
+use Rattle.refusal.specs.declared.Refusal.{Refusal}
 use Rattle.text.specs.Decimal.{digits}
 use Rattle.text.specs.Line.{further, line}
 use Rattle.text.specs.Put.{Put}
@@ -9,15 +10,15 @@ use Rattle.book.specs.Consistent.{Consistent}
 use Rattle.book.specs.declared.Book.{Book}
 use Rattle.book.specs.declared.Changed.{Changed}
 use Rattle.book.specs.declared.BookAnswer.{BookAnswer}
-use Rattle.book.specs.declared.BookAnswer.TheVariants.{Begun, Added, Struck, Summed, Tabled, Refused}
+use Rattle.book.specs.declared.BookAnswer.TheVariants.{Begun, Added, Struck, Summed, Tabled}
 use Rattle.readings.specs.Samples.{Sample}
 use Rattle.scatter.specs.Table.{table_of}
 use Rattle.scatter.specs.declared.table.Table.{Table}
 use Rattle.job_table.specs.Table.{samples_text}
 use Rattle.book_text.specs.Answers.{call_text}
 use Rattle.book_text.specs.declared.page.Page.{Page}
-use Rattle.book_text.specs.Calls.{no_number_of}
-use Rattle.book_text.specs.Pages.{Pages, page_of}
+use Rattle.call_text.specs.Calls.{argument}
+use Rattle.book_text.specs.Pages.{Pages}
 use Rattle.book_text.specs.declared.call.BookPlay.{BookPlay}
 use Rattle.book_text.specs.declared.step.BookStep.{BookStep}
 
@@ -29,60 +30,42 @@ pub record NaturalsPut (xs : List ℕ) (at most : ℕ) (entry exit : List ℕ) (
   pub puts : Put (naturals xs) at entry exit r
   pub bounded : r ≤ at + 21 * most
 
--- the line of an answer that has one number or none
-unfoldable pub short_text : BookAnswer → List ℕ
-short_text Begun = line ((78 ∷ []) ∷ [])
-short_text (Added k) = line ((65 ∷ []) ∷ digits k ∷ [])
-short_text (Struck k) = line ((75 ∷ []) ∷ digits k ∷ [])
-short_text Summed = []
-short_text Tabled = []
-short_text (Refused number) = line ((88 ∷ []) ∷ digits number ∷ [])
+-- the line of an answer that has one number or none, or of a refusal
+unfoldable pub short_text : Result BookAnswer Refusal → List ℕ
+short_text (Ok Begun) = line ((78 ∷ []) ∷ [])
+short_text (Ok (Added k)) = line ((65 ∷ []) ∷ digits k ∷ [])
+short_text (Ok (Struck k)) = line ((75 ∷ []) ∷ digits k ∷ [])
+short_text (Ok Summed) = []
+short_text (Ok Tabled) = []
+short_text (Err refusal) = line ((88 ∷ []) ∷ digits (number_of refusal) ∷ [])
 
-unfoldable pub is_given : Option BookCall → Bool
-is_given none = false
-is_given (some call) = true
+-- the number of a call that has one
+unfoldable pub number_alone : List ℤ → Option ℕ
+number_alone [] = None
+number_alone (x ∷ []) = Some (argument x)
+number_alone (x ∷ y ∷ xs) = None
 
-unfoldable pub book_then : Book → Option BookCall → Book
-book_then b none = b
-book_then b (some call) = book_after b call
-
-unfoldable pub text_then : Book → Option BookCall → List ℕ
-text_then b none = []
-text_then b (some call) = call_text b call
-
--- the call of a line, if it is one, on the book b
-pub record PlaysCall (b : Book) (o : Option BookCall) (z : BookPlay) : Type 0 where
-  pub known : z.known ≡ is_given o
-  pub leaves : z.book ≡ book_then b o
-  pub page : Pages (text_then b o) z.page
+-- a call on the book b: the book after it, and what it prints
+pub record Plays (b : Book) (call : BookCall) (z : BookPlay) : Type 0 where
+  pub leaves : z.book ≡ book_after b call
+  pub page : Pages (call_text b call) z.page
   pub keeps : Consistent z.book
 
--- the text's end, or a line that is no call
-unfoldable pub stopped_on : Book → ℕ → ℕ → List ℕ → BookStep
-stopped_on b at k text = record { more = false; at = at; line = k; book = b; page = page_of text }
+-- the call of a line, if it is one, on the book b
+pub data PlaysCall (b : Book) : Option BookCall → Option BookPlay → Type 0 where
+  no_call : PlaysCall b None None
+  plays : {call : BookCall} {z : BookPlay} → Plays b call z → PlaysCall b (Some call) (Some z)
 
-pub record StopsOn (b : Book) (at k : ℕ) (text : List ℕ) (z : BookStep) : Type 0 where
-  pub is : z ≡ stopped_on b at k text
-  pub short : z.page.len ≤ 2048
+-- the text's end, or a line that is no call: no line is played after it
+pub record Stops (text : List ℕ) (z : BookStep) : Type 0 where
+  pub page : Pages text z.page
+  pub ends : z.next ≡ None
 
 -- a table, in an array: where it is that of samples, their text
 pub record TablePage (n k : ℕ) (table : Table) (r : Page) : Type 0 where
   pub page : (ss : List Sample) → table ≡ table_of n ss → Pages (samples_text n k ss) r
 
-unfoldable pub is_refused : BookAnswer → Bool
-is_refused Begun = false
-is_refused (Added k) = false
-is_refused (Struck k) = false
-is_refused Summed = false
-is_refused Tabled = false
-is_refused (Refused number) = true
-
 -- the book after a call, and the line of its answer
 pub record ShortPlay (z : Changed) (r : BookPlay) : Type 0 where
-  pub known : r.known ≡ true
   pub book : r.book ≡ z.book
   pub page : Pages (short_text z.answer) r.page
-
--- a call that has no numbers, of a line with so many
-pub record PlaysBare (b : Book) (call : BookCall) (count : ℕ) (z : BookPlay) : Type 0 where
-  pub plays : (xs : List ℤ) → length xs ≡ count → PlaysCall b (no_number_of call xs) z

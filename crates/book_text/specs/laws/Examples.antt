@@ -8,6 +8,7 @@ use Rattle.text.specs.Decimal.{digits, digits_by}
 use Rattle.text.specs.Line.{further, line}
 use Rattle.text.specs.Numeral.{leading_zero, value_from}
 use Rattle.text.specs.Parts.{before, onto, split}
+use Rattle.refusal.specs.Refusal.{judged}
 use Rattle.readings.specs.Samples.{sample_at, total, z}
 use Rattle.sums.specs.Combined.{minus_of, placewise, plus_of}
 use Rattle.sums.specs.Sums.{products, sums_of, totals}
@@ -25,7 +26,7 @@ pub examples :
     (summary_text false (ascii "K\t1\nZ\n") ≡ ascii "X\t2\nX\t2\n")
     × (summary_text true (ascii "N\t2\n") ≡ ascii "N\n?\t2\n")
     × (summary_text false (ascii "N\t2\nA\t2\t3\t4\nZ\nK\t1\nB\n") ≡ ascii "N\nA\t1\nZ\t1\t6\t8\t36\t48\t64\nK\t0\nZ\t0\t0\t0\t0\t0\t0\n")
-unfolding ascii summary_text book_played book_line_then unknown_line split onto book_call_of of_fields with_numbers book_call_by one_number_of
+unfolding judged ascii summary_text book_played book_line_then unknown_line split onto book_call_of of_fields with_numbers book_call_by one_number_of
     no_number_of sample_by
     number_limit argument reading each_number before signed_of with_minus without_minus unsigned_of stands_for numeral leading_zero value_from
     all_within within

@@ -3,18 +3,19 @@ use Rattle.std.proofs.Common.{sym, ◌∙◌, arith}
 use Rattle.book_text.specs.laws.Steps.{at-start, ends, goes_on}
 use Rattle.summary.proofs.play_all.Goals as goal
 
-pub loop-done-init : goal.loop-done-init
-loop-done-init g c = at-start _ _ _ c.none-b.ensures.0 c.none-b.ensures.1
+pub loop-next-init : goal.loop-next-init
+loop-next-init g c = at-start _ _ _ c.start-here.ensures.0 c.start-here.ensures.1
 
 pub step-done-requires : goal.step-done-requires
-step-done-requires g c = (c.loop-done.invariant.consistent, c.loop-done.invariant.starts)
+step-done-requires g c = (c.loop-next.invariant.consistent, c.loop-next.invariant.starts)
 
-pub returns-then-not-show : goal.returns-then-not-show
-returns-then-not-show g c = ends c.step-done.ensures c.loop-done.invariant (sym c.show.ensures ∙ c.if-not-show.true)
+pub returns-in_default : goal.returns-in_default
+returns-in_default g c = ends c.step-done.ensures c.loop-next.invariant (sym c.show.ensures ∙ c.in_default.is)
 
-pub loop-done-smaller : goal.loop-done-smaller
-loop-done-smaller g c =
-    omega (arith, c.step-done.ensures.moves (sym c.show.ensures ∙ c.if-not-show.false), c.step-done.ensures.starts.place)
+pub loop-next-smaller : goal.loop-next-smaller
+loop-next-smaller g c =
+    let on = c.step-done.ensures.goes _ (sym c.show.ensures ∙ c.in-Some.is) in
+    omega (arith, on.moves, on.starts.place)
 
-pub loop-done-preserved : goal.loop-done-preserved
-loop-done-preserved g c = goes_on c.step-done.ensures c.loop-done.invariant (sym c.show.ensures ∙ c.if-not-show.false)
+pub loop-next-preserved : goal.loop-next-preserved
+loop-next-preserved g c = goes_on c.step-done.ensures c.loop-next.invariant _ (sym c.show.ensures ∙ c.in-Some.is)
