@@ -1,5 +1,6 @@
 -- The request of a line's numbers, by how many they are.
-use Rattle.std.proofs.Common.{◌≡◌, ◌≤◌, ◌<◌, ◌+◌, ◌∙◌, ℕ, ℤ, List, [], ◌∷◌, Err, None, Ok, Option, Result, Some, arith, drop, get_or, length, length-drop, map, nat_abs, negsuc, pos, refl, suc, sym, take, zero}
+use Rattle.std.proofs.Common.{◌≡◌, ◌≤◌, ◌<◌, ◌+◌, ◌∙◌, ℕ, ℤ, List, [], ◌∷◌, Err, None, Ok, Option, Result, Some, arith, drop, get_or}
+use Rattle.std.proofs.Common.{length, length-drop, map, nat_abs, negsuc, pos, refl, suc, sym, take, zero}
 use Prim.Native.Nat.{◌-◌}
 use Rattle.std.specs.Int.{FitsUnsignedBits}
 use Rattle.std.specs.Result.{OkIff, result_ok, result_unwrap_or}
@@ -156,7 +157,8 @@ module _ (bench : ℕ) where
   no-argument call (x ∷ []) e = absurd (let z : ◌≡◌ {A = ℕ} 0 1 = cc in omega arith)
   no-argument call (x ∷ y ∷ ys) e = refl
 
-  pub an-argument : (call : ℕ → Call) (ys : List ℤ) (i : ℕ) → Some i ≡ only ys → Some (asked_by bench (call i)) ≡ asked_for (named bench (one_by call ys))
+  pub an-argument : (call : ℕ → Call) (ys : List ℤ) (i : ℕ) → Some i ≡ only ys →
+      Some (asked_by bench (call i)) ≡ asked_for (named bench (one_by call ys))
   unfolding only one_by named asked_for
   an-argument call [] i e = absurd (let z : ◌≡◌ {A = ℕ} 0 1 = cc in omega arith)
   an-argument call (x ∷ []) i e = let w : i ≡ argument x = cc in rw w

@@ -83,6 +83,8 @@ zero_no [] h e = absurd (omega arith)
 zero_no (b ∷ []) h e = absurd (omega arith)
 zero_no (b ∷ d ∷ bs) h e = simp (ne_eqb b 48 e)
 
+pub ruleset zeros = (zero_short, zero_first, zero_no)
+
 numeral-only : (f : List ℕ) → numeral f ≡ true → all_within 48 57 f ≡ true
 unfolding numeral
 numeral-only f e =
@@ -106,6 +108,8 @@ module _ (f : List ℕ) where
 
     pub of_digits : all_within 48 57 f ≡ true
     of_digits = numeral-only f e
+
+pub ruleset naturals = (natural_none, natural_long, natural_short, of_digits)
 
 -- digits have a value below a power of ten
 value-below : (f : List ℕ) (v : ℕ) → all_within 48 57 f ≡ true → value_from v f < (v + 1) * 10 ^ length f

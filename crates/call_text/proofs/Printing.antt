@@ -56,8 +56,8 @@ pub line-begun : {tag : ℕ} (xs : List ℕ) {x : List ℕ} {r : ℕ} → Put (t
 unfolding naturals further
 line-begun xs p = record { puts = p; bounded = omega (arith, p.answer) }
 
-pub line-on : {tag : ℕ} (xs : List ℕ) (i : ℕ) {x y : List ℕ} {r s : ℕ} → i < length xs → Begun tag xs i x r → FieldPut (digits (get_or xs i 0)) r x y s →
-    Begun tag xs (i + 1) y s
+pub line-on : {tag : ℕ} (xs : List ℕ) (i : ℕ) {x y : List ℕ} {r s : ℕ} → i < length xs → Begun tag xs i x r →
+    FieldPut (digits (get_or xs i 0)) r x y s → Begun tag xs (i + 1) y s
 line-on {tag} xs i h b q = record {
   puts = same-put (append_assoc (tag ∷ []) (naturals xs i) _ ∙ ap (λ (t : List ℕ). tag ∷ t) (sym (naturals_more xs i h))) (put_then b.puts q.puts);
   bounded = omega (arith, b.bounded, q.bounded);

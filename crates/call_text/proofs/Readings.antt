@@ -13,8 +13,8 @@ use lib.ListN.{length, take, drop, get_or, set, length-map}
 use lib.Seq.{drop-cons, length-take-le, set_at, take-suc}
 use Rattle.call_text.specs.Calls.{most_reading, reading}
 
-pub reading-tried : {E : Type 0} (x : ℤ) (r : Result ℕ E) (y : ℕ) → OkIff r (FitsUnsignedBits 32 x) (nat_abs x) → y ≡ result_unwrap_or r most_reading →
-    y ≡ reading x
+pub reading-tried : {E : Type 0} (x : ℤ) (r : Result ℕ E) (y : ℕ) → OkIff r (FitsUnsignedBits 32 x) (nat_abs x) →
+    y ≡ result_unwrap_or r most_reading → y ≡ reading x
 unfolding reading
 reading-tried (pos n) (Ok m) y h e = e ∙ h.1 ∙ sym (let k : n ≤ most_reading = let w = h.0 in omega arith in simp (le-leb n most_reading k))
 reading-tried (pos n) (Err z) y h e =

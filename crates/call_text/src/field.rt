@@ -29,7 +29,7 @@ fn value(field: &[u8]) -> u64
     value
 }
 
-#[tactic(auto, using(crate::proofs::Digits::zero_short, crate::proofs::Digits::zero_first, crate::proofs::Digits::zero_no))]
+#[tactic(auto, using(crate::proofs::Digits::zeros))]
 fn leading_zero(field: &[u8]) -> bool
     ensures { result ≡ leading_zero field.now }
 {
@@ -42,7 +42,7 @@ fn is_numeral(field: &[u8]) -> bool
     !field.is_empty() && !leading_zero(field) && all_digits(field)
 }
 
-#[tactic(auto, using(crate::proofs::Digits::natural_none, crate::proofs::Digits::natural_long, crate::proofs::Digits::natural_short, crate::proofs::Digits::of_digits))]
+#[tactic(auto, using(crate::proofs::Digits::naturals))]
 fn natural(field: &[u8]) -> Option<u64>
     ensures { result ≡ unsigned_of field.now }
 {

@@ -64,7 +64,8 @@ pub read-samples : (bench n from middle to : ℕ) (numbers : List ℤ) (entry : 
     Read (LoadSamples bench n from middle to) numbers (map reading (take to numbers) ++ drop (length (take to numbers)) entry)
 unfolding request_call
 read-samples bench n from middle to numbers entry p = rw (length-take-le to numbers p.2) record {
-  same = λ i. by bench (load_samples n (read-part numbers entry to p.2 from middle p.0 p.1 i) (read-part numbers entry to p.2 middle to p.1 (omega arith) i));
+  same = λ i. by bench (load_samples n (read-part numbers entry to p.2 from middle p.0 p.1 i)
+      (read-part numbers entry to p.2 middle to p.1 (omega arith) i));
 }
 
 -- any other request needs none

@@ -81,7 +81,8 @@ module _ (left : Bool) (r : Record) (here : Cursor) where
       by false e = let z : ◌≡◌ {A = ℕ} 0 1 = cc in omega arith
   stands (line ∷ part ∷ parts) request next e = by (call_of line) refl e
     where
-      by : (o : Option NamedCall) → call_of line ≡ o → Call request next ≡ line_at here (length line) (asked_for o) → Stands (line ∷ part ∷ parts) next
+      by : (o : Option NamedCall) → call_of line ≡ o → Call request next ≡ line_at here (length line) (asked_for o) →
+          Stands (line ∷ part ∷ parts) next
       by None q e = absurd (let z : ◌≡◌ {A = ℕ} 0 1 = cc in omega arith)
       by (Some call) q e = record { line = line; part = part; others = parts; call = call; at = refl; is = q; goes = cc }
 
@@ -129,7 +130,8 @@ module _ {text : List ℕ} {left : Bool} {here : Cursor} {r : Record} {p : Print
     steps-call reached request on d y next a h =
         let w = stands left r here (lines_from text here) request on d.is in
         let c : request_call request numbers readings ≡ w.call = same_Some _ _ (d.calls ∙ ap first_call w.at ∙ w.is) in
-        called w.line w.part w.others w.call w.at w.is on w.goes reached next (rw c at a.leaves) (answered r w.call y next (rw c at a.is) (rw c at a.leaves) h)
+        let l = rw c at a.leaves in
+        called w.line w.part w.others w.call w.at w.is on w.goes reached next l (answered r w.call y next (rw c at a.is) l h)
       where
         answered : (r : Record) (call : NamedCall) (y : AxisAnswer) (next : Record) → y ≡ answer_for r call → next ≡ record_after r call →
             Prints (shown (told_with y next)) p → Prints (answer_line r call) p

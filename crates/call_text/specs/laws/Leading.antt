@@ -39,15 +39,16 @@ module _ {C : Type 0} (given : ℕ → List ℤ → Option C) where
     pub size : length numbers ≡ count
     pub few : count ≤ most
 
-  pub tagged : (most : ℕ) (fs : List (List ℕ)) (tag count : ℕ) → fields_by most fs ≡ Some (record { tag = tag; count = count }) → Tagged most fs tag count
+  pub tagged : (most : ℕ) (fs : List (List ℕ)) (tag count : ℕ) → fields_by most fs ≡ Some (record { tag = tag; count = count }) →
+      Tagged most fs tag count
   unfolding fields_by of_fields left_by counted with_numbers
   tagged most [] tag count e = absurd (let z : ◌≡◌ {A = ℕ} 0 1 = cc in omega arith)
   tagged most ([] ∷ fs) tag count e = absurd (let z : ◌≡◌ {A = ℕ} 0 1 = cc in omega arith)
   tagged most ((t ∷ b ∷ bs) ∷ fs) tag count e = absurd (let z : ◌≡◌ {A = ℕ} 0 1 = cc in omega arith)
   tagged most ((t ∷ []) ∷ fs) tag count e = by (leb (length fs) most) refl (each_number fs) refl e
     where
-      by : (b : Bool) → leb (length fs) most ≡ b → (o : Option (List ℤ)) → each_number fs ≡ o → cond b (with_numbers counted t o) None ≡ Some (record { tag = tag; count = count }) →
-          Tagged most ((t ∷ []) ∷ fs) tag count
+      by : (b : Bool) → leb (length fs) most ≡ b → (o : Option (List ℤ)) → each_number fs ≡ o →
+          cond b (with_numbers counted t o) None ≡ Some (record { tag = tag; count = count }) → Tagged most ((t ∷ []) ∷ fs) tag count
       by false l o q e = absurd (let z : ◌≡◌ {A = ℕ} 0 1 = cc in omega arith)
       by true l None q e = absurd (let z : ◌≡◌ {A = ℕ} 0 1 = cc in omega arith)
       by true l (Some ys) q e =

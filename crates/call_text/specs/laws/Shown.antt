@@ -42,15 +42,15 @@ lines = (refl, refl, refl, refl, refl, refl, refl, refl, refl, refl)
 -- `W` is the cyclic sweep, and `O` the tournament sweep; both have a bench and no other number
 sweeps : (call_of (ascii "W\t1") ≡ Some (by 1 sweep)) × (call_of (ascii "O\t4") ≡ Some (by 4 tournament_sweep)) × (call_of (ascii "W") ≡ None) ×
     (call_of (ascii "O") ≡ None) × (call_of (ascii "W\t1\t1") ≡ None) × (call_of (ascii "O\t4\t1") ≡ None)
-unfolding ascii call_of call_within call_of_fields of_fields with_numbers named_by named call_by sweep_by argument each_number signed_of without_minus unsigned_of stands_for
-    numeral number_limit split onto leading_zero value_from all_within within
+unfolding ascii call_of call_within call_of_fields of_fields with_numbers named_by named call_by sweep_by argument each_number signed_of without_minus
+    unsigned_of stands_for numeral number_limit split onto leading_zero value_from all_within within
 sweeps = (refl, refl, refl, refl, refl, refl)
 
 -- the bench comes first; one that is no bench is a call's too
 benches : (call_of (ascii "T\t3\t1\t2") ≡ Some (by 3 (turn 1 2))) × (call_of (ascii "Q\t2\t7") ≡ Some (by 2 (loose_pair 7))) ×
     (call_of (ascii "A\t0\t5") ≡ Some (by 0 (axis 5))) × (call_of (ascii "A\t-1\t5") ≡ Some (by beyond (axis 5)))
-unfolding ascii call_of call_within call_of_fields of_fields with_numbers named_by named call_by turn_by one_by argument each_number signed_of with_minus without_minus
-    unsigned_of stands_for numeral number_limit split onto leading_zero value_from all_within within
+unfolding ascii call_of call_within call_of_fields of_fields with_numbers named_by named call_by turn_by one_by argument each_number signed_of
+    with_minus without_minus unsigned_of stands_for numeral number_limit split onto leading_zero value_from all_within within
 benches = (refl, refl, refl, refl)
 
 -- k dilutions and then the counts; a negative count is a call, and so is a k of 0; a k with a minus and too few numbers after k are none
@@ -58,6 +58,6 @@ samples : (call_of (ascii "M\t1\t2\t2\t1\t100\t3\t0\t5\t7") ≡ Some (by 1 (load
     (call_of (ascii "M\t1\t2\t1\t1\t3\t-1") ≡ Some (by 1 (load_samples 2 (1 ∷ []) (3 ∷ most_reading ∷ [])))) ×
     (call_of (ascii "M\t1\t2\t0") ≡ Some (by 1 (load_samples 2 [] []))) × (call_of (ascii "M\t1\t2\t-1\t1") ≡ None) ×
     (call_of (ascii "M\t1\t2\t3\t1\t1") ≡ None)
-unfolding ascii call_of call_within call_of_fields of_fields with_numbers named_by named call_by samples_by argument reading each_number number_limit split onto
-    signed_of with_minus without_minus unsigned_of stands_for numeral leading_zero value_from all_within within
+unfolding ascii call_of call_within call_of_fields of_fields with_numbers named_by named call_by samples_by argument reading each_number number_limit
+    split onto signed_of with_minus without_minus unsigned_of stands_for numeral leading_zero value_from all_within within
 samples = (refl, refl, refl, refl, refl)

@@ -15,7 +15,9 @@ overflow_sub-b c = (a-digit _ _ c.loop-b.invariant.later c.loop-b-test.true).0
 
 pub overflow_add-value : goal.overflow_add-value
 overflow_add-value c =
-    omega (arith, nine-digits _ _ _ c.loop-b.invariant.low c.loop-b-test.true c.requires.0, a-digit _ _ c.loop-b.invariant.later c.loop-b-test.true, c.from.ensures)
+    let n = nine-digits _ _ _ c.loop-b.invariant.low c.loop-b-test.true c.requires.0 in
+    let d = a-digit _ _ c.loop-b.invariant.later c.loop-b-test.true in
+    omega (arith, c.from.ensures)
 
 pub loop-b-preserved : goal.loop-b-preserved
 loop-b-preserved c =
