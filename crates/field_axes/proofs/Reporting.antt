@@ -17,7 +17,8 @@ unfolding Short reply_by
 short-by (refused number at) size n h e = let x : ◌≡◌ {A = ℕ} 0 1 = cc in absurd (omega arith)
 short-by (accepted j) size n h e = by-test (leb (length (report_of j)) size) e
   where
-    by-test : (b : Bool) → ◌≡◌ {A = Result ℕ RefusedLine} (Ok n) (cond b (Ok (length (report_of j))) (Err (record { refusal = numbered 12; line = 0 }))) →
+    by-test : (b : Bool) → ◌≡◌ {A = Result ℕ RefusedLine} (Ok n) (cond b (Ok (length (report_of j)))
+        (Err (record { refusal = numbered 12; line = 0 }))) →
         n ≤ 2048
     by-test true e = let q : n ≡ length (report_of j) = cc in rw q h
     by-test false e = let x : ◌≡◌ {A = ℕ} 0 1 = cc in absurd (omega arith)

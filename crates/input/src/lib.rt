@@ -34,8 +34,8 @@ pub fn read_full<R: Read>(input: &mut R, buf: &mut [u8]) -> io::Result<usize>
     Err(io::Error::from(ErrorKind::TimedOut))
 }
 
-// Reads to the front of the buffer until the buffer is full, the input ends or it can't be read, and answers how many bytes stand there. What an error
-// leaves unread counts as an end, so this can't fail.
+// Reads to the front of the buffer until the buffer is full, the input ends or it can't be read, and answers how many bytes stand there. What an
+// error leaves unread counts as an end, so this can't fail.
 pub fn read_readable<R: Read>(input: &mut R, buf: &mut [u8]) -> usize
     ensures within { result ≤ length buf.new }
     ensures front { result ≡ length (take result buf.new) }

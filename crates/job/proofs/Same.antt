@@ -154,7 +154,8 @@ unfolding sample_of finished_at ending_at in_arrays judged
 judged-same text at j fair rest go continue bad E step = finished-same text at j go rest E
 judged-same text at j fair rest go continue (good xs next e q) E step =
     rw (in-range j.n xs e fair.channels)
-    (sample-same j (sample_in_range xs) (ltb (length j.dilutions) 256) (continue (record { numbers = sets (replicate 9 0) 0 xs; next = next })) (go xs)
+    (sample-same j (sample_in_range xs) (ltb (length j.dilutions) 256) (continue (record { numbers = sets (replicate 9 0) 0 xs; next = next }))
+        (go xs)
     (λ t. step xs next e q (ltb-true _ _ t)))
 
 -- The lines from a place on are read alike, with m lines at most left for samples.
@@ -169,7 +170,8 @@ alike-suc : (m : ℕ) (text : List ℕ) → ((at : ℕ) (j : Job) → Alike m te
 unfolding samples_at in_arrays
 alike-suc m text ih at j fair h =
     let ls = split 10 (drop at text) in
-    judged-same text at j fair (tail ls) (λ xs. job_after (with_sample j xs) (tail ls)) (λ line. samples_at m text line.next (kept (in_arrays j) line.numbers))
+    judged-same text at j fair (tail ls) (λ xs. job_after (with_sample j xs) (tail ls))
+        (λ line. samples_at m text line.next (kept (in_arrays j) line.numbers))
     (line_read text 83 refl refl j.n at)
     (line_read text 69 refl refl 0 at)
     (λ xs next e q k.
@@ -193,7 +195,8 @@ lines_are (l ∷ part ∷ parts) = refl
 few : (n limit tolerance : ℕ) → parameters_in_range n limit tolerance ≡ true → n ≤ 8
 unfolding parameters_in_range
 few n limit tolerance e = (is_within least_channels most_channels n
-    (both (within least_channels most_channels n) _ (both (within least_channels most_channels n && within least_sweeps most_sweeps limit) _ e).0).0).1
+    (both (within least_channels most_channels n) _
+    (both (within least_channels most_channels n && within least_sweeps most_sweeps limit) _ e).0).0).1
 
 few-by : (t : Bool) (p q : Parameters) → (t ≡ true → p.n ≤ 8) → cond t (Ok p) (Err OutOfRange) ≡ Ok q → q.n ≤ 8
 few-by true p q f e = let same : p.n ≡ q.n = cc in rw same at (f refl)
@@ -223,7 +226,8 @@ module _ (text : List ℕ) where
   -- By whether the parameters are in range: t.
   begun-same : (t : Bool) (n limit tolerance next : ℕ) (y : Answer) →
       (t ≡ true → samples_at 257 text next (new_job n limit tolerance) ≡ reading_of y) →
-      reading_by text (cond t (Ok (record { n = n; limit = limit; tolerance = tolerance; next = next })) (Err OutOfRange)) ≡ reading_of (cond t y (refused 2 1))
+      reading_by text (cond t (Ok (record { n = n; limit = limit; tolerance = tolerance; next = next })) (Err OutOfRange)) ≡ reading_of
+          (cond t y (refused 2 1))
   unfolding reading_by
   begun-same true n limit tolerance next y f = f refl
   begun-same false n limit tolerance next y f = refused-same 2 1

@@ -17,8 +17,8 @@ abbrev numbers : List ℤ
 numbers = pos 50 ∷ pos 25 ∷ pos 25 ∷ pos 50 ∷ []
 
 after-load : ledger (by 1 (load 2 numbers) ∷ []) ≡ loaded (plain_state 2 numbers)
-unfolding ledger ledger_from_under named_step_under is_bench within ledger_step_under accepted_under size_of turns_of refusal_under entries_within symmetric
-    equal matrix_of
+unfolding ledger ledger_from_under named_step_under is_bench within ledger_step_under accepted_under size_of turns_of refusal_under entries_within
+    symmetric equal matrix_of
 after-load = refl
 
 pub gains-after-load : StateGains (plain_state 2 numbers)

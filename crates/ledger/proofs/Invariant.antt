@@ -23,7 +23,8 @@ use Rattle.ledger.specs.laws.Invariant.{sound-sweep, SoundLedger}
 
 -- a call that is accepted, under any limit up to today's, of which one entry is within it
 module _ (limit : ℕ) (some : 1 ≤ limit) (below : limit ≤ entry_limit) where
-  sound-accepted : (g : Ledger) (call : Call) → SoundLedger g → refusal_of (size_of g) (turns_of g) call ≡ 0 → SoundLedger (accepted_under limit g call)
+  sound-accepted : (g : Ledger) (call : Call) → SoundLedger g → refusal_of (size_of g) (turns_of g) call ≡ 0 →
+      SoundLedger (accepted_under limit g call)
   unfolding SoundLedger accepted_under size_of turns_of
   sound-accepted g (load n numbers) h e = sound-plain n numbers (load-accepted (size_of g) (turns_of g) n numbers e)
   sound-accepted g (load_samples n dilutions counts) h e =

@@ -6,7 +6,8 @@ use Rattle.limits.specs.Limits.{tolerance_limit}
 
 -- "`P` n (2..8), sweep limit (1..16), tolerance t in units (0..1,048,576)."
 unfoldable pub parameters_in_range : ℕ → ℕ → ℕ → Bool
-parameters_in_range n limit tolerance = within least_channels most_channels n && within least_sweeps most_sweeps limit && within 0 tolerance_limit tolerance
+parameters_in_range n limit tolerance =
+    within least_channels most_channels n && within least_sweeps most_sweeps limit && within 0 tolerance_limit tolerance
 
 -- "dilution (1..100) and n counts (0..65,535)": every dilution and every count that is there
 abbrev pub samples_within : List ℕ → List ℕ → Bool

@@ -21,7 +21,8 @@ use Rattle.record.specs.laws.Named.{bench-answers, bench-leaves, named-kept, no-
 use Rattle.refusal.specs.Refusal.{numbered}
 
 module _ (r : Record) (bench : ℕ) (call : Call) (k : Kept r) where
-  pub no-bench : is_bench bench ≡ false → (answer : Answer) (next : Record) → answer ≡ Refused (numbered 15) → next ≡ r → Done r (by bench call) answer next
+  pub no-bench : is_bench bench ≡ false → (answer : Answer) (next : Record) → answer ≡ Refused (numbered 15) → next ≡ r →
+      Done r (by bench call) answer next
   no-bench b answer next a e =
       let leaves : next ≡ record_after r (by bench call) = e ∙ sym (no-bench-leaves r (by bench call) b) in
       record {
@@ -55,7 +56,8 @@ module _ (r : Record) (bench : ℕ) (call : Call) (k : Kept r) where
   pub named : {P : Step Answer Solver → Type 0} (answer : Answer) (next : Record) →
       ((done : Step Answer Solver) → P done → (done.answer ≡ answer_of r.solver call) × (done.next ≡ after_of r.solver call)) →
       (is_bench bench ≡ false → (answer ≡ Refused (numbered 15)) × (next ≡ r)) →
-      (is_bench bench ≡ true → (done : Step Answer Solver) × P done × (answer ≡ done.answer) × (next ≡ left_with r.refused bench done.answer done.next)) →
+      (is_bench bench ≡ true → (done : Step Answer Solver) × P done × (answer ≡ done.answer) ×
+          (next ≡ left_with r.refused bench done.answer done.next)) →
       Done r (by bench call) answer next
   named answer next solves outside inside = by-bench (is_bench bench) refl
     where

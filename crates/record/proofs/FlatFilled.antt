@@ -40,7 +40,8 @@ set-flat f i j x h k =
   where
     other : (m : ℕ) → m < 64 → (m ≡ 8 * i + j → ⊥) → f (m / 8) (m % 8) ≡ stored i j x f (m / 8) (m % 8) →
         get_or (set (flat_of f) (8 * i + j) x) m (pos 0) ≡ get_or (flat_of (stored i j x f)) m (pos 0)
-    other m l d e = get_or-set_other (flat_of f) (8 * i + j) m x (pos 0) d ∙ get_d_tabulate 64 _ m (pos 0) l ∙ e ∙ sym (get_d_tabulate 64 _ m (pos 0) l)
+    other m l d e = get_or-set_other (flat_of f) (8 * i + j) m x (pos 0) d ∙ get_d_tabulate 64 _ m (pos 0) l ∙ e ∙
+        sym (get_d_tabulate 64 _ m (pos 0) l)
 
     entry : (m : ℕ) → m < 64 → Dec (m / 8 ≡ i) → Dec (m % 8 ≡ j) →
         get_or (set (flat_of f) (8 * i + j) x) m (pos 0) ≡ get_or (flat_of (stored i j x f)) m (pos 0)

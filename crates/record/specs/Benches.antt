@@ -16,7 +16,8 @@ answers_from r (c ∷ calls) = record { value = answer_to r c; row = row_to r c 
 
 -- 'A bench outside 1 to 4 gives 15, tried before everything else, and raises no count': nor does it change anything else
 abbrev pub Outside-benches : Type 0
-Outside-benches = (r : Record) (c : NamedCall) → ((1 ≤ c.bench) × (c.bench ≤ benches) → ⊥) → (answer_to r c ≡ Refused (numbered 15)) × (record_after r c ≡ r)
+Outside-benches = (r : Record) (c : NamedCall) → ((1 ≤ c.bench) × (c.bench ≤ benches) → ⊥) → (answer_to r c ≡ Refused (numbered 15)) ×
+    (record_after r c ≡ r)
 
 -- how many calls of a bench are refused
 unfoldable pub refusals : ℕ → Record → List NamedCall → ℕ
@@ -25,7 +26,8 @@ refusals bench r (c ∷ calls) = cond (eqb c.bench bench && is_refused (answer_t
 
 -- 'the record has a refused-call count for each, every one stopping at the old ceiling. A refused call raises its own bench's count and no other.'
 abbrev pub Counts : Type 0
-Counts = (calls : List NamedCall) (bench : ℕ) → is_bench bench ≡ true → refused_by (after calls) bench ≡ min (refusals bench fresh calls) refused_limit
+Counts = (calls : List NamedCall) (bench : ℕ) → is_bench bench ≡ true →
+    refused_by (after calls) bench ≡ min (refusals bench fresh calls) refused_limit
 
 abbrev pub renamed : (ℕ → ℕ) → NamedCall → NamedCall
 renamed other c = by (other c.bench) c.call

@@ -2,7 +2,9 @@
 -- its number, and 0 where nothing is refused.
 use Rattle.std.specs.Prelude.{ℕ, ◌-◌, List, [], ◌∷◌, Result, Ok, Err, cond, eqb, get_or}
 use Rattle.refusal.specs.declared.Refusal.{Refusal}
-use Rattle.refusal.specs.declared.Refusal.TheVariants.{Malformed, OutOfRange, SampleCount, WrongEnd, ChannelCount, ListLength, Unsymmetric, EntryLimit, OutsideMatrix, NoMatrix, TurnLimit, ShortBuffer, UnequalChannels, NoSuchSample, NoSuchBench, TooManyJobs}
+use Rattle.refusal.specs.declared.Refusal.TheVariants.{Malformed, OutOfRange, SampleCount, WrongEnd, ChannelCount, ListLength, Unsymmetric}
+use Rattle.refusal.specs.declared.Refusal.TheVariants.{EntryLimit, OutsideMatrix, NoMatrix, TurnLimit, ShortBuffer, UnequalChannels, NoSuchSample}
+use Rattle.refusal.specs.declared.Refusal.TheVariants.{NoSuchBench, TooManyJobs}
 
 abbrev pub number_of : Refusal → ℕ
 number_of Malformed = 1

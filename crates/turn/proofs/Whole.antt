@@ -76,7 +76,8 @@ module _ (p q : ℕ) (a : List (List ℤ)) (h : p < q) (b : q < 8) (pp pq qq : �
       (square-cong (λ i j _ _. four_is i j))
 
 -- a choice at p and q, both below n, goes under the test that a column is in use
-pair-in-use : {A : Type 0} (n p q j : ℕ) (x y z s : A) → p < q → q < n → at_pair p q j x y (cond (ltb j n) z s) ≡ cond (ltb j n) (at_pair p q j x y z) s
+pair-in-use : {A : Type 0} (n p q j : ℕ) (x y z s : A) → p < q → q < n →
+    at_pair p q j x y (cond (ltb j n) z s) ≡ cond (ltb j n) (at_pair p q j x y z) s
 pair-in-use n p q j x y z s h k = by_place j (place p q j)
   where
     by_place : (j : ℕ) → Place p q j → at_pair p q j x y (cond (ltb j n) z s) ≡ cond (ltb j n) (at_pair p q j x y z) s
@@ -218,7 +219,8 @@ module _ (n : ℕ) (r : Rotation) (p q : ℕ) (a : List (List ℤ)) (h : p < q) 
     in_row i j l m at-q (neither e g) = at_pair-neither p q j _ _ _ e g ∙ u-q j m ∙ rw (at_pair-q p q _ _ _ h)
     in_row i j l m (neither d f) (neither e g) =
         at_pair-neither p q j _ _ _ e g ∙ u-other i j l m d f ∙
-        sym (ap (λ z. cond (ltb j n) z (at a i j)) (at_pair-neither p q i _ _ _ d f ∙ at_pair-neither p q j _ _ _ e g) ∙ cond_same (ltb j n) (at a i j))
+        sym (ap (λ z. cond (ltb j n) z (at a i j)) (at_pair-neither p q i _ _ _ d f ∙ at_pair-neither p q j _ _ _ e g) ∙
+            cond_same (ltb j n) (at a i j))
 
     entry : (i j : ℕ) → i < 8 → j < 8 → mirror_of p q (at (square u)) n i j ≡ cond (ltb i n && ltb j n) (turned r p q (at a) i j) (at a i j)
     unfolding mirror_of

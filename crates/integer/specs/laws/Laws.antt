@@ -1,7 +1,9 @@
 -- Laws of the ring ℤ, of nat_abs and of order that lib.IntN and lib.Signed do not have.
-use Rattle.std.specs.Prelude.{◌≡◌, refl, Bool, true, false, cond, ℕ, zero, suc, ◌+◌, ◌*◌, ◌-◌, ◌≤◌, T, ltb, ℤ, pos, negsuc, neg_ℤ, nat_abs, ◌+ℤ◌, ◌-ℤ◌, ◌*ℤ◌, ◌<ℤ◌, ◌≤ℤ◌}
+use Rattle.std.specs.Prelude.{◌≡◌, refl, Bool, true, false, cond, ℕ, zero, suc, ◌+◌, ◌*◌, ◌-◌, ◌≤◌, T, ltb, ℤ, pos, negsuc, neg_ℤ, nat_abs, ◌+ℤ◌}
+use Rattle.std.specs.Prelude.{◌-ℤ◌, ◌*ℤ◌, ◌<ℤ◌, ◌≤ℤ◌}
 use Rattle.std.proofs.Common.{sym, ◌∙◌, ap, ap₂, suc-ne-zero, arith, ltb-true, ltb-false, le→leb, ltb→lt}
-use Rattle.std.proofs.Math.IntN.{suc_ℤ, pred_ℤ, one, sub_ℕ, +ℤ_assoc, +ℤ_comm, +ℤ_idl, neg_ℤ-neg_ℤ, neg_ℤ-+ℤ, zero-*ℤ, suc_ℤ-+ℤ, pred_ℤ-+ℤ, suc_ℤ-*ℤ, pred_ℤ-*ℤ, *ℤ-one, *ℤ_comm, -ℤ-+ℤ_cancel}
+use Rattle.std.proofs.Math.IntN.{suc_ℤ, pred_ℤ, one, sub_ℕ, +ℤ_assoc, +ℤ_comm, +ℤ_idl, neg_ℤ-neg_ℤ, neg_ℤ-+ℤ, zero-*ℤ, suc_ℤ-+ℤ, pred_ℤ-+ℤ}
+use Rattle.std.proofs.Math.IntN.{suc_ℤ-*ℤ, pred_ℤ-*ℤ, *ℤ-one, *ℤ_comm, -ℤ-+ℤ_cancel}
 use Rattle.std.specs.Int.Signed.{le_z, lt_z}
 
 -- sums

@@ -3,7 +3,8 @@
 -- Read are `+ℤ`, `-ℤ`, `*ℤ`, `neg_ℤ`, literals, and `pos` of `+`, `*` and literals of ℕ. An equation of more than some 40 operations wants `depth
 -- 20 fits 9999`.
 -- `ringℕ` proves an equation of ℕ, read under `pos`; `linear-combination` one that follows from another by multiplying it and adding.
-use Rattle.std.specs.Prelude.{◌≡◌, refl, Bool, true, false, ◌&&◌, List, [], ◌∷◌, ℕ, zero, suc, ◌+◌, ◌*◌, T, eqb, ℤ, pos, negsuc, neg_ℤ, nat_abs, ◌+ℤ◌, ◌-ℤ◌, ◌*ℤ◌}
+use Rattle.std.specs.Prelude.{◌≡◌, refl, Bool, true, false, ◌&&◌, List, [], ◌∷◌, ℕ, zero, suc, ◌+◌, ◌*◌, T, eqb, ℤ, pos, negsuc, neg_ℤ, nat_abs}
+use Rattle.std.specs.Prelude.{◌+ℤ◌, ◌-ℤ◌, ◌*ℤ◌}
 use Rattle.std.proofs.Common.{sym, ◌∙◌, ap, ap₂, add-zero, add-suc, eqb→eq}
 use Rattle.std.proofs.Math.IntN.{one, pow, +ℤ_assoc, +ℤ_idl, +ℤ_idr, +ℤ-neg_ℤ_cancel, zero-*ℤ, *ℤ-zero, *ℤ-one}
 use Rattle.std.proofs.Math.Facts.{and_yes}

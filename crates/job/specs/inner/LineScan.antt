@@ -1,5 +1,6 @@
 -- A line of job text as the reader goes through it, from a place of the text on. `proofs/Records.antt` has that this is the reading of `Text`.
-use Rattle.std.specs.Prelude.{ℕ, zero, suc, ◌+◌, Bool, cond, ◌&&◌, List, Option, None, Some, Result, Ok, Err, leb, ltb, eqb, length, get_or, set, replicate}
+use Rattle.std.specs.Prelude.{ℕ, zero, suc, ◌+◌, Bool, cond, ◌&&◌, List, Option, None, Some, Result, Ok, Err, leb, ltb, eqb, length, get_or, set}
+use Rattle.std.specs.Prelude.{replicate}
 use Rattle.std.proofs.Math.Seq.{slice}
 use Rattle.integer.specs.Within.{within, all_within}
 use Rattle.job.specs.inner.FieldScan.{field_at, tagged_at}
@@ -48,7 +49,8 @@ parameters_at text = parameters_of (line_at text 0 80 2)
 unfoldable pub ending_of : List ℕ → ℕ → Option Line → Result Unit Refusal
 ending_of text k None = Err Malformed
 ending_of text k (Some line) =
-    cond (ltb k least_samples) (Err SampleCount) (cond (eqb (get_or line.numbers 0 0) k && leb (length text) line.next) (Ok (record {})) (Err WrongEnd))
+    cond (ltb k least_samples) (Err SampleCount) (cond (eqb (get_or line.numbers 0 0) k && leb (length text) line.next) (Ok (record {}))
+        (Err WrongEnd))
 
 unfoldable pub ending_at : List ℕ → ℕ → ℕ → Result Unit Refusal
 ending_at text at k = ending_of text k (line_at text at 69 0)

@@ -45,13 +45,15 @@ module _ (f : Job → List ℕ) where
     unfolding reply_by buffer_by fitted Short or_short written_of judged lent_after as_reply
     written-answers {exit} {w} h = by (leb (length (f j)) (length entry)) refl h.answer h.buffer
       where
-        by : (b : Bool) → leb (length (f j)) (length entry) ≡ b → w ≡ written_of (unless b 12 0) (f j) → exit ≡ lent_after (unless b 12 0) (f j) entry →
+        by : (b : Bool) → leb (length (f j)) (length entry) ≡ b → w ≡ written_of (unless b 12 0) (f j) →
+            exit ≡ lent_after (unless b 12 0) (f j) entry →
             Answers f (accepted j) entry exit (as_reply w)
         by true t e g = rw e (record { answer = rw t; buffer = rw t g; short = short })
         by false t e g = rw e (record { answer = rw t; buffer = rw t g; short = short })
 
   -- what a reading of a text tells
-  pub replies-answered : (text entry exit : List ℕ) (a : Answer) (r : Result ℕ RefusedLine) → job_of text ≡ a → Answers f a entry exit r → Replies f text entry exit r
+  pub replies-answered : (text entry exit : List ℕ) (a : Answer) (r : Result ℕ RefusedLine) → job_of text ≡ a → Answers f a entry exit r →
+      Replies f text entry exit r
   unfolding reply_of buffer_of
   replies-answered text entry exit a r e h = record { answer = rw e h.answer; buffer = rw e h.buffer; short = rw e h.short }
 

@@ -36,7 +36,8 @@ conjugate-identity n A i j o m = product-diagonal n (pos 1) (product n I A) i j 
     ∙ one-*ℤ (A i j)
 
 -- the entries in units keep to the bound that holds before any turn
-pub load-size : (n : ℕ) (numbers : List ℤ) → Loads n numbers → squares n (λ i j. pos units *ℤ matrix_of n numbers i j) ≤ matrix_bound 0 * matrix_bound 0
+pub load-size : (n : ℕ) (numbers : List ℤ) → Loads n numbers → squares n
+    (λ i j. pos units *ℤ matrix_of n numbers i j) ≤ matrix_bound 0 * matrix_bound 0
 unfolding matrix_of
 load-size n numbers h =
     le_trans

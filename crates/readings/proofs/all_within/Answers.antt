@@ -9,5 +9,6 @@ use Rattle.readings.proofs.all_within.Goals as goal
 pub returns : goal.returns
 unfolding within
 returns c =
-    all_from_yields_List (within c.args.low c.args.high) _ _ _ c.all.ensures.ran (YieldsList-from_slice c.args.values.now cc) (λ x b q k. search rules) ∙
+    all_from_yields_List (within c.args.low c.args.high) _ _ _ c.all.ensures.ran (YieldsList-from_slice c.args.values.now cc)
+        (λ x b q k. search rules) ∙
     list_all-within c.args.low c.args.high c.args.values.now

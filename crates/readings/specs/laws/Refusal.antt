@@ -101,7 +101,8 @@ module _ (n : ℕ) (dilutions counts : List ℕ) where
     unfolding job_refusal
     job-counted-second = then-counted (job_within n limit tolerance dilutions counts)
 
-    pub job-number-third : job_within n limit tolerance dilutions counts ≡ true → are_counted n dilutions counts ≡ true → are_so_many dilutions ≡ false →
+    pub job-number-third : job_within n limit tolerance dilutions counts ≡ true → are_counted n dilutions counts ≡ true →
+        are_so_many dilutions ≡ false →
         job_refusal n limit tolerance dilutions counts ≡ 3
     unfolding job_refusal
     job-number-third = then-number (job_within n limit tolerance dilutions counts)
@@ -117,6 +118,7 @@ module _ (n : ℕ) (dilutions counts : List ℕ) where
     unfolding job_refusal
     job-taken = all-passed (job_within n limit tolerance dilutions counts)
 
-    pub job-not-refused : Taken (job_within n limit tolerance dilutions counts) n dilutions counts → job_refusal n limit tolerance dilutions counts ≡ 0
+    pub job-not-refused : Taken (job_within n limit tolerance dilutions counts) n dilutions counts →
+        job_refusal n limit tolerance dilutions counts ≡ 0
     unfolding job_refusal
     job-not-refused = none-refused (job_within n limit tolerance dilutions counts)

@@ -1,7 +1,9 @@
 -- A refusal and its number determine one another.
 use Rattle.std.specs.Prelude.{◌≡◌, refl}
 use Rattle.refusal.specs.declared.Refusal.{Refusal}
-use Rattle.refusal.specs.declared.Refusal.TheVariants.{Malformed, OutOfRange, SampleCount, WrongEnd, ChannelCount, ListLength, Unsymmetric, EntryLimit, OutsideMatrix, NoMatrix, TurnLimit, ShortBuffer, UnequalChannels, NoSuchSample, NoSuchBench, TooManyJobs}
+use Rattle.refusal.specs.declared.Refusal.TheVariants.{Malformed, OutOfRange, SampleCount, WrongEnd, ChannelCount, ListLength, Unsymmetric}
+use Rattle.refusal.specs.declared.Refusal.TheVariants.{EntryLimit, OutsideMatrix, NoMatrix, TurnLimit, ShortBuffer, UnequalChannels, NoSuchSample}
+use Rattle.refusal.specs.declared.Refusal.TheVariants.{NoSuchBench, TooManyJobs}
 use Rattle.refusal.specs.Refusal.{number_of, numbered}
 
 pub numbered-number_of : (r : Refusal) → numbered (number_of r) ≡ r

@@ -1,6 +1,7 @@
 -- Laws of this subject: The numbers of an axis: a_ii and r_i, which an axis call answers, and the row beside them. How many they are, and that
 -- r_i is below 2^63.
-use Rattle.std.specs.Prelude.{ℕ, suc, ◌+◌, ◌-◌, ◌*◌, ◌^◌, ◌<◌, ◌≤◌, ◌≡◌, refl, Bool, true, false, cond, List, [], ◌∷◌, ◌++◌, eqb, ltb, ℤ, pos, get_or, length, replicate, take}
+use Rattle.std.specs.Prelude.{ℕ, suc, ◌+◌, ◌-◌, ◌*◌, ◌^◌, ◌<◌, ◌≤◌, ◌≡◌, refl, Bool, true, false, cond, List, [], ◌∷◌, ◌++◌, eqb, ltb, ℤ, pos}
+use Rattle.std.specs.Prelude.{get_or, length, replicate, take}
 use Rattle.std.proofs.Common.{◌∙◌, le_trans, eq-eqb, lt-ltb, lit≤, length-append}
 use native.Mathlib.Omega.{arith}
 use Rattle.std.proofs.Math.IntN.{nat_abs}

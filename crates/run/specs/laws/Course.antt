@@ -23,7 +23,8 @@ pub data Course (t : ℕ) : ℕ → ℕ → Bool → Record → Run → Type 0 w
       Course t left (suc sweeps) (no_turn (answer_to r (own sweep))) (record_after r (own sweep)) z → Course t (suc left) sweeps false r z
 
 tried-course : (t left sweeps : ℕ) (idle : Bool) (r : Record) (later : Run) →
-    (no_pair (answer_to r (own (loose_pair t))) ≡ false → Course t left sweeps false r later) → Course t left sweeps idle r (tried sweeps idle t r later)
+    (no_pair (answer_to r (own (loose_pair t))) ≡ false → Course t left sweeps false r later) →
+        Course t left sweeps idle r (tried sweeps idle t r later)
 unfolding tried
 tried-course t left sweeps idle r later c = by-pair (no_pair (answer_to r (own (loose_pair t)))) refl idle
   where

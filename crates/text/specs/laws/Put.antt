@@ -1,7 +1,8 @@
 -- Laws of this subject: What a writer does to a lent buffer, of bytes or of numbers: what it writes stands from the place on that it was given,
 -- everything else stays,.
 use Rattle.std.specs.Prelude.{ℕ, ◌+◌, ◌-◌, ◌≤◌, ◌≡◌, List, [], ◌++◌, length, take, drop}
-use Rattle.std.proofs.Common.{sym, ◌∙◌, append_assoc, append-nil, zero-add, add_assoc, add-zero, le_refl, arith, length-append, length-drop, take-append-drop, drop_of_length-le, take_at, drop_at, drop-drop, length-take-le, take_all}
+use Rattle.std.proofs.Common.{sym, ◌∙◌, append_assoc, append-nil, zero-add, add_assoc, add-zero, le_refl, arith, length-append, length-drop}
+use Rattle.std.proofs.Common.{take-append-drop, drop_of_length-le, take_at, drop_at, drop-drop, length-take-le, take_all}
 use Rattle.text.specs.Put.{Put}
 
 pub put-nothing : {X : Type 0} (at : ℕ) (entry : List X) → at ≤ length entry → Put [] at entry entry at

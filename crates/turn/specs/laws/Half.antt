@@ -131,7 +131,8 @@ module _ (l x g : ℕ) (f : LeastFit (2 * x) g l) where
   half = omega (arith, above, below)
 
 -- 'the exactly rotated a_pq, before rounding, is at most half the old one in size'
-pub halved : (n p q : ℕ) → p < q → q < n → (a : Matrix) → Symmetric n a → (l : ℕ) (minus : Bool) → choose (a p p) (a q q) (a p q) ≡ Some (turn_of l minus) →
+pub halved : (n p q : ℕ) → p < q → q < n → (a : Matrix) → Symmetric n a → (l : ℕ) (minus : Bool) →
+    choose (a p p) (a q q) (a p q) ≡ Some (turn_of l minus) →
     let r = rotation_of l minus in 2 * nat_abs (exactly_turned n r p q a p q) ≤ r.n * r.n * nat_abs (a p q)
 unfolding rotation_of S Opposed
 halved n p q o m a h l minus e =

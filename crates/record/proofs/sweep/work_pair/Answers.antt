@@ -19,7 +19,8 @@ returns-in_default c = sym (not-turned c.args.n _ (pair c.args.p c.args.q) (sym 
 
 pub of-r-requires : goal.of-r-requires
 unfolding chosen
-of-r-requires c = l-range c.args.n (work_at c.args.matrix.now c.args.axes.now c.args.m) (pair c.args.p c.args.q) _ (sym c.choice_at.ensures ∙ c.in-Some.is)
+of-r-requires c = l-range c.args.n (work_at c.args.matrix.now c.args.axes.now c.args.m) (pair c.args.p c.args.q) _
+    (sym c.choice_at.ensures ∙ c.in-Some.is)
 
 pub turn_axes-requires : goal.turn_axes-requires
 unfolding chosen

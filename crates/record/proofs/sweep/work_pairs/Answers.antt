@@ -13,7 +13,8 @@ loop-row-init c =
     (started c.args.n _ (pairs_in c.args.order c.args.n) c.requires.3.kept c.requires.3.matrix c.requires.3.axes)
 
 -- a row and a column that the loops come to
-module _ (order : Order) (n rows columns row column : ℕ) (some : 1 ≤ n) (high : n ≤ 8) (r : rows ≡ rows_in order n) (k : columns ≡ columns_in order n) where
+module _ (order : Order) (n rows columns row column : ℕ) (some : 1 ≤ n) (high : n ≤ 8) (r : rows ≡ rows_in order n)
+    (k : columns ≡ columns_in order n) where
   within : row < rows → first_in order row ≤ column → column < columns → Within order n row column
   within h f l = record { some = some; high = high; row_within = rw r at h; first = f; column-within = rw k at l }
 

@@ -1,5 +1,6 @@
 -- All counts of the sample are written.
-use Rattle.std.proofs.Common.{◌≡◌, ℕ, ◌+◌, ◌-◌, ◌*◌, ◌≤◌, List, ◌∷◌, ℤ, pos, ◌∙◌, arith, drop, length, length-take-le, length-drop, map, take, take-take}
+use Rattle.std.proofs.Common.{◌≡◌, ℕ, ◌+◌, ◌-◌, ◌*◌, ◌≤◌, List, ◌∷◌, ℤ, pos, ◌∙◌, arith, drop, length, length-take-le, length-drop, map, take}
+use Rattle.std.proofs.Common.{take-take}
 use Rattle.readings.specs.Samples.{sample_at}
 use Rattle.job_text.specs.JobText.{sample_numbers}
 use Rattle.job_text.proofs.Filling.{counts-there}
