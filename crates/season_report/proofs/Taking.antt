@@ -1,9 +1,10 @@
 -- A text that is taken: beyond the limit, refused, or accepted.
-use Rattle.std.proofs.Common.{◌≡◌, ℕ, zero, suc, ◌<◌, ◌≤◌, List, Ok, Err, refl, sym, ap, ◌∙◌, arith}
+use Rattle.std.proofs.Common.{◌≡◌, ℕ, ◌<◌, ◌≤◌, List, Ok, Err, refl, sym, ap, ◌∙◌, arith}
 use borrow.Author.Tests.{le-ltb, lt-ltb}
 use Rattle.job.specs.Job.{Answer, Job, accepted, job_of, refused}
 use Rattle.job.specs.Reading.{reading_of}
 use Rattle.job.specs.declared.Job as arrays
+use Rattle.job.specs.laws.Refusals.{known}
 use Rattle.job.specs.declared.RefusedLine.{RefusedLine}
 use Rattle.job_table.specs.Held.{job_in}
 use Rattle.job_table.specs.laws.Laws.{Read, accepted-read}
@@ -18,15 +19,6 @@ use Rattle.season_report.specs.Season.{added, answer_of, season_after_under, tak
 use Rattle.season_report.specs.declared.Season.{Season}
 use Rattle.season_report.specs.declared.Taken.{Taken}
 use Rattle.season_report.specs.laws.Together.{refused-numbers}
-
--- the refusal of a number from 1 to 4 has it
-number-numbered : (number : ℕ) → 1 ≤ number → number ≤ 4 → number_of (numbered number) ≡ number
-number-numbered zero l h = absurd (omega arith)
-number-numbered (suc zero) l h = refl
-number-numbered (suc (suc zero)) l h = refl
-number-numbered (suc (suc (suc zero))) l h = refl
-number-numbered (suc (suc (suc (suc zero)))) l h = refl
-number-numbered (suc (suc (suc (suc (suc n))))) l h = absurd (omega arith)
 
 -- a text that is refused when it is read
 pub record RefusedText (text : List ℕ) (r : RefusedLine) : Type 0 where
@@ -56,12 +48,16 @@ not-refused : (j : Job) (r : RefusedLine) → reading_of (accepted j) ≡ Err r 
 unfolding reading_of
 not-refused j r e = let z : ◌≡◌ {A = ℕ} 0 1 = cc in omega arith
 
+-- and the refusal has the number that it was given by
+has-number : (text : List ℕ) (number line : ℕ) → job_of text ≡ refused number line → number_of (numbered number) ≡ number
+has-number text number line q = rw q at (known text)
+
 refused-so : (text : List ℕ) (number line : ℕ) (r : RefusedLine) → job_of text ≡ refused number line →
     record { refusal = numbered number; line = line } ≡ r → RefusedText text r
 unfolding answer_of end_of end_by
 refused-so text number line r q same =
     let n = refused-numbers text number line q in
-    let is : number_of r.refusal ≡ number = ap (λ (z : RefusedLine). number_of z.refusal) (sym same) ∙ number-numbered number n.0 n.1 in
+    let is : number_of r.refusal ≡ number = ap (λ (z : RefusedLine). number_of z.refusal) (sym same) ∙ has-number text number line q in
     record { answer = rw q (ap Err (sym same)); end = rw (q, is); from = rw is n.0; to = rw is n.1 }
 
 pub refused-text : (text : List ℕ) (r : RefusedLine) → reading_of (job_of text) ≡ Err r → RefusedText text r
