@@ -2,7 +2,6 @@ pub mod Accepted
 mod Keeping
 mod Same
 mod Bytes
-pub mod Flags
 pub mod Tags
 mod Ends
 mod Fields

@@ -18,6 +18,7 @@ use refusal::Refusal;
 use samples::samples;
 
 // A job: the first k dilutions and the first k × n counts, n to a sample, are those of its samples, and the others are 0.
+// Rule of the project: no heap, so the arrays have the length of the longest job's.
 #[derive(Clone, Copy)]
 pub struct Job {
     pub n: usize,

@@ -1,7 +1,6 @@
 -- `samples::samples` meets its contract.
-use Rattle.std.proofs.Common.{◌∙◌, refl, arith, rules}
+use Rattle.std.proofs.Common.{◌∙◌, sym, refl, arith, rules}
 use Rattle.job.specs.inner.Scan.{kept}
-use Rattle.job.proofs.Flags.{denied, granted}
 use Rattle.job.proofs.Keeping.{samples-end, samples-beyond, samples-full, samples-more}
 use Rattle.job.proofs.samples.samples.Goals as goal
 
@@ -14,13 +13,13 @@ pub returns-then-not-sample_within : goal.returns-then-not-sample_within
 returns-then-not-sample_within c =
     let v = c.loop-line.invariant in
     samples-beyond _ _ _ _ v.3 v.0 _ c.sample_line.ensures _ c.in-Some.is
-    (denied _ _ c.sample_within.ensures c.if-not-sample_within.true)
+    (sym c.sample_within.ensures ∙ c.if-not-sample_within.true)
 
 pub returns-then-k-ge-MOST_SAMPLES : goal.returns-then-k-ge-MOST_SAMPLES
 returns-then-k-ge-MOST_SAMPLES c =
     let v = c.loop-line.invariant in
     samples-full _ _ _ _ v.3 v.0 _ c.sample_line.ensures _ c.in-Some.is
-    (granted _ _ c.sample_within.ensures c.if-not-sample_within.false) c.if-k-ge-MOST_SAMPLES.true
+    (sym c.sample_within.ensures ∙ c.if-not-sample_within.false) c.if-k-ge-MOST_SAMPLES.true
 
 pub loop-line-preserved : goal.loop-line-preserved
 unfolding kept
@@ -30,6 +29,6 @@ loop-line-preserved c =
       v.1,
       search rules,
       samples-more _ _ _ _ v.3 v.0 _ c.sample_line.ensures _ c.in-Some.is
-          (granted _ _ c.sample_within.ensures c.if-not-sample_within.false) c.if-k-ge-MOST_SAMPLES.false
+          (sym c.sample_within.ensures ∙ c.if-not-sample_within.false) c.if-k-ge-MOST_SAMPLES.false
           ∙ rw c.keep.ensures refl,
     )
