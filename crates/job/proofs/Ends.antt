@@ -50,7 +50,7 @@ module _ (text : List ℕ) where
 
         pub p-whole : (tolerance next : ℕ) → f'' ≡ Last tolerance next →
             cond (parameters_in_range n limit tolerance) (Ok (record { n = n; limit = limit; tolerance = tolerance; next = next }))
-                (Err OutOfRange) ≡ parameters_at text
+            (Err OutOfRange) ≡ parameters_at text
         unfolding parameters_at parameters_of
         p-whole tolerance next e'' =
             ap parameters_of (numbers-last _ _ _ _ _ _ after-limit f'' p'' (lit≤ tt) tolerance next e'')

@@ -155,7 +155,7 @@ judged-same text at j fair rest go continue bad E step = finished-same text at j
 judged-same text at j fair rest go continue (good xs next e q) E step =
     rw (in-range j.n xs e fair.channels)
     (sample-same j (sample_in_range xs) (ltb (length j.dilutions) 256) (continue (record { numbers = sets (replicate 9 0) 0 xs; next = next }))
-        (go xs)
+    (go xs)
     (λ t. step xs next e q (ltb-true _ _ t)))
 
 -- The lines from a place on are read alike, with m lines at most left for samples.
@@ -171,7 +171,7 @@ unfolding samples_at in_arrays
 alike-suc m text ih at j fair h =
     let ls = split 10 (drop at text) in
     judged-same text at j fair (tail ls) (λ xs. job_after (with_sample j xs) (tail ls))
-        (λ line. samples_at m text line.next (kept (in_arrays j) line.numbers))
+    (λ line. samples_at m text line.next (kept (in_arrays j) line.numbers))
     (line_read text 83 refl refl j.n at)
     (line_read text 69 refl refl 0 at)
     (λ xs next e q k.
@@ -227,7 +227,7 @@ module _ (text : List ℕ) where
   begun-same : (t : Bool) (n limit tolerance next : ℕ) (y : Answer) →
       (t ≡ true → samples_at 257 text next (new_job n limit tolerance) ≡ reading_of y) →
       reading_by text (cond t (Ok (record { n = n; limit = limit; tolerance = tolerance; next = next })) (Err OutOfRange)) ≡ reading_of
-          (cond t y (refused 2 1))
+      (cond t y (refused 2 1))
   unfolding reading_by
   begun-same true n limit tolerance next y f = f refl
   begun-same false n limit tolerance next y f = refused-same 2 1

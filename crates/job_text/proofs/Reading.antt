@@ -80,7 +80,7 @@ module _ (j : Job) (p : Proper j) where
   samples-read (suc i) h rest part parts e =
       let xs = job_numbers j i in
       let text : job_line_p j ++ (lines (job_line_s j) i ++ job_line_s j i) ++ rest ≡ job_line_p j ++ lines (job_line_s j) i ++
-          (job_line_s j i ++ rest) =
+      (job_line_s j i ++ rest) =
       simp append_assoc in
       let lines : split 10 (job_line_s j i ++ rest) ≡ bare 83 xs ∷ part ∷ parts = line-parts 83 (omega arith) xs rest ∙ ap (λ l. bare 83 xs ∷ l) e in
       let read : line_of 83 (suc j.n) (bare 83 xs) ≡ some xs =

@@ -159,7 +159,7 @@ module _ (j' : Job) where
       judged-whole j counted line part parts (line_of 83 (suc j.n) line) (line_of 69 1 line)
       (line-written 83 (suc j.n) line) (line-written 69 1 line)
       (λ xs. job_after (with_sample j xs) (part ∷ parts)) (λ xs size. after-whole (part ∷ parts) (with_sample j xs)
-          (counted-more j counted xs size)) e
+      (counted-more j counted xs size)) e
 
   begun-whole : (line part : List ℕ) (parts : List (List ℕ)) (o : Option (List ℕ)) → ((xs : List ℕ) → o ≡ some xs → Line 80 3 line xs)
       → begun o (part ∷ parts) ≡ accepted j' → job_text_of j' ≡ joined 10 (line ∷ part ∷ parts)

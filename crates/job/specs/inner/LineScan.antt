@@ -50,7 +50,7 @@ unfoldable pub ending_of : List ℕ → ℕ → Option Line → Result Unit Refu
 ending_of text k None = Err Malformed
 ending_of text k (Some line) =
     cond (ltb k least_samples) (Err SampleCount) (cond (eqb (get_or line.numbers 0 0) k && leb (length text) line.next) (Ok (record {}))
-        (Err WrongEnd))
+    (Err WrongEnd))
 
 unfoldable pub ending_at : List ℕ → ℕ → ℕ → Result Unit Refusal
 ending_at text at k = ending_of text k (line_at text at 69 0)

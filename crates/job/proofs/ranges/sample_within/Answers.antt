@@ -14,8 +14,8 @@ first low high (x ∷ xs) h = sym (and-true (within low high x))
 pub returns-then-all_within : goal.returns-then-all_within
 unfolding sample_within
 returns-then-all_within c =
-    rw (first 1 100 c.args.numbers.now (omega arith), ← c.all_within.ensures, c.if-all_within.true, ←
-        (between_is c.args.numbers.now 1 (c.args.n + 1)))
+    let counts = between_is c.args.numbers.now 1 (c.args.n + 1) in
+    rw (first 1 100 c.args.numbers.now (omega arith), ← c.all_within.ensures, c.if-all_within.true, ← counts)
     c.all_within-then-all_within.ensures
 
 pub returns-else-all_within : goal.returns-else-all_within
