@@ -1,8 +1,5 @@
 // Two job texts in, the report of both jobs pooled or the refusal out.
-ghost use Rattle.std.specs.Prelude.{◌*◌, take};
 ghost use Rattle.job_table.specs.Held.{Held, job_in};
-ghost use Rattle.job_table.specs.inner.Held.{ReadingsIn};
-ghost use Rattle.job_text.specs.JobText.{job_with};
 ghost use Rattle.text.specs.Put.{Put};
 ghost use Rattle.job_pool.specs.Printed.{pool_printed};
 ghost use Rattle.job_pool.specs.Writer.{WritesPooled};

@@ -14,7 +14,7 @@ use Rattle.report.specs.inner.AxisNumbers.{axes_numbers, axis_numbers}
 use Rattle.report.specs.AxisNumbers.{axis_values}
 use Rattle.report.specs.AxisOrder.{axis_at}
 use Rattle.report.specs.inner.AxisOrder.{entry_in, ordered_rows}
-use Rattle.report.specs.laws.AxisNumbers.{axes-row, axis-answer, length-axes-row, length-numbers, two-before}
+use Rattle.report.specs.laws.AxisNumbers.{axes-row, axis-answer, length-numbers, two-before}
 use Rattle.report.specs.laws.AxisOrder.{same-axis}
 use Rattle.report.proofs.AxisOrder.{axis-found}
 use Rattle.turn.specs.laws.Eight.{get_d-eight}
@@ -55,9 +55,6 @@ module _ (r : Record) where
         listed-axis h p,
       )
       (axes-row r i within (omega (arith, within)))
-
-  pub axes-wide : Wide (axes_numbers r)
-  axes-wide = record { wide = length-axes-row r }
 
   pub ordered-wide : n ≤ 8 → Wide (ordered_rows n (axes_numbers r))
   unfolding ordered_rows

@@ -15,7 +15,7 @@ use Rattle.text.specs.Rows.{Wide}
 use Rattle.report.specs.inner.Text.{text_of}
 use Rattle.report.specs.Done.{Reportable}
 use Rattle.report.specs.Report.{head_of, run_report}
-use Rattle.report.proofs.Same.{axes-wide, ordered-wide, text_same}
+use Rattle.report.proofs.Same.{ordered-wide, text_same}
 use Rattle.report.proofs.report_run.Goals as goal
 
 -- the numbers of a run that is over, as they are asked for
@@ -43,7 +43,7 @@ module _ (z : Run) (k : ℕ) (h : Reportable z k) {n : ℕ} (n-is : n ≡ z.last
     report-text = rw (head-same, ordered, numbered, n-is) (text_same k z h.keeps.solver.size)
 
 pub ordered-listed-requires : goal.ordered-listed-requires
-ordered-listed-requires c = (omega (arith, c.requires.keeps.solver.size), rw c.axes_numbers-axes.ensures (axes-wide c.args.run.last))
+ordered-listed-requires c = omega (arith, c.requires.keeps.solver.size)
 
 pub text_length-length-requires : goal.text_length-length-requires
 text_length-length-requires c = (
