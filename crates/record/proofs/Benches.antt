@@ -57,7 +57,7 @@ module _ (r : Record) (bench : ℕ) (call : Call) (k : Kept r) where
       ((done : Step Answer Solver) → P done → (done.answer ≡ answer_of r.solver call) × (done.next ≡ after_of r.solver call)) →
       (is_bench bench ≡ false → (answer ≡ Refused (numbered 15)) × (next ≡ r)) →
       (is_bench bench ≡ true → (done : Step Answer Solver) × P done × (answer ≡ done.answer) ×
-          (next ≡ left_with r.refused bench done.answer done.next)) →
+      (next ≡ left_with r.refused bench done.answer done.next)) →
       Done r (by bench call) answer next
   named answer next solves outside inside = by-bench (is_bench bench) refl
     where

@@ -220,7 +220,7 @@ module _ (n : ℕ) (r : Rotation) (p q : ℕ) (a : List (List ℤ)) (h : p < q) 
     in_row i j l m (neither d f) (neither e g) =
         at_pair-neither p q j _ _ _ e g ∙ u-other i j l m d f ∙
         sym (ap (λ z. cond (ltb j n) z (at a i j)) (at_pair-neither p q i _ _ _ d f ∙ at_pair-neither p q j _ _ _ e g) ∙
-            cond_same (ltb j n) (at a i j))
+        cond_same (ltb j n) (at a i j))
 
     entry : (i j : ℕ) → i < 8 → j < 8 → mirror_of p q (at (square u)) n i j ≡ cond (ltb i n && ltb j n) (turned r p q (at a) i j) (at a i j)
     unfolding mirror_of

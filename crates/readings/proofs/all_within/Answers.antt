@@ -10,5 +10,5 @@ pub returns : goal.returns
 unfolding within
 returns c =
     all_from_yields_List (within c.args.low c.args.high) _ _ _ c.all.ensures.ran (YieldsList-from_slice c.args.values.now cc)
-        (λ x b q k. search rules) ∙
+    (λ x b q k. search rules) ∙
     list_all-within c.args.low c.args.high c.args.values.now

@@ -24,7 +24,7 @@ pub data Course (t : ℕ) : ℕ → ℕ → Bool → Record → Run → Type 0 w
 
 tried-course : (t left sweeps : ℕ) (idle : Bool) (r : Record) (later : Run) →
     (no_pair (answer_to r (own (loose_pair t))) ≡ false → Course t left sweeps false r later) →
-        Course t left sweeps idle r (tried sweeps idle t r later)
+    Course t left sweeps idle r (tried sweeps idle t r later)
 unfolding tried
 tried-course t left sweeps idle r later c = by-pair (no_pair (answer_to r (own (loose_pair t)))) refl idle
   where

@@ -20,8 +20,12 @@ returns-in-Err c = let f = found _ _ c.in-Err.ensures in (ap Refused f.1 ∙ rw 
 
 -- row i, counted from 0, is one of the eight
 row-of : (n i : ℕ) → n ≤ 8 → Passes (refusal_of n 0 (axis i)) → (1 ≤ i) × (i - 1 < n) × (i - 1 < 8)
-row-of n i few e = let names = axis-accepted n 0 i (passed _ e) in (names.first, omega (arith, names.first, names.last), omega
-    (arith, names.first, names.last))
+row-of n i few e = let names = axis-accepted n 0 i (passed _ e) in (
+  names.first,
+  omega (arith, names.first, names.last),
+  omega
+      (arith, names.first, names.last),
+)
 
 pub overflow_sub-at : goal.overflow_sub-at
 overflow_sub-at c = (row-of _ _ c.requires.size c.in_default.ensures).0

@@ -38,7 +38,7 @@ returns c =
     let r = c.args.self in
     let order = c.args.order in
     let swept = c.work_pairs-made.ensures ∙ ap (λ w. work_pairs r.n w (pairs_in order r.n))
-        (at-work r _ _ c.unpacked-matrix.ensures c.unpacked-axes.ensures) in
+    (at-work r _ _ c.unpacked-matrix.ensures c.unpacked-axes.ensures) in
     accepted r (sweep_in order) c.requires _ (sym (refused-alike order _ _)) _ _ c.in_default.ensures
     (c.swept.ensures ∙ ap (λ (w : Work). swept_in order (w.m - r.m)) swept)
     (c.with_rows.ensures ∙ ap (worked_of r) swept)
