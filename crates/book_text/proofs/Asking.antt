@@ -1,5 +1,5 @@
 -- The call of a line's numbers, by how many they are.
-use Rattle.std.proofs.Common.{ℕ, zero, suc, ◌-◌, ◌≤◌, ◌<◌, ◌≡◌, refl, sym, ◌∙◌, List, [], ◌∷◌, ◌++◌, map, Option, Some, None, arith, ℤ}
+use Rattle.std.proofs.Common.{ℕ, suc, ◌-◌, ◌≤◌, ◌≡◌, refl, sym, ◌∙◌, List, [], ◌∷◌, ◌++◌, map, Option, Some, None, arith, ℤ}
 use Rattle.std.proofs.Common.{pos, length, take, drop, get_or}
 use borrow.Author.Tests.{ne_eqb}
 use Rattle.std.proofs.Math.Seq.{take_at}

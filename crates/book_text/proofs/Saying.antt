@@ -1,5 +1,5 @@
 -- What a call on a book says, by whether it is refused.
-use Rattle.std.proofs.Common.{ℕ, ◌≡◌, refl, sym, ap, ◌∙◌, Bool, true, false, cond, List, [], ◌∷◌, Some, Result, Ok, Err, arith, eqb}
+use Rattle.std.proofs.Common.{ℕ, ◌≡◌, refl, sym, ap, ◌∙◌, Bool, true, false, cond, List, [], ◌∷◌, Some, Ok, Err, arith, eqb}
 use Rattle.std.proofs.Common.{length}
 use borrow.Author.Tests.{eq-eqb, eqb-true}
 use Rattle.refusal.specs.Refusal.{judged, number_of, numbered}

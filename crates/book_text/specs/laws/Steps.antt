@@ -1,5 +1,5 @@
 -- A text of calls on a book, a step at a time from its start to its last line.
-use Rattle.std.specs.Prelude.{ℕ, ◌≡◌, Bool, List, [], ◌++◌, Option, Some, None}
+use Rattle.std.specs.Prelude.{ℕ, ◌≡◌, Bool, List, [], ◌++◌, Some, None}
 use Rattle.std.proofs.Common.{◌∙◌, append_assoc, append-nil, arith}
 use Rattle.book.specs.Consistent.{Consistent}
 use Rattle.book_text.specs.Steps.{EndsBook, ReachedBook, Starts, StepsBook, begun, gone, page_text, printed_from, printed_on, start_place}

@@ -1,6 +1,5 @@
 -- `call::added` meets its contract.
 use Rattle.std.proofs.Common.{arith}
-use Rattle.std.proofs.lemmas.Bool.{eqb-false, eqb-true}
 use Rattle.call_text.specs.Calls.{number_limit}
 use Rattle.book_text.specs.inner.Played.{no_call}
 use Rattle.book_text.proofs.Asking.{no-sample, sample-is}

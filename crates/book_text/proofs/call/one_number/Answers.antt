@@ -1,5 +1,5 @@
 -- `call::one_number` meets its contract: how many numbers there are picks the arm.
-use Rattle.std.proofs.Common.{◌≡◌, sym, ◌∙◌, ap, ℤ, pos, Some, arith, get_or}
+use Rattle.std.proofs.Common.{sym, ◌∙◌, ap, pos, Some, arith, get_or}
 use mir.Facts.{to_z-of_z}
 use mir.Syntax.{w64}
 use mir.Val.{SFits}

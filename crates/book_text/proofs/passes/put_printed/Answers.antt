@@ -1,7 +1,6 @@
 -- `passes::put_printed` meets its contract.
-use Rattle.std.proofs.Common.{◌≡◌, sym, arith, length, length-take-le}
+use Rattle.std.proofs.Common.{◌≡◌, arith, length}
 use borrow.Author.Rules.{rules}
-use Rattle.text.specs.laws.Put.{same_size}
 use Rattle.book_text.proofs.Passing.{room, written_last, written-more, wrote_nothing}
 use Rattle.book_text.proofs.passes.put_printed.Goals as goal
 
