@@ -1,5 +1,4 @@
--- Laws of this subject: What a writer does to a lent buffer, of bytes or of numbers: what it writes stands from the place on that it was given,
--- everything else stays,.
+-- Laws of what a writer does to a lent buffer: nothing written, one text after another, and a text in the buffer's part from a place on.
 use Rattle.std.specs.Prelude.{ℕ, ◌+◌, ◌-◌, ◌≤◌, ◌≡◌, List, [], ◌++◌, length, take, drop}
 use Rattle.std.proofs.Common.{sym, ◌∙◌, append_assoc, append-nil, zero-add, add_assoc, add-zero, le_refl, arith, length-append, length-drop}
 use Rattle.std.proofs.Common.{take-append-drop, drop_of_length-le, take_at, drop_at, drop-drop, length-take-le, take_all}
