@@ -36,10 +36,6 @@ pub close_up-requires : goal.close_up-requires
 close_up-requires c =
     omega (arith, struck-place c.args.b c.requires.0 c.args.i c.requires.1, few-held c.args.b c.requires.0, dilutions-length c.args.b c.requires.0)
 
-pub close_up-requires-2 : goal.close_up-requires-2
-close_up-requires-2 c =
-    omega (arith, struck-end c.args.b c.requires.0 c.args.i c.requires.1, counts-room c.args.b c.requires.0, counts-length c.args.b c.requires.0)
-
 pub minus-requires : goal.minus-requires
 minus-requires c = struck-included c.args.b c.requires.0 c.args.i c.requires.1 _ c.sums_of-part.ensures
 

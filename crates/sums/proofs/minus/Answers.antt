@@ -1,6 +1,7 @@
 -- `sums::minus` meets its contract: place by place, as the closures give it.
 use Rattle.std.specs.Prelude.{◌≡◌, ◌-◌}
 use Rattle.std.proofs.Common.{get_or, of_calls}
+use Rattle.std.proofs.iter.Serving.{serving}
 use Rattle.sums.specs.Combined.{placewise, minus_of}
 use Rattle.sums.specs.laws.Made.{made}
 use Rattle.sums.proofs.minus.Goals as goal
@@ -15,6 +16,9 @@ module _ (c : goal.After-from_fn-2) where
   unfolding placewise
   pairs =
       made _ _ (λ p. get_or c.args.a.cross p 0 - get_or c.args.b.cross p 0) 64 0 (λ p y q l w. search of_calls parts 8) _ c.from_fn-2.ensures.items
+
+pub from_fn-requires-2 : goal.from_fn-requires-2
+from_fn-requires-2 c = grind serving
 
 pub returns : goal.returns
 unfolding minus_of

@@ -3,8 +3,15 @@ use Rattle.std.specs.Prelude.{refl, ◌+◌, ◌*◌}
 use Rattle.std.proofs.Common.{arith}
 use Rattle.integer.specs.laws.Filled.{filled_more}
 use Rattle.limits.specs.laws.Channels.{place-below}
+use Rattle.scatter.specs.laws.Bounds.{number-times-cross, channel-times-channel}
 use Rattle.scatter.proofs.Places.{S-stored, all-rows}
 use Rattle.scatter.proofs.table.scatter_of.Goals as goal
+
+pub difference-requires : goal.difference-requires
+difference-requires c = (
+  omega (arith, number-times-cross c.args.t c.requires.1 c.place_of-place.result),
+  omega (arith, channel-times-channel c.args.t c.requires.1 c.loop-i.i c.loop-j.j),
+)
 
 pub loop-j-preserved : goal.loop-j-preserved
 loop-j-preserved c =

@@ -1,11 +1,6 @@
 -- `scatter::table::table_of` meets its contract: each part is the definition's.
-use Rattle.std.proofs.Common.{arith}
 use Rattle.scatter.proofs.Assembled.{all_small, zero-from, most-small, shift-below, assembled}
 use Rattle.scatter.proofs.table.table_of.Goals as goal
-
-pub overflow_mul-size : goal.overflow_mul-size
-overflow_mul-size c =
-    record { fits = omega (arith, (zero-from c.args.n c.args.t c.requires.0 c.requires.1 c.scatter_of-scatter.ensures).most) }
 
 pub largest_of-requires : goal.largest_of-requires
 largest_of-requires c = zero-from c.args.n c.args.t c.requires.0 c.requires.1 c.scatter_of-scatter.ensures
