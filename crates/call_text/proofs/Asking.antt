@@ -1,6 +1,6 @@
 -- The request of a line's numbers, by how many they are.
-use Rattle.std.proofs.Common.{◌≡◌, ◌≤◌, ◌<◌, ◌+◌, ◌∙◌, ℕ, ℤ, List, [], ◌∷◌, Err, None, Ok, Option, Result, Some, arith, drop, get_or}
-use Rattle.std.proofs.Common.{length, length-drop, map, nat_abs, negsuc, pos, refl, suc, sym, take, zero}
+use Rattle.std.proofs.Common.{◌≡◌, ◌≤◌, ◌<◌, ◌+◌, ◌∙◌, ℕ, ℤ, List, [], ◌∷◌, Err, None, Ok, Result, Some, arith, drop, get_or}
+use Rattle.std.proofs.Common.{length, length-drop, map, nat_abs, negsuc, pos, refl, suc, sym, take}
 use Prim.Native.Nat.{◌-◌}
 use Rattle.std.specs.Int.{FitsUnsignedBits}
 use Rattle.std.specs.Result.{OkIff, result_ok, result_unwrap_or}
@@ -10,12 +10,11 @@ use borrow.Author.Tests.{le-leb, lt-leb, ne_eqb}
 use lib.ListN.{length-map}
 use lib.Seq.{length-take-le}
 use Rattle.ledger.specs.Call.{Call, loose_pair, axis}
-use Rattle.ledger.specs.declared.Order.{Order}
 use Rattle.ledger.specs.declared.Order.TheVariants.{Cyclic, Tournament}
 use Rattle.call_text.specs.Calls.{argument, call_by, load_by, named, named_by, one_by, reading, samples_by, sweep_by, turn_by}
 use Rattle.call_text.specs.Numbers.{beyond}
 use Rattle.call_text.specs.Requests.{asked_by, asked_for}
-use Rattle.call_text.specs.declared.request.Request.TheVariants.{Load, LoadSamples, Turn, Sweep, LoosePair, Axis, TournamentSweep}
+use Rattle.call_text.specs.declared.request.Request.TheVariants.{Load, LoadSamples, Turn, Sweep, TournamentSweep}
 use Rattle.call_text.specs.inner.Asked.{alone, only}
 
 -- a number that was tried for a natural one

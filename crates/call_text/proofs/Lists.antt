@@ -1,15 +1,14 @@
 -- A line's call by its fields as they were read, and where the call's list stands in the array.
-use Prim.Native.Nat.{ℕ, suc, ◌+◌, ◌-◌, ◌≤◌}
+use Prim.Native.Nat.{ℕ, ◌+◌, ◌-◌, ◌≤◌}
 use mathlib.Core.Path.{◌≡◌, refl, sym, ap, ◌∙◌}
 use mathlib.Core.Bool.{Bool, true, false, cond}
 use mathlib.Core.List.{List, [], ◌∷◌, ◌++◌, append_assoc, map, map-append}
 use Rattle.std.proofs.Common.{IfSome, None, Option, Some}
 use native.Mathlib.Omega.{arith}
-use borrow.Author.Tests.{leb-true}
 use lib.Dec.{eqb, leb}
 use lib.IntN.{ℤ, pos, negsuc}
 use lib.ListN.{length, take, drop, length-append, length-map, take-append-drop}
-use lib.Seq.{drop-append_seam, drop-drop, take_all, take-append_seam}
+use lib.Seq.{drop-append_seam, drop-drop, take-append_seam}
 use Rattle.text.specs.Parts.{split}
 use Rattle.ledger.specs.Bench.{NamedCall, by}
 use Rattle.ledger.specs.Call.{Call, load, load_samples, loose_pair, axis}

@@ -1,5 +1,5 @@
 // The line that an answer prints.
-ghost use Rattle.std.specs.Prelude.{[], ◌∷◌, map, ◌+◌, ◌≤◌, length, take};
+ghost use Rattle.std.specs.Prelude.{[], ◌∷◌, map, ◌≡◌, ◌+◌, ◌≤◌, length, take};
 ghost use Rattle.text.specs.Decimal.{digits, number};
 ghost use Rattle.text.specs.Line.{line};
 ghost use Rattle.refusal.specs.Refusal.{number_of};
@@ -24,11 +24,20 @@ pub struct Told {
     pub refused: [u32; 4],
 }
 
-// A line, and 0 after it.
+// A line, and 0 after it. Rule of the project needs it: memory is fixed, so that the bytes have their number beside them.
 #[derive(Clone, Copy)]
 pub struct Printed {
     pub bytes: [u8; 256],
     pub len: usize,
+}
+
+impl Printed {
+    pub fn text(&self) -> &[u8]
+        requires { self.now.len ≤ 256 }
+        ensures { result.now ≡ take self.now.len self.now.bytes }
+    {
+        &self.bytes[..self.len]
+    }
 }
 
 pub fn natural_field(buf: &mut [u8], at: usize, x: u64) -> usize

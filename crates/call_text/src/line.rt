@@ -21,6 +21,7 @@ pub fn read_fields(line: &[u8], numbers: &mut [i64]) -> Option<Fields>
         return None;
     }
     let tag = line[0];
+    // No plainer: it goes from tab to tab, and stops at the first field that is none, with the numbers before it in the array.
     while at < line.len() {
         let start = at + 1;
         let end = find(line, start, b'\t');

@@ -17,8 +17,7 @@ fn show(rt: &impl Print, done: &Stepped, printed: &mut io::Result<()>) -> Option
     ensures { result ≡ done.now.next }
 {
     if printed.is_ok() {
-        let line = &done.line;
-        *printed = rt.write_all(&line.bytes[..line.len]);
+        *printed = rt.write_all(done.line.text());
     }
     done.next
 }

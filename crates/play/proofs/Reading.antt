@@ -7,7 +7,7 @@ use Rattle.std.proofs.Common.{None, Some}
 use native.Mathlib.Omega.{arith}
 use borrow.Author.Tests.{ne_eqb}
 use lib.IntN.{ℤ}
-use lib.ListN.{length, take, drop, drop_of_length-le, length-append, length-drop, length-map, take-append-drop}
+use lib.ListN.{length, take, drop, drop_of_length-le, length-drop, length-map, take-append-drop}
 use lib.Seq.{drop-append-le, length-take-le, take-append-le}
 use Rattle.text.specs.Parts.{split}
 use Rattle.ledger.specs.Call.{load_samples}
@@ -38,10 +38,7 @@ module _ (numbers : List ℤ) (entry : List ℕ) (end : ℕ) (all : end ≤ leng
   taken : length (map reading (take end numbers)) ≡ end
   taken = length-map (take end numbers) reading ∙ length-take-le end numbers all
 
-  pub sized : end ≤ length entry → length readings ≡ length entry
-  sized h = rw (length-append, taken, length-drop) (omega arith)
-
-  pub read-part : (from to : ℕ) → from ≤ to → to ≤ end → part from to readings ≡ part from to (map reading numbers)
+  read-part : (from to : ℕ) → from ≤ to → to ≤ end → part from to readings ≡ part from to (map reading numbers)
   read-part from to h k =
       let f : from ≤ length (map reading (take end numbers)) = rw taken (omega arith) in
       let t : to - from ≤ length (drop from (map reading (take end numbers))) = rw (length-drop, taken) (omega arith) in

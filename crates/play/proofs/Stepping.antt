@@ -1,5 +1,5 @@
 -- What a step comes to, from the line that was read and what it prints.
-use Prim.Native.Nat.{ℕ, ◌+◌, ◌≤◌, ◌<◌}
+use Prim.Native.Nat.{ℕ}
 use mathlib.Core.Path.{◌≡◌, refl, sym, ap, ◌∙◌}
 use mathlib.Core.Bool.{Bool, true, false, cond, not, ◌&&◌}
 use mathlib.Core.List.{List, [], ◌∷◌}
@@ -15,7 +15,7 @@ use Rattle.record.specs.declared.AxisAnswer.{AxisAnswer}
 use Rattle.record.specs.declared.Record.{Record}
 use Rattle.call_text.specs.Answers.{answer_line, shown, told_of}
 use Rattle.call_text.specs.Calls.{call_of}
-use Rattle.call_text.specs.Requests.{asked_by, asked_for, call_asked, request_call}
+use Rattle.call_text.specs.Requests.{asked_for, call_asked, request_call}
 use Rattle.call_text.specs.declared.answer.Printed.{Printed}
 use Rattle.call_text.specs.declared.request.Request.{Request}
 use Rattle.call_text.specs.inner.Answers.{Prints}
@@ -23,9 +23,7 @@ use Rattle.play.specs.Steps.{Reached, Steps, after_call, first_call, gone, lines
 use Rattle.play.specs.laws.Steps.{line-within}
 use Rattle.play.specs.Text.{unknown_line}
 use Rattle.play.specs.declared.cursor.Cursor.{Cursor}
-use Rattle.play.specs.declared.cursor.NextLine.{NextLine}
 use Rattle.play.specs.declared.cursor.NextLine.TheVariants.{Ended, Unknown, Call}
-use Rattle.play.specs.declared.step.Stepped.{Stepped}
 use Rattle.play.specs.inner.Calls.{Answers, answer_for}
 use Rattle.play.specs.inner.Lines.{Reads, line_at, next_line, request_of, told_with}
 

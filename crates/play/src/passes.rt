@@ -29,6 +29,8 @@ pub(crate) fn fits(text: &[u8], most: usize) -> bool
     }
 }
 
+// No plainer: a driver of both loops would hand each line to a closure, of whose effect the caller knew only by a fold over the lines; and this one
+// may be called only where the buffer has room.
 pub(crate) fn put_played(text: &[u8], buf: &mut [u8]) -> usize
     requires { length (played false text.now) ≤ length buf.old }
     ensures { Put (played false text.now) 0 buf.old buf.new result }
@@ -38,8 +40,7 @@ pub(crate) fn put_played(text: &[u8], buf: &mut [u8]) -> usize
     let mut end = 0;
     loop {
         let own = step(&mut r, text, false, here);
-        let line = own.line;
-        end = put_bytes(buf, end, &line.bytes[..line.len]);
+        end = put_bytes(buf, end, own.line.text());
         let Some(next) = own.next else {
             return end;
         };

@@ -1,5 +1,4 @@
 -- `answer_line` meets its contract, answer by answer.
-use Rattle.std.proofs.Common.{◌≡◌}
 use borrow.Author.Rules.{rules}
 use mir.Facts.{to_z-of_z}
 use mir.Syntax.{w64}

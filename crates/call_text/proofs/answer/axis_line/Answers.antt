@@ -1,8 +1,7 @@
 -- `axis_line` meets its contract: the tag, the fields and the line feed, each where the last one ended.
-use Rattle.std.proofs.Common.{◌≡◌, ◌+◌, ◌*◌, ◌≤◌, [], ◌∷◌, arith, length, take}
+use Rattle.std.proofs.Common.{◌≡◌, arith, length, take}
 use mir.Facts.{to_z-of_z}
 use borrow.Author.Rules.{rules}
-use Rattle.text.specs.Line.{numbers}
 use Rattle.call_text.proofs.Printing.{axis-printed, element-size, entry-end, numbers-bound, one-bound}
 use Rattle.call_text.proofs.answer.axis_line.Goals as goal
 

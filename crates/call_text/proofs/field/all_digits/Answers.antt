@@ -1,6 +1,5 @@
 -- `field::all_digits` meets its contract: each byte is tested.
-use Rattle.std.proofs.Common.{◌∙◌, arith, rules, sym}
-use Rattle.std.proofs.lemmas.Grind.{common_steps}
+use Rattle.std.proofs.Common.{◌∙◌, rules}
 use Rattle.std.proofs.lemmas.Iterator.{YieldsList-from_slice}
 use Rattle.std.proofs.lemmas.Iterator.Search.{all_from_yields_List}
 use borrow.Author.Tests.{tests}

@@ -1,6 +1,5 @@
 -- `field::value` meets its contract: a digit after the other.
-use Rattle.std.proofs.Common.{◌≡◌, ◌∙◌, ◌<◌, ◌-◌, arith, drop, get_or, refl, sym, true}
-use Rattle.integer.specs.Within.{all_within}
+use Rattle.std.proofs.Common.{arith, refl}
 use Rattle.call_text.proofs.Digits.{a-digit, later-digits, nine-digits, one_more, value-end, value-more}
 use Rattle.call_text.proofs.field.value.Goals as goal
 

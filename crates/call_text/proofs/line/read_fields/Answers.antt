@@ -1,5 +1,4 @@
 -- `line::read_fields` meets its contract.
-use Rattle.std.proofs.Common.{sym}
 use mir.Syntax.{w64}
 use mir.Val.{SFits}
 use mir.Facts.{to_z-of_z}

@@ -1,5 +1,5 @@
 -- `request::by_tag` meets its contract: the tag decides.
-use Rattle.std.proofs.Common.{◌∙◌, sym}
+use Rattle.std.proofs.Common.{◌∙◌}
 use Rattle.ledger.specs.Call.{axis, loose_pair}
 use Rattle.call_text.specs.Requests.{asked_by}
 use Rattle.call_text.proofs.Asking.{a-sweep, a-tournament-sweep, an-argument, no-argument}

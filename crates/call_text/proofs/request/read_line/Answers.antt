@@ -1,5 +1,5 @@
 -- `request::read_line` meets its contract: no fields, or a tag and numbers.
-use Rattle.std.proofs.Common.{arith, sym}
+use Rattle.std.proofs.Common.{sym}
 use lib.Seq.{length-take-le}
 use Rattle.call_text.proofs.Lists.{asks_none, asks-some, in_array}
 use Rattle.call_text.proofs.request.read_line.Goals as goal
