@@ -6,7 +6,7 @@ mod arrays;
 mod checks;
 mod rebuild;
 
-ghost use Rattle.std.specs.Prelude.{◌≡◌};
+ghost use Rattle.std.specs.Prelude.{◌≡◌, Err};
 ghost use Rattle.refusal.specs.Refusal.{judged};
 ghost use Rattle.sums.specs.Sums.{sums_of};
 ghost use Rattle.book.specs.Book.{empty_book, no_book, samples_in};
@@ -21,6 +21,7 @@ use scatter::table::Table;
 use sums::Sums;
 
 // The samples of n channels, a dilution each and n counts each, sample after sample, and 0 after them; n is 0 where no book is begun.
+// no plainer: a ghost field that says `Consistent` would leave no book of any samples, and the definitions compare with those (`book_with`).
 #[derive(Clone, Copy)]
 pub struct Book {
     n: usize,
@@ -29,8 +30,8 @@ pub struct Book {
     counts: [u32; 2048],
 }
 
-// What a call that is not refused answers: `Added` and `Struck` with the number of samples now held, `Summed` and `Tabled` beside the sums and the
-// table.
+// What a call that is not refused answers: `Added` and `Struck` with the number of samples now held. `Summed` and `Tabled` stand for the calls that
+// only ask: their methods give the sums and the table.
 #[derive(Clone, Copy, Debug, PartialEq, Eq)]
 pub enum BookAnswer {
     Begun,
@@ -114,16 +115,23 @@ impl Book {
         empty_book(0)
     }
 
+    // A refused call leaves the book as it was.
+    fn refused(self, refusal: Refusal) -> Changed
+        ensures { result ≡ record { answer = Err refusal; book = self } }
+    {
+        Changed {
+            answer: Err(refusal),
+            book: self,
+        }
+    }
+
     // An empty book for n channels in place of this one. 'A summary for n outside 2..8 gets 2.'
     pub fn begin(self, n: usize) -> Changed
         requires { Consistent self }
         ensures { Changes self (begin n) result }
     {
         if let Err(refusal) = check_channels(n) {
-            return Changed {
-                answer: Err(refusal),
-                book: self,
-            };
+            return self.refused(refusal);
         }
         Changed {
             answer: Ok(BookAnswer::Begun),
@@ -137,10 +145,7 @@ impl Book {
         ensures { Changes self (add dilution counts.now) result }
     {
         if let Err(refusal) = check_add(self.n, self.summary.k, dilution, counts) {
-            return Changed {
-                answer: Err(refusal),
-                book: self,
-            };
+            return self.refused(refusal);
         }
         let book = with_sample(self, dilution, counts);
         Changed {
@@ -155,10 +160,7 @@ impl Book {
         ensures { Changes self (strike i) result }
     {
         if let Err(refusal) = check_strike(self.n, self.summary.k, i) {
-            return Changed {
-                answer: Err(refusal),
-                book: self,
-            };
+            return self.refused(refusal);
         }
         let book = without_sample(self, i);
         Changed {

@@ -6,7 +6,7 @@ use Rattle.book.proofs.Answering.{not-refused, refused, taken}
 use Rattle.book.proofs.Book.add.Goals as goal
 
 pub returns-in-Err : goal.returns-in-Err
-returns-in-Err c = refused c.args.self (add c.args.dilution c.args.counts.now) c.requires c.in-Err.ensures
+returns-in-Err c = rw c.refused.ensures (refused c.args.self (add c.args.dilution c.args.counts.now) c.requires c.in-Err.ensures)
 
 pub with_sample-book-requires : goal.with_sample-book-requires
 with_sample-book-requires c = (c.requires, not-refused _ _ _ (sym c.in_default.is ∙ c.check_add.ensures))

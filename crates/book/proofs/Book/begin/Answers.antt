@@ -7,7 +7,7 @@ use Rattle.book.proofs.Book.begin.Goals as goal
 
 pub returns-in-Err : goal.returns-in-Err
 unfolding book_refusal
-returns-in-Err c = refused c.args.self (begin c.args.n) c.requires c.in-Err.ensures
+returns-in-Err c = rw c.refused.ensures (refused c.args.self (begin c.args.n) c.requires c.in-Err.ensures)
 
 pub returns : goal.returns
 unfolding book_refusal answer_then

@@ -6,7 +6,7 @@ use Rattle.book.proofs.Answering.{not-refused, refused, taken}
 use Rattle.book.proofs.Book.strike.Goals as goal
 
 pub returns-in-Err : goal.returns-in-Err
-returns-in-Err c = refused c.args.self (strike c.args.i) c.requires c.in-Err.ensures
+returns-in-Err c = rw c.refused.ensures (refused c.args.self (strike c.args.i) c.requires c.in-Err.ensures)
 
 pub without_sample-book-requires : goal.without_sample-book-requires
 without_sample-book-requires c = (c.requires, not-refused _ _ _ (sym c.in_default.is ∙ c.check_strike.ensures))
