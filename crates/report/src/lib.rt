@@ -13,6 +13,7 @@ ghost use Rattle.report.specs.Done.{Ran, Reportable, ReportsRun, TableReportable
 ghost use Rattle.report.specs.Report.{report_of, run_for};
 
 use job::{Job, RefusedLine};
+use lines::Lines;
 use record::Run;
 use refusal::Refusal;
 use scatter::table::Table;
@@ -23,23 +24,25 @@ pub fn report_run(run: Run, k: usize, buf: &mut [u8]) -> Result<usize, Refusal>
     requires { Reportable run k }
     ensures { ReportsRun run k buf.old buf.new result }
 {
-    let outcome = run.outcome;
     let last = run.last;
     let n = last.channels();
     let axes = axes::axes_numbers(last);
-    let listed = order::ordered(&axes, n);
-    let head = [
-        n as i64,
-        k as i64,
-        last.shift() as i64,
-        run.sweeps as i64,
-        last.turns() as i64,
-    ];
-    let length = lines::text_length(&head, outcome, &listed, n);
-    if buf.len() < length {
+    let lines = Lines {
+        head: [
+            n as i64,
+            k as i64,
+            i64::from(last.shift()),
+            run.sweeps as i64,
+            last.turns() as i64,
+        ],
+        outcome: run.outcome,
+        axes: order::ordered(&axes, n),
+        n,
+    };
+    if buf.len() < lines.length() {
         return Err(Refusal::ShortBuffer);
     }
-    Ok(lines::put_text(buf, &head, outcome, &listed, n))
+    Ok(lines.put(buf))
 }
 
 // The run on a table's first n × n entries and its e.

@@ -3,9 +3,10 @@ use Prim.Native.Nat.{ℕ, ◌<◌, ◌^◌}
 use mathlib.Core.Path.{◌≡◌, refl}
 use mathlib.Core.List.{List, [], ◌∷◌}
 use native.Mathlib.Omega.{arith}
-use lib.IntN.{ℤ}
+use lib.IntN.{ℤ, pos}
 use mir.Syntax.{w64}
-use mir.Val.{to_z}
+use mir.Val.{SFits, of_z, to_z}
+use mir.Facts.{to_z-of_z}
 use Rattle.std.proofs.lemmas.Int.{to_z_pos}
 use Rattle.record.specs.declared.run.Run.{Run}
 use Rattle.report.specs.inner.AxisNumbers.{axes_numbers}
@@ -24,14 +25,19 @@ module _ (z : Run) (k : ℕ) (h : Reportable z k) {n : ℕ} (n-is : n ≡ z.last
   wide : Wide listed
   wide = rw (ordered, numbered, n-is) (ordered-wide z.last h.keeps.solver.size)
 
-  module _ {e m : ℕ} (e-is : e ≡ z.last.solver.e) (m-is : m ≡ z.last.solver.m) (few : e < 2 ^ 32) where
-    head-same : to_z w64 n ∷ to_z w64 k ∷ to_z w64 e ∷ to_z w64 z.sweeps ∷ to_z w64 m ∷ [] ≡ head_of k z
+  module _ {e m : ℕ} {shift : ℤ} (e-is : e ≡ z.last.solver.e) (shift-is : shift ≡ pos e) (m-is : m ≡ z.last.solver.m) (few : e < 2 ^ 32) where
+    abbrev head : List ℤ
+    head = to_z w64 n ∷ to_z w64 k ∷ to_z w64 (of_z w64 shift) ∷ to_z w64 z.sweeps ∷ to_z w64 m ∷ []
+
+    head-same : head ≡ head_of k z
     unfolding head_of
     head-same =
+        let f : SFits w64 (pos e) = record { sfits = omega (arith, few) } in
         rw (
           to_z_pos w64 n (omega (arith, n-is, h.keeps.solver.size)),
           to_z_pos w64 k (omega (arith, h.samples)),
-          to_z_pos w64 e (omega (arith, few)),
+          shift-is,
+          to_z-of_z f,
           to_z_pos w64 z.sweeps (omega (arith, h.sweeps)),
           to_z_pos w64 m (omega (arith, m-is, h.keeps.solver.turns)),
           n-is,
@@ -39,39 +45,35 @@ module _ (z : Run) (k : ℕ) (h : Reportable z k) {n : ℕ} (n-is : n ≡ z.last
           m-is,
         )
 
-    report-text : text_of (to_z w64 n ∷ to_z w64 k ∷ to_z w64 e ∷ to_z w64 z.sweeps ∷ to_z w64 m ∷ []) z.outcome listed n ≡ run_report k z
+    report-text : text_of head z.outcome listed n ≡ run_report k z
     report-text = rw (head-same, ordered, numbered, n-is) (text_same k z h.keeps.solver.size)
 
-pub ordered-listed-requires : goal.ordered-listed-requires
-ordered-listed-requires c = omega (arith, c.requires.keeps.solver.size)
+pub ordered-requires : goal.ordered-requires
+ordered-requires c = omega (arith, c.requires.keeps.solver.size)
 
-pub text_length-length-requires : goal.text_length-length-requires
-text_length-length-requires c = (
-  refl,
-  omega (arith, c.requires.keeps.solver.size),
-  wide c.args.run c.args.k c.requires c.channels-n.ensures c.axes_numbers-axes.ensures c.ordered-listed.ensures,
-)
+pub invariant_of-lines : goal.invariant_of-lines
+invariant_of-lines c =
+    record {
+      few = omega (arith, c.requires.keeps.solver.size);
+      wide = wide c.args.run c.args.k c.requires c.channels-n.ensures c.axes_numbers-axes.ensures c.ordered.ensures;
+    }
 
 pub returns-then-buf-length : goal.returns-then-buf-length
 returns-then-buf-length c =
-    let e = report-text c.args.run c.args.k c.requires c.channels-n.ensures c.axes_numbers-axes.ensures c.ordered-listed.ensures c.shift.ensures
-    c.turns.ensures (omega arith) in
-    let sized = rw e at c.text_length-length.ensures in
+    let e = report-text c.args.run c.args.k c.requires c.channels-n.ensures c.axes_numbers-axes.ensures c.ordered.ensures c.shift.ensures
+    c.from.ensures c.turns.ensures (omega arith) in
+    let sized = rw e at c.length.ensures in
     record { writes = short 0 _ c.args.buf.now refl (omega (arith, sized.exact)); short = omega (arith, sized.exact, sized.bounded) }
 
-pub put_text-requires : goal.put_text-requires
-put_text-requires c = (
-  omega (arith, c.requires.keeps.solver.size),
-  wide c.args.run c.args.k c.requires c.channels-n.ensures c.axes_numbers-axes.ensures c.ordered-listed.ensures,
-  omega (arith, c.text_length-length.ensures.exact),
-)
+pub put-requires : goal.put-requires
+put-requires c = omega (arith, c.length.ensures.exact)
 
 pub returns : goal.returns
 returns c =
-    let e = report-text c.args.run c.args.k c.requires c.channels-n.ensures c.axes_numbers-axes.ensures c.ordered-listed.ensures c.shift.ensures
-    c.turns.ensures (omega arith) in
-    let sized = rw e at c.text_length-length.ensures in
+    let e = report-text c.args.run c.args.k c.requires c.channels-n.ensures c.axes_numbers-axes.ensures c.ordered.ensures c.shift.ensures
+    c.from.ensures c.turns.ensures (omega arith) in
+    let sized = rw e at c.length.ensures in
     record {
-      writes = written 0 _ c.args.buf.now refl (rw e at c.put_text.ensures);
+      writes = written 0 _ c.args.buf.now refl (rw e at c.put.ensures);
       short = omega (arith, sized.exact, sized.bounded);
     }
