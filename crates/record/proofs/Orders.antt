@@ -91,10 +91,6 @@ module _ (n : ℕ) (some : 1 ≤ n) (high : n ≤ 8) where
         by true xs ys = refl
         by false xs ys = refl
 
-pub below-eight : (order : Order) (n : ℕ) {row : ℕ} → n ≤ 8 → row < rows_in order n → row < 8
-below-eight Cyclic n h l = omega (arith, h, l)
-below-eight Tournament n h l = omega (arith, h, l)
-
 -- one test over every round: each pair is p < q
 round-ordered : (count row column : ℕ) → count < 5 → row < 7 → column < count →
     (get_or (round_in count row) column (record { p = 0; q = 0 })).p < (get_or (round_in count row) column (record { p = 0; q = 0 })).q

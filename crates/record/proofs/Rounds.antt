@@ -4,7 +4,7 @@ use mathlib.Core.Bool.{Bool, ◌&&◌}
 use mathlib.Core.List.{List, [], ◌∷◌, ◌++◌}
 use Prim.Native.Nat.{ℕ, ◌+◌, ◌-◌, ◌*◌, ◌/◌, ◌≤◌, ◌<◌}
 use native.Mathlib.Omega.{arith}
-use lib.Dec.{T, eqb, eqb→eq, leb, leb→le}
+use lib.Dec.{T, eqb, eqb→eq}
 use lib.ListN.{get_or, replicate, take}
 use mir.Facts.{and_yes}
 use Rattle.integer.specs.Range.{all}
@@ -13,12 +13,6 @@ use Rattle.integer.specs.laws.Range.{below}
 use Rattle.ledger.specs.Pairs.{Pair}
 use Rattle.ledger.specs.Tournament.{before_last, every_second, first_lines, last_of, moved, round}
 use Rattle.record.specs.inner.Orders.{lines_after, round_in}
-
--- those of 2 × h numbers from (h − 1)² on
-pub rounds-fit : (h row : ℕ) → h ≤ 4 → row < 2 * h - 1 → (h - 1) * (h - 1) + row < 16
-rounds-fit h row b l =
-    let last = leb→le ((h - 1) * (h - 1) + (2 * h - 1)) 16 (below (λ h. leb ((h - 1) * (h - 1) + (2 * h - 1)) 16) 5 tt h (omega arith)) in
-    omega (arith, l, last)
 
 pub half-most : (n : ℕ) → n ≤ 8 → (n + 1) / 2 ≤ 4
 half-most n h = omega (arith, h)

@@ -66,14 +66,13 @@ fn one_more(refused: u32) -> u32
 }
 
 // One refused call more of a bench, and of no other.
-fn raise(counts: [u32; 4], bench: usize) -> [u32; 4]
+fn raise(mut counts: [u32; 4], bench: usize) -> [u32; 4]
     requires { is_bench bench ≡ true }
     ensures { result ≡ raised bench counts }
 {
     let at = bench - 1;
-    let mut after = counts;
-    after[at] = one_more(counts[at]);
-    after
+    counts[at] = one_more(counts[at]);
+    counts
 }
 
 fn is_bench(bench: usize) -> bool

@@ -118,6 +118,9 @@ const ROUNDS: [[usize; 8]; 16] = [
     [0, 2, 1, 4, 3, 6, 5, 7],
 ];
 
+// No plainer: both orders go through one loop, which asks its bounds and its pairs of the order here; a closure for each would have to carry what
+// the loop's proof knows of a row and a column.
+
 // How many rows a sweep has: those of the matrix, or rounds.
 fn rows_of(order: Order, n: usize) -> usize
     requires { (1 ≤ n) × (n ≤ 8) }

@@ -1,8 +1,4 @@
--- `record::raise` meets its contract.
-use mathlib.Core.Path.{ap}
-use Prim.Native.Nat.{◌-◌}
-use native.Mathlib.Omega.{arith}
-use lib.ListN.{set}
+use Rattle.std.proofs.Common.{◌-◌, ap, arith, set}
 use Rattle.integer.specs.laws.Within.{is_within}
 use Rattle.ledger.specs.Bench.{is_bench}
 use Rattle.limits.specs.Limits.{benches}
@@ -17,17 +13,17 @@ pub bounds-counts-at : goal.bounds-counts-at
 unfolding is_bench
 bounds-counts-at c = omega (arith, is_within 1 benches c.args.bench c.requires)
 
-pub bounds-after-at : goal.bounds-after-at
+pub bounds-counts-at-2 : goal.bounds-counts-at-2
 unfolding is_bench
-bounds-after-at c = omega (arith, is_within 1 benches c.args.bench c.requires)
+bounds-counts-at-2 c = omega (arith, is_within 1 benches c.args.bench c.requires)
 
 pub offset_bounds-counts-at : goal.offset_bounds-counts-at
 unfolding is_bench
 offset_bounds-counts-at c = record { fits = omega (arith, is_within 1 benches c.args.bench c.requires) }
 
-pub offset_bounds-after-at : goal.offset_bounds-after-at
+pub offset_bounds-counts-at-2 : goal.offset_bounds-counts-at-2
 unfolding is_bench
-offset_bounds-after-at c = record { fits = omega (arith, is_within 1 benches c.args.bench c.requires) }
+offset_bounds-counts-at-2 c = record { fits = omega (arith, is_within 1 benches c.args.bench c.requires) }
 
 pub returns : goal.returns
 unfolding raised
