@@ -1,12 +1,18 @@
-// Reads an input into a buffer that its caller has, so that a program needs no memory for what it reads.
+// Reads an input into a buffer that its caller has, so that a program needs no memory for what it reads; and opens the files that arguments name.
 #![tactic(auto)]
 
 ghost use Rattle.std.specs.Prelude.{◌≡◌, ◌≢◌, ◌<◌, ◌≤◌, ◌↔◌, IfErr, IfOk, IfSome, IsTrue, length, take};
 ghost use Rattle.std.specs.IoError.{error_kind};
 ghost use Rattle.std.specs.Io.KnownBytes.{Consumes};
 
+use std::fs::{File, Files};
 use std::io;
 use std::io::{ErrorKind, Read};
+use std::rt::Env;
+use std::str::from_utf8;
+
+// A name has at most 4,095 bytes on Linux.
+const LONGEST_NAME: usize = 4_095;
 
 // Reads to the front of the buffer until the buffer is full or the input ends, and answers how many bytes stand there. A read may give fewer bytes
 // than there is room for, and one that is interrupted is made again. Nothing says that interruptions end, so the last of 2^64 - 1 reads ends them.
@@ -57,6 +63,14 @@ pub fn input_left<R: Read>(input: &mut R) -> io::Result<bool>
 {
     let mut byte = [0u8; 1];
     Ok(input.read(&mut byte)? == 1)
+}
+
+// Opens the file that argument i names. There is none where the argument is missing, empty, too long or no UTF-8, or can't be opened.
+pub fn open_argument<R: Env + Files>(rt: &R, i: usize) -> Option<R::File> {
+    let mut name = [0u8; LONGEST_NAME];
+    let length = rt.arg(i, &mut name).ok()?;
+    let path = from_utf8(&name[..length]).ok()?;
+    File::open(rt, path).ok()
 }
 
 #[cfg(test)]

@@ -9,13 +9,9 @@ ghost use Rattle.season_report.specs.Limits.{SeasonLimits};
 use limits::MOST_BYTES;
 use season_report::Season;
 use std::env::FillError;
-use std::fs::{File, Files};
+use std::fs::Files;
 use std::io;
 use std::rt::Env;
-use std::str::from_utf8;
-
-// The most bytes of a file's name.
-const NAME: usize = 4_095;
 
 // The most bytes of a season's line.
 const LINE: usize = 252;
@@ -25,10 +21,7 @@ const LINE: usize = 252;
 fn read_file<R: Env + Files>(rt: &R, i: usize, text: &mut [u8; MOST_BYTES]) -> Option<usize>
     ensures { IfSome result (λ n. n ≤ length text.new) }
 {
-    let mut name = [0u8; NAME];
-    let length = rt.arg(i, &mut name).ok()?;
-    let path = from_utf8(&name[..length]).ok()?;
-    let mut file = File::open(rt, path).ok()?;
+    let mut file = input::open_argument(rt, i)?;
     Some(input::read_readable(&mut file, text))
 }
 
