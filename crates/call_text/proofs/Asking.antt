@@ -41,15 +41,15 @@ module _ {E : Type 0} where
   tried_none (negsuc n) (Err z) f h e = (n, refl)
 
 -- a call that has no argument, or one
-pub no-more : (request : _) (ys : List ℤ) → 0 < length ys → None ≡ alone request ys
+pub no_more : (request : _) (ys : List ℤ) → 0 < length ys → None ≡ alone request ys
 unfolding alone
-no-more request [] h = absurd (omega arith)
-no-more request (y ∷ ys) h = refl
+no_more request [] h = absurd (omega arith)
+no_more request (y ∷ ys) h = refl
 
-pub no-others : (request : _) (ys : List ℤ) → length ys ≡ 0 → Some request ≡ alone request ys
+pub no_others : (request : _) (ys : List ℤ) → length ys ≡ 0 → Some request ≡ alone request ys
 unfolding alone
-no-others request [] h = refl
-no-others request (y ∷ ys) h = absurd (omega arith)
+no_others request [] h = refl
+no_others request (y ∷ ys) h = absurd (omega arith)
 
 pub only_few : (ys : List ℤ) → length ys < 1 → None ≡ only ys
 unfolding only

@@ -36,8 +36,8 @@ printed : {w : List ℕ} {x : List ℕ} {r : ℕ} (t : List ℕ) → Put w 0 (re
 unfolding line_printed
 printed t p e = record { is = rw (p.leaves, front_length p, e); short = p.within }
 
-pub fixed-printed : {x t : List ℕ} {r : ℕ} → Put t 0 (replicate 256 0) x r → Prints t (record { bytes = x; len = r })
-fixed-printed p = printed _ p refl
+pub fixed_printed : {x t : List ℕ} {r : ℕ} → Put t 0 (replicate 256 0) x r → Prints t (record { bytes = x; len = r })
+fixed_printed p = printed _ p refl
 
 -- the first i numbers, each after a tab
 unfoldable pub naturals : List ℕ → ℕ → List ℕ

@@ -36,6 +36,7 @@ fn leading_zero(field: &[u8]) -> bool
     matches!(field, [b'0', _, ..])
 }
 
+#[tactic(auto, unfolding(crate::specs::Numbers::numeral))]
 fn is_numeral(field: &[u8]) -> bool
     ensures { result ≡ numeral field.now }
 {

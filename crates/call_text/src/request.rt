@@ -103,6 +103,7 @@ fn turn(bench: usize, numbers: &[i64]) -> Option<Request>
 }
 
 // A call that has no argument.
+#[tactic(auto, using(crate::proofs::Asking::no_more, crate::proofs::Asking::no_others))]
 fn alone(request: Request, numbers: &[i64]) -> Option<Request>
     ensures { result ≡ alone request numbers.now }
 {

@@ -26,6 +26,7 @@ fn unknown_line(k: u64) -> Printed
     numbers_line(b'?', &[k])
 }
 
+#[tactic(auto, unfolding(crate::specs::inner::Lines::told_with))]
 fn answered_line(answer: AxisAnswer, r: Record) -> Printed
     requires { r.solver.n ≤ 8 }
     ensures { Prints (shown (told_with answer r)) result }
