@@ -22,19 +22,6 @@ pub paged : {w x : List ℕ} {r : ℕ} (t : List ℕ) → Put w 0 (replicate 204
 unfolding page_of
 paged t p e = record { is = rw (p.leaves, front_length p, e); short = p.within }
 
-pub bare-paged : {x y : List ℕ} {tag a r : ℕ} → Put (tag ∷ []) 0 (replicate 2048 0) x a → Put (10 ∷ []) a x y r →
-    Pages (line ((tag ∷ []) ∷ [])) (record { bytes = y; len = r })
-unfolding line further
-bare-paged p q = paged _ (put_then p q) refl
-
-one-text : (tag : ℕ) (d : List ℕ) → (tag ∷ []) ++ (9 ∷ d) ++ (10 ∷ []) ≡ line ((tag ∷ []) ∷ d ∷ [])
-unfolding line further
-one-text tag d = ap (λ (l : List ℕ). (tag ∷ 9 ∷ l) ++ (10 ∷ [])) (sym (append-nil d))
-
-pub one-paged : {d x y z : List ℕ} {tag a b r : ℕ} → Put (tag ∷ []) 0 (replicate 2048 0) x a → FieldPut d a x y b → Put (10 ∷ []) b y z r →
-    Pages (line ((tag ∷ []) ∷ d ∷ [])) (record { bytes = z; len = r })
-one-paged p q s = paged _ (put_then (put_then p q.puts) s) (one-text _ _)
-
 naturals-append : (xs ys : List ℕ) → naturals (xs ++ ys) ≡ naturals xs ++ naturals ys
 unfolding naturals
 naturals-append xs ys = rw (map-append, further-append)

@@ -20,6 +20,7 @@ use text::put_byte;
 const LINE_FEED: u8 = b'\n';
 
 // The bytes, and 0 after them.
+// C interface / rule of the project needs it: there is no heap, so an array that holds the longest page, and its length, in place of a Vec.
 #[derive(Drop)]
 pub struct Page {
     pub bytes: [u8; 2048],

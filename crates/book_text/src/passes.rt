@@ -26,6 +26,8 @@ pub(crate) fn fits(text: &[u8], most: usize) -> bool
     }
 }
 
+// no plainer: a second short loop of that shape. One driver of both would take a closure that may be called only where the page fits what is left
+// of the buffer, and that is what the first loop finds out.
 pub(crate) fn put_printed(text: &[u8], buf: &mut [u8]) -> usize
     requires { length (summary_text false text.now) ≤ length buf.old }
     ensures { Put (summary_text false text.now) 0 buf.old buf.new result }
