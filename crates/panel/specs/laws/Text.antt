@@ -2,6 +2,7 @@
 use Prim.Native.Nat.{ℕ, zero, suc, ◌+◌, ◌*◌, ◌<◌, ◌≤◌}
 use Rattle.std.specs.Prelude.{◌≡◌, ℤ, pos, negsuc, nat_abs, drop, get_or, length, take}
 use Rattle.std.proofs.Math.Path.{refl}
+use Rattle.std.proofs.lemmas.Grind.{flat_map-append}
 use Rattle.std.proofs.Common.{ap, ◌∙◌, arith, length-append}
 use mathlib.Core.List.{List, [], ◌∷◌, ◌++◌, append_assoc, append-nil, flat_map, map}
 use Rattle.integer.specs.Matrix.{Symmetric, matrix_of}
@@ -29,11 +30,6 @@ use Rattle.panel.specs.declared.Panel.{Panel}
 use Rattle.panel.specs.laws.Places.{SmallPanel, after_small, panels-are}
 
 -- ---- line after line
-
-flat_map-append : {A B : Type 0} (f : A → List B) (xs ys : List A) → flat_map f (xs ++ ys) ≡ flat_map f xs ++ flat_map f ys
-unfolding flat_map
-flat_map-append f [] ys = refl
-flat_map-append f (x ∷ xs) ys = rw (flat_map-append f xs ys, append_assoc)
 
 flat_map-lines : {A : Type 0} (f : A → List ℕ) (g : ℕ → A) (n : ℕ) → flat_map f (tabulate n g) ≡ lines (λ i. f (g i)) n
 unfolding lines tabulate flat_map
