@@ -1,6 +1,6 @@
 -- What holds of every season that the constructor and the calls make: no figure wraps. There are 10,000 jobs of at most 448 turns each, and r_i is a
 -- kept record's.
-use Rattle.std.specs.Prelude.{ℕ, ◌*◌, ◌^◌, ◌≤◌, ◌<◌, ◌≡◌, get_or, length, IfSome}
+use Rattle.std.specs.Prelude.{ℕ, ◌*◌, ◌^◌, ◌≤◌, ◌<◌, get_or, IfSome}
 use Rattle.limits.specs.Limits.{most_channels, most_jobs, turn_limit}
 use Rattle.season_report.specs.declared.LargestError.{LargestError}
 use Rattle.season_report.specs.declared.Season.{Season}
@@ -15,7 +15,6 @@ pub record SeasonLimits (s : Season) : Type 0 where
   pub settled : s.settled ≤ s.jobs
   pub still : s.still ≤ s.jobs
   pub spent : s.spent ≤ s.jobs
-  pub four : length s.refused ≡ 4
   pub refused : (i : ℕ) → get_or s.refused i 0 ≤ s.jobs
   pub turns : s.turns ≤ turn_limit * s.jobs
   pub largest : IfSome s.largest (LargestLimits s.jobs)

@@ -1,5 +1,5 @@
 -- No figure wraps: the limits of a season hold with one job more, and r_i and m of a kept record are small.
-use Rattle.std.specs.Prelude.{ℕ, zero, suc, ◌+◌, ◌-◌, ◌^◌, ◌<◌, ◌≤◌, refl, Bool, true, false, cond, List, [], ◌∷◌, eqb, get_or, length}
+use Rattle.std.specs.Prelude.{ℕ, zero, suc, ◌+◌, ◌-◌, ◌^◌, ◌<◌, ◌≤◌, Bool, true, false, cond, List, [], ◌∷◌, eqb, get_or, length}
 use Rattle.std.specs.Prelude.{Option, None, Some, IfSome}
 use Rattle.std.proofs.Math.Decide.{dec_lt}
 use Rattle.std.proofs.Math.Nat.{max-le}
@@ -78,7 +78,6 @@ limits-more s e l h j =
       settled = one_more (ended_as is_settled e) s.settled s.jobs l.settled;
       still = one_more (ended_as is_still e) s.still s.jobs l.still;
       spent = one_more (ended_as is_spent e) s.spent s.jobs l.spent;
-      four = refl;
       refused = refused-more s e l.refused;
       turns = omega (arith, l.turns, j.turns);
       largest = largest-more s.largest s.jobs (errors_of e) l.largest j.error j.axes;

@@ -25,7 +25,6 @@ returns c =
             settled = omega arith;
             still = omega arith;
             spent = omega arith;
-            four = refl;
             refused = none-refused;
             turns = omega arith;
             largest = tt;

@@ -1,5 +1,5 @@
 -- `season_report::job_end::with_run` meets its contract.
-use Rattle.std.proofs.Common.{◌≡◌, cond, refl, sym, ap, subst, ◌∙◌}
+use Rattle.std.proofs.Common.{◌≡◌, cond, refl, sym, ap, subst, ◌∙◌, length, rules}
 use denote.Enum.Bare.{sameb}
 use mir.Val.{bool_byte}
 use Rattle.record.specs.contracts.run.Outcome.{the_type}
@@ -34,10 +34,11 @@ pub returns : goal.returns
 returns c =
     let s = c.args.s in
     let run = c.args.run in
+    let n : length s.refused ≡ 4 = search rules in
     let e =
     run-added s run
     (c.from.ensures ∙ ap bool_byte c.eq.ensures ∙ settled-counts run.outcome)
     (c.from-2.ensures ∙ ap bool_byte c.eq-2.ensures ∙ still-counts run.outcome)
     (c.from-3.ensures ∙ ap bool_byte c.eq-3.ensures ∙ spent-counts run.outcome)
-    c.turns.ensures c.requires.0.four c.with_errors.ensures in
+    c.turns.ensures n c.with_errors.ensures in
     (e, subst SeasonLimits (sym e) (limits-more s (ran run) c.requires.0 c.requires.1 (run-limits run c.requires.2)))
