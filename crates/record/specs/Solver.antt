@@ -1,6 +1,6 @@
 -- Document 01, 'The record and its calls': what each call answers, and what it leaves of the matrix and its axes. Document 02, W5: the record
 -- 'remembers its e'. The counts of refused calls are the record's (specs/Record): here a refused call leaves all as it is.
-use Rattle.std.specs.Prelude.{ℕ, ◌-◌, cond, List, eqb, ℤ, pos, ◌*ℤ◌, replicate}
+use Rattle.std.specs.Prelude.{ℕ, ◌-◌, cond, List, eqb, ℤ, pos, ◌*ℤ◌, is_some, replicate}
 use Rattle.ledger.specs.Axis.{error_of}
 use Rattle.ledger.specs.Call.{Call, load, load_samples, turn, sweep_in, loose_pair, axis}
 use Rattle.limits.specs.Limits.{entry_limit, units, whole}
@@ -13,7 +13,7 @@ use Rattle.readings.specs.Samples.{samples}
 use Rattle.scatter.specs.Table.{scatter, shift, shift_under, entries_under}
 use Rattle.turn.specs.InUse.{in_use}
 use Rattle.turn.specs.Turn.{at}
-use Rattle.record.specs.Work.{Work, chosen, is_turn, work_pair, work_pairs}
+use Rattle.record.specs.Work.{Work, chosen, work_pair, work_pairs}
 use Rattle.record.specs.Loose.{loose_of}
 use Rattle.record.specs.declared.query.Answer.{Answer}
 use Rattle.record.specs.declared.query.Answer.TheVariants.{Loaded, SamplesLoaded, Turned, Swept, TournamentSwept, Axis, Refused}
@@ -87,7 +87,7 @@ swept_in Tournament made = TournamentSwept made
 unfoldable pub value_of : Solver → Call → Answer
 value_of s (load n numbers) = Loaded
 value_of s (load_samples n dilutions counts) = SamplesLoaded (shift (scatter n (samples n dilutions counts)))
-value_of s (turn p q) = Turned (is_turn (chosen (work_of s) (record { p = p - 1; q = q - 1 })))
+value_of s (turn p q) = Turned (is_some (chosen (work_of s) (record { p = p - 1; q = q - 1 })))
 value_of s (sweep_in order) = swept_in order ((swept_of s order).m - s.m)
 value_of s (loose_pair t) = loose_of (kept_entry s.a) t (cyclic s.n)
 value_of s (axis i) = Axis (kept_entry s.a (i - 1) (i - 1)) (error_of s.n s.e (kept_entry s.a) s.m (i - 1))

@@ -1,5 +1,5 @@
 -- The kept matrix and axes while pairs are turned: 8 by 8 arrays of arrays, and m.
-use Rattle.std.specs.Prelude.{ℕ, suc, Bool, true, false, List, [], ◌∷◌, ℤ, Option, Some, None}
+use Rattle.std.specs.Prelude.{ℕ, suc, List, [], ◌∷◌, ℤ, Option, Some, None}
 use Rattle.ledger.specs.Pairs.{Pair}
 use Rattle.turn.specs.Rotation.{rotation_of}
 use Rattle.turn.specs.Turn.{at, turn_matrix, turn_axes}
@@ -23,11 +23,6 @@ work_by n w pair (Some picked) =
 
 unfoldable pub chosen : Work → Pair → Option Turn
 chosen w pair = choose (at w.a pair.p pair.p) (at w.a pair.q pair.q) (at w.a pair.p pair.q)
-
--- whether a turn was chosen
-unfoldable pub is_turn : Option Turn → Bool
-is_turn None = false
-is_turn (Some picked) = true
 
 unfoldable pub work_pair : ℕ → Work → Pair → Work
 work_pair n w pair = work_by n w pair (chosen w pair)

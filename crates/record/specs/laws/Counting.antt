@@ -1,6 +1,6 @@
 -- What a turn and a sweep answer is what they add to m: 'm counts turns made', 'The answer is how many turns it made'; and a load of samples answers
 -- the e that the record then has.
-use Rattle.std.specs.Prelude.{◌≡◌, refl, Bool, true, false, ℕ, ◌+◌, ◌-◌, List, Option, Some, None}
+use Rattle.std.specs.Prelude.{◌≡◌, refl, Bool, true, false, ℕ, ◌+◌, ◌-◌, List, Option, Some, None, is_some}
 use Rattle.std.proofs.Common.{arith, eq-eqb}
 use Rattle.choice.specs.declared.Turn.{Turn}
 use Rattle.ledger.specs.Call.{load_samples, sweep_in, turn}
@@ -13,7 +13,7 @@ use Rattle.record.specs.Solver.{accepted_of_under, after_of, answer_of, loaded_s
 use Rattle.record.specs.Solver.{turned_of, value_of, work_of, worked_of}
 use Rattle.readings.specs.Samples.{samples}
 use Rattle.scatter.specs.Table.{scatter, shift}
-use Rattle.record.specs.Work.{Work, is_turn, work_by, work_pair}
+use Rattle.record.specs.Work.{Work, work_by, work_pair}
 use Rattle.record.specs.laws.Accepted.{after-accepted}
 use Rattle.record.specs.laws.Turning.{works-least}
 use Rattle.record.specs.declared.solver.Solver.{Solver}
@@ -41,9 +41,9 @@ unfoldable pub made : Bool → ℕ
 made true = 1
 made false = 0
 
-by-choice : (n : ℕ) (w : Work) (pair : Pair) (choice : Option Turn) (b : Bool) → Turned (is_turn choice) ≡ Turned b →
+by-choice : (n : ℕ) (w : Work) (pair : Pair) (choice : Option Turn) (b : Bool) → Turned (is_some choice) ≡ Turned b →
     (work_by n w pair choice).m ≡ w.m + made b
-unfolding work_by is_turn made
+unfolding work_by made
 by-choice n w pair None b h = let e : false ≡ b = cc in rw (← e) (omega arith)
 by-choice n w pair (Some picked) b h = let e : true ≡ b = cc in rw (← e) (omega arith)
 

@@ -1,5 +1,5 @@
 -- A turn keeps what is kept: the matrix stays symmetric and 0 outside, and the bounds grow with m. And what is kept is small enough to turn.
-use Rattle.std.specs.Prelude.{◌≡◌, List, [], ◌∷◌, ℕ, suc, ◌+◌, ◌*◌, ◌≤◌, ◌<◌, ltb, length, Option, Some, None}
+use Rattle.std.specs.Prelude.{◌≡◌, List, [], ◌∷◌, ℕ, suc, ◌+◌, ◌*◌, ◌≤◌, ◌<◌, ltb, length, Option, Some, None, is_some}
 use Rattle.std.proofs.Math.Path.{sym}
 use Rattle.std.proofs.Common.{ap, ◌∙◌, arith, lt-ltb, le-ltb}
 use Rattle.std.proofs.Math.Decide.{dec_lt}
@@ -27,7 +27,7 @@ use Rattle.choice.specs.Widest.{widest}
 use Rattle.limits.specs.Limits.{turn_limit}
 use Rattle.choice.specs.declared.Turn.{Turn}
 use Rattle.record.specs.KeptWork.{KeptWork}
-use Rattle.record.specs.Work.{Work, chosen, is_turn, work_by, work_pair, work_pairs}
+use Rattle.record.specs.Work.{Work, chosen, work_by, work_pair, work_pairs}
 
 module _ (n : ℕ) (w : Work) (pair : Pair) (b : n ≤ 8) (k : KeptWork n w) (pq : pair.p < pair.q) (qn : pair.q < n) where
   keeps : (choice : Option Turn) → KeptWork n (work_by n w pair choice)
@@ -113,11 +113,11 @@ works-least n w [] = omega arith
 works-least n w (pair ∷ pairs) = omega (arith, works-least n (work_pair n w pair) pairs, work-least n w pair)
 
 -- m tells whether a turn was chosen
-pub work-turned : (n : ℕ) (w : Work) (pair : Pair) → ltb w.m (work_pair n w pair).m ≡ is_turn (chosen w pair)
-unfolding work_pair work_by is_turn
+pub work-turned : (n : ℕ) (w : Work) (pair : Pair) → ltb w.m (work_pair n w pair).m ≡ is_some (chosen w pair)
+unfolding work_pair work_by
 work-turned n w pair = told (chosen w pair)
   where
-    told : (choice : Option Turn) → ltb w.m (work_by n w pair choice).m ≡ is_turn choice
+    told : (choice : Option Turn) → ltb w.m (work_by n w pair choice).m ≡ is_some choice
     told None = le-ltb w.m w.m (omega arith)
     told (Some picked) = lt-ltb w.m (suc w.m) (omega arith)
 
