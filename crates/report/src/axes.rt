@@ -21,14 +21,11 @@ fn axis_numbers(r: Record, i: usize) -> [i64; 11]
     requires { Kept r × (1 ≤ i) × (i ≤ r.solver.n) }
     ensures { result ≡ axis_numbers r i }
 {
-    let step = r.axis(OWN_BENCH, i);
-    let answered = step.answer;
-    let value = answered.value;
-    let row = answered.row;
-    let Answer::Axis { entry, error } = value else {
-        return numbers_of(i as i64, 0, 0, row);
+    let answered = r.axis(OWN_BENCH, i).answer;
+    let Answer::Axis { entry, error } = answered.value else {
+        return numbers_of(i as i64, 0, 0, answered.row);
     };
-    numbers_of(i as i64, entry, error as i64, row)
+    numbers_of(i as i64, entry, error as i64, answered.row)
 }
 
 // Those of axes 1 to n.

@@ -35,17 +35,17 @@ module _ (r : Record) (i : ℕ) (k : Kept r) (first : 1 ≤ i) (last : i ≤ r.s
 
 pub returns-in_default : goal.returns-in_default
 returns-in_default c =
-    absurd (c.in_default.not-Axis _ _ (answer-is c.args.r c.args.i c.requires.0 c.requires.1 c.requires.2 _ c.axis-step.ensures.answers))
+    absurd (c.in_default.not-Axis _ _ (answer-is c.args.r c.args.i c.requires.0 c.requires.1 c.requires.2 _ c.axis.ensures.answers))
 
 pub overflow_cast-error : goal.overflow_cast-error
 overflow_cast-error c =
-    record { sfits = small c.args.r c.args.i c.requires.0 c.requires.1 c.requires.2 _ c.axis-step.ensures.answers _ _ c.in-Axis.is }
+    record { sfits = small c.args.r c.args.i c.requires.0 c.requires.1 c.requires.2 _ c.axis.ensures.answers _ _ c.in-Axis.is }
 
 pub returns : goal.returns
 returns c =
     let f : SFits w64 (pos c.in-Axis.error) =
-    record { sfits = small c.args.r c.args.i c.requires.0 c.requires.1 c.requires.2 _ c.axis-step.ensures.answers _ _ c.in-Axis.is } in
+    record { sfits = small c.args.r c.args.i c.requires.0 c.requires.1 c.requires.2 _ c.axis.ensures.answers _ _ c.in-Axis.is } in
     let h : SFits w64 c.in-Axis.entry = search rules in
     let g : SFits w64 (pos c.args.i) = record { sfits = omega (arith, c.requires.2, c.requires.0.solver.size) } in
     c.numbers_of-2.ensures ∙ rw (to_z-of_z g, to_z-of_z h, to_z-of_z f)
-    (numbers-by c.args.r c.args.i _ _ _ _ c.axis-step.ensures.answers c.axis-step.ensures.row c.in-Axis.is)
+    (numbers-by c.args.r c.args.i _ _ _ _ c.axis.ensures.answers c.axis.ensures.row c.in-Axis.is)
