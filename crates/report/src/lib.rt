@@ -50,9 +50,7 @@ fn run_of_table(n: usize, limit: u64, tolerance: u64, table: Table) -> Run
     requires { TableRunnable n limit tolerance table }
     ensures { Ran (run_of_table n limit tolerance table) result }
 {
-    let entries = table.entries;
-    let size = n * n;
-    run::run_table(n, &entries[..size], table.e, limit, tolerance)
+    run::run_table(n, &table.entries[..n * n], table.e, limit, tolerance)
 }
 
 // The report of a table of k samples of n channels, by the run on its entries.
@@ -76,11 +74,8 @@ pub fn run_of_job(job: Job) -> Run
     requires { Held job }
     ensures { Ran (run_for (job_in job)) result }
 {
-    let n = job.n;
-    let limit = job.limit;
-    let tolerance = job.tolerance;
     let table = job_table::table_of(job);
-    run_of_table(n, limit, tolerance, table)
+    run_of_table(job.n, job.limit, job.tolerance, table)
 }
 
 fn report_job(job: Job, buf: &mut [u8]) -> Result<usize, RefusedLine>

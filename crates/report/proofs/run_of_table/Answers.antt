@@ -19,11 +19,11 @@ module _ {n limit tolerance : ℕ} {t : Table} (r : TableRunnable n limit tolera
   entries-within : n * n ≤ length t.entries
   entries-within = rw r.size size
 
-pub overflow_mul-size : goal.overflow_mul-size
-overflow_mul-size c = record { fits = omega (arith, size c.requires) }
+pub overflow_mul-n : goal.overflow_mul-n
+overflow_mul-n c = record { fits = omega (arith, size c.requires) }
 
-pub slice_bounds-entries-end : goal.slice_bounds-entries-end
-slice_bounds-entries-end c = entries-within c.requires
+pub shared_ref_as_front-run_table : goal.shared_ref_as_front-run_table
+shared_ref_as_front-run_table c = size c.requires
 
 pub slice_bounds-run_table-end : goal.slice_bounds-run_table-end
 slice_bounds-run_table-end c = sym (length-take-le _ _ (entries-within c.requires))
