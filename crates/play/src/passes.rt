@@ -38,7 +38,7 @@ pub(crate) fn put_played(text: &[u8], buf: &mut [u8]) -> usize
     let mut r = Record::new();
     let mut here = Cursor::start();
     let mut end = 0;
-    loop {
+    'lines: loop {
         let own = step(&mut r, text, false, here);
         end = put_bytes(buf, end, own.line.text());
         let Some(next) = own.next else {

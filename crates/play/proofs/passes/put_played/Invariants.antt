@@ -3,8 +3,8 @@ use Rattle.std.proofs.Common.{◌-◌, length}
 use Rattle.play.proofs.Passing.{Wrote}
 use Rattle.play.proofs.passes.put_played.Given as goal
 
-abbrev pub invariant-loop-next : goal.invariant-loop-next
-invariant-loop-next l = Wrote l.text l.r l.here l.initial.buf l.buf l.end
+abbrev pub invariant-lines : goal.invariant-lines
+invariant-lines l = Wrote l.text l.r l.here l.initial.buf l.buf l.end
 
-abbrev pub decreases-loop-next : goal.decreases-loop-next
-decreases-loop-next l = length l.text - l.here.at
+abbrev pub decreases-lines : goal.decreases-lines
+decreases-lines l = length l.text - l.here.at
