@@ -18,7 +18,8 @@ pub fn run(n: usize, numbers: &[i64], limit: u64, tolerance: u64) -> Run
     r.run(limit, tolerance)
 }
 
-// Of a table: its entries, and the shift e, which the record remembers.
+// Of a table: its entries, and the shift e, which the record remembers. No plainer as one with `run`: a matrix is loaded by the load call, which
+// judges it, and a table is not.
 pub fn run_table(n: usize, numbers: &[i64], e: u32, limit: u64, tolerance: u64) -> Run
     requires { Allowed n numbers.now limit tolerance }
     ensures { RunsTable n numbers.now e limit tolerance result }
