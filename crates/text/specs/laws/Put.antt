@@ -1,7 +1,9 @@
 -- Laws of what a writer does to a lent buffer: nothing written, one text after another, and a text in the buffer's part from a place on.
-use Rattle.std.specs.Prelude.{ℕ, ◌+◌, ◌-◌, ◌≤◌, ◌≡◌, List, [], ◌++◌, length, take, drop}
+use Rattle.std.specs.Prelude.{ℕ, ◌+◌, ◌-◌, ◌<◌, ◌≤◌, ◌≡◌, List, [], ◌++◌, length, take, drop, set, get_or}
 use Rattle.std.proofs.Common.{sym, ◌∙◌, append_assoc, append-nil, zero-add, add_assoc, add-zero, le_refl, arith, length-append, length-drop}
 use Rattle.std.proofs.Common.{take-append-drop, drop_of_length-le, take_at, drop_at, drop-drop, length-take-le, take_all}
+use Rattle.std.proofs.Common.{add-one}
+use Rattle.std.proofs.Math.Seq.{take-length, paste, paste-suc}
 use Rattle.text.specs.Put.{Put}
 
 pub put-nothing : {X : Type 0} (at : ℕ) (entry : List X) → at ≤ length entry → Put [] at entry entry at
@@ -58,3 +60,12 @@ same-put q p = rw (← q) p
 -- A text at the front of a buffer.
 pub front_length : {X : Type 0} {t e x : List X} {r : ℕ} → Put t 0 e x r → r ≡ length t
 front_length p = p.answer ∙ zero-add _
+
+-- Bytes or numbers that are written one after the other: all of them, and one more.
+pub all-put : {X : Type 0} {t e x : List X} {at i : ℕ} → x ≡ paste e at t i → i ≡ length t → at + i ≤ length e → Put t at e x (at + i)
+all-put {t = t} {e} {x} {at} h i w = record { leaves = rw (h, i, take-length, append_assoc, drop-drop); answer = rw i; within = w }
+
+pub one_more : {X : Type 0} {x : List X} (e : List X) (at : ℕ) (t : List X) (i : ℕ) (d : X) → x ≡ paste e at t i → i < length t →
+    at + length t ≤ length e
+    → set x (at + i) (get_or t i d) ≡ paste e at t (i + 1)
+one_more e at t i d h k room = rw (h, add-one) (paste-suc e at t i d (omega arith) k)
