@@ -78,9 +78,9 @@ fn axis_line(entry: i64, error: u64, row: [i64; 8], n: usize) -> Printed
 {
     let mut bytes = [0u8; 256];
     let first = put_byte(&mut bytes, 0, b'A');
-    let second = put_numbers(&mut bytes, first, &[entry], 1);
+    let second = put_numbers(&mut bytes, first, &[entry]);
     let third = natural_field(&mut bytes, second, error);
-    let end = put_numbers(&mut bytes, third, &row, n);
+    let end = put_numbers(&mut bytes, third, &row[..n]);
     let len = put_byte(&mut bytes, end, LINE_FEED);
     Printed { bytes, len }
 }

@@ -23,5 +23,5 @@ pub fn wrong_argument(first: bool, second: bool, words: usize) -> Option<u32>
 pub fn put_wrong_argument(number: u32, out: &mut [u8; 2048]) -> usize
     ensures { Put (wrong_argument_line number) 0 out.old out.new result }
 {
-    text::line::put_line(out, b'?', &[i64::from(number)], 1)
+    text::line::put_line(out, b'?', &[i64::from(number)])
 }

@@ -1,5 +1,5 @@
 // The text of a job's table: job text in, the lines of its exact sums or the refusal out.
-ghost use Rattle.std.specs.Prelude.{◌≡◌, ◌∷◌, [], ◌≤◌, length, pos, take};
+ghost use Rattle.std.specs.Prelude.{◌≡◌, ◌∷◌, [], ◌≤◌, length, pos};
 ghost use Rattle.job.specs.Job.{accepted};
 ghost use Rattle.job.specs.Reply.{Answers, Replies, printed_of};
 ghost use Rattle.job_table.specs.Held.{Held, job_in};
@@ -41,16 +41,16 @@ impl Lines {
     }
 
     fn length(&self) -> usize
-        ensures { Sized (text_of_rows (take 3 self.now.head) self.now.n self.now.rows) 2048 result }
+        ensures { Sized (text_of_rows self.now.head self.now.n self.now.rows) 2048 result }
     {
-        numbers_length(&self.head, 3) + 2 + rows_length(&self.rows, self.n, self.n + 1)
+        numbers_length(&self.head) + 2 + rows_length(&self.rows, self.n, self.n + 1)
     }
 
     fn put(&self, buf: &mut [u8]) -> usize
-        requires { length (text_of_rows (take 3 self.now.head) self.now.n self.now.rows) ≤ length buf.old }
-        ensures { Put (text_of_rows (take 3 self.now.head) self.now.n self.now.rows) 0 buf.old buf.new result }
+        requires { length (text_of_rows self.now.head self.now.n self.now.rows) ≤ length buf.old }
+        ensures { Put (text_of_rows self.now.head self.now.n self.now.rows) 0 buf.old buf.new result }
     {
-        let at = put_line(buf, b'T', &self.head, 3);
+        let at = put_line(buf, b'T', &self.head);
         put_rows(buf, at, b'S', &self.rows, self.n, self.n + 1)
     }
 }

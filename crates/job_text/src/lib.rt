@@ -16,7 +16,7 @@ use text::line::{numbers_length, put_line};
 fn text_length(first: &[i64; 3], samples: &Samples, last: &[i64; 1]) -> usize
     ensures { Sized (text_of_lines first.now samples.now.n samples.now.dilutions.now samples.now.counts.now last.now) 49152 result }
 {
-    numbers_length(first, 3) + 2 + samples.length() + numbers_length(last, 1) + 2
+    numbers_length(first) + 2 + samples.length() + numbers_length(last) + 2
 }
 
 // Each line's writer gets the buffer's part from where the last line ended.
@@ -25,9 +25,9 @@ fn put_text(out: &mut [u8], first: &[i64; 3], samples: &Samples, last: &[i64; 1]
     ensures { Put (text_of_lines first.now samples.now.n samples.now.dilutions.now samples.now.counts.now last.now) 0
         out.old out.new result }
 {
-    let mut at = put_line(out, b'P', first, 3);
+    let mut at = put_line(out, b'P', first);
     at = samples.put(out, at);
-    at + put_line(&mut out[at..], b'E', last, 1)
+    at + put_line(&mut out[at..], b'E', last)
 }
 
 // n, the sweep limit, the tolerance and the samples as job text. The length is known before the first byte is written, so a buffer that is too

@@ -38,7 +38,7 @@ impl Samples<'_> {
     {
         let mut total = 0;
         for i in 0..self.dilutions.len() {
-            total += numbers_length(&self.numbers(i), self.n + 1) + 2;
+            total += numbers_length(&self.numbers(i)[..=self.n]) + 2;
         }
         total
     }
@@ -50,7 +50,7 @@ impl Samples<'_> {
     {
         let mut at = from;
         for i in 0..self.dilutions.len() {
-            at += put_line(&mut out[at..], b'S', &self.numbers(i), self.n + 1);
+            at += put_line(&mut out[at..], b'S', &self.numbers(i)[..=self.n]);
         }
         at
     }

@@ -27,10 +27,10 @@ pub fn answer(argument: &[u8], out: &mut [u8; MOST_BYTES]) -> usize
     ensures { Put (panels_printed argument.now) 0 out.old out.new result }
 {
     let Some(b) = number(argument) else {
-        return text::line::put_line(out, b'?', &[], 0);
+        return text::line::put_line(out, b'?', &[]);
     };
     match write_panels(b, out) {
         Ok(length) => length,
-        Err(refusal) => text::line::put_line(out, b'X', &[i64::from(refusal.number())], 1),
+        Err(refusal) => text::line::put_line(out, b'X', &[i64::from(refusal.number())]),
     }
 }

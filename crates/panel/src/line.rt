@@ -52,7 +52,7 @@ pub(crate) fn line_length(x: Panel) -> usize
     ensures { Sized (panel_line x) 23 result }
 {
     let fields = line_fields(x);
-    text::line::numbers_length(&fields.numbers, 5) + word_of(fields.outcome).len() + 1
+    text::line::numbers_length(&fields.numbers) + word_of(fields.outcome).len() + 1
 }
 
 // A line of numbers and a word, at the front of the buffer.
@@ -61,7 +61,7 @@ fn put_fields(buf: &mut [u8], numbers: &[i64], word: &[u8]) -> usize
     ensures { Put (fields_line numbers.now word.now) 0 buf.old buf.new result }
 {
     let mut at = put_number(buf, 0, numbers[0]);
-    at = text::line::put_numbers(buf, at, &numbers[1..], numbers.len() - 1);
+    at = text::line::put_numbers(buf, at, &numbers[1..]);
     at = put_byte(buf, at, TAB);
     at = put_bytes(buf, at, word);
     put_byte(buf, at, LINE_FEED)

@@ -1,5 +1,5 @@
 // The report's lines: how long they are together, and the writer.
-ghost use Rattle.std.specs.Prelude.{◌≤◌, length, take};
+ghost use Rattle.std.specs.Prelude.{◌≤◌, length};
 ghost use Rattle.text.specs.Put.{Put, Sized};
 ghost use Rattle.text.specs.Rows.{Wide};
 ghost use Rattle.report.specs.inner.Text.{text_of};
@@ -22,19 +22,19 @@ pub(crate) struct Lines {
 
 impl Lines {
     pub(crate) fn length(&self) -> usize
-        ensures { Sized (text_of (take 5 self.now.head) self.now.outcome self.now.axes self.now.n) 2048 result }
+        ensures { Sized (text_of self.now.head self.now.outcome self.now.axes self.now.n) 2048 result }
     {
-        let first = numbers_length(&self.head, 5) + word_of(self.outcome).len() + 3;
+        let first = numbers_length(&self.head) + word_of(self.outcome).len() + 3;
         first + rows_length(&self.axes, self.n, self.n + 3)
     }
 
     // The A lines are written after the R line.
     pub(crate) fn put(&self, buf: &mut [u8]) -> usize
-        requires { length (text_of (take 5 self.now.head) self.now.outcome self.now.axes self.now.n) ≤ length buf.old }
-        ensures { Put (text_of (take 5 self.now.head) self.now.outcome self.now.axes self.now.n) 0 buf.old buf.new result }
+        requires { length (text_of self.now.head self.now.outcome self.now.axes self.now.n) ≤ length buf.old }
+        ensures { Put (text_of self.now.head self.now.outcome self.now.axes self.now.n) 0 buf.old buf.new result }
     {
         let word = word_of(self.outcome);
-        let at = put_word_line(buf, b'R', &self.head, 5, word);
+        let at = put_word_line(buf, b'R', &self.head, word);
         put_rows(buf, at, b'A', &self.axes, self.n, self.n + 3)
     }
 }

@@ -45,7 +45,7 @@ fn print_number(rt: &impl Print, tag: u8, number: usize) -> io::Result<()>
     requires { number ≤ most_jobs }
 {
     let mut out = [0u8; 32];
-    let length = text::line::put_line(&mut out, tag, &[number as i64], 1);
+    let length = text::line::put_line(&mut out, tag, &[number as i64]);
     rt.write_all(&out[..length])
 }
 

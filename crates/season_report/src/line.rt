@@ -42,7 +42,7 @@ pub(crate) fn line_length(numbers: &[i64]) -> usize
     requires { length numbers.now ≡ 12 }
     ensures { Sized (line (map number numbers.now)) 252 result }
 {
-    text::line::numbers_length(numbers, 12)
+    text::line::numbers_length(numbers)
 }
 
 // The line, at the front of the buffer.
@@ -51,6 +51,6 @@ pub(crate) fn put_line(buf: &mut [u8], numbers: &[i64]) -> usize
     ensures { Put (line (map number numbers.now)) 0 buf.old buf.new result }
 {
     let mut at = put_number(buf, 0, numbers[0]);
-    at = text::line::put_numbers(buf, at, &numbers[1..], numbers.len() - 1);
+    at = text::line::put_numbers(buf, at, &numbers[1..]);
     put_byte(buf, at, LINE_FEED)
 }

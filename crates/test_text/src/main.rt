@@ -14,8 +14,8 @@ fn two_lines(buf: &mut [u8], values: &[i64], n: usize, word: &[u8]) -> usize
     ensures { Put (number_line 65 (take n values.now) ++ word_line 82 (take n values.now) word.now) 0
         buf.old buf.new result }
 {
-    let at = text::line::put_line(buf, b'A', values, n);
-    at + text::line::put_word_line(&mut buf[at..], b'R', values, n, word)
+    let at = text::line::put_line(buf, b'A', &values[..n]);
+    at + text::line::put_word_line(&mut buf[at..], b'R', &values[..n], word)
 }
 
 fn main(rt: HostRuntime) -> io::Result<()> {

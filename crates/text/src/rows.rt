@@ -13,7 +13,7 @@ pub fn rows_length(rows: &[[i64; 11]; 8], n: usize, width: usize) -> usize
 {
     let mut total = 0;
     for row in &rows[..n] {
-        total += numbers_length(row, width) + 2;
+        total += numbers_length(&row[..width]) + 2;
     }
     total
 }
@@ -32,7 +32,7 @@ pub fn put_rows(
 {
     let mut at = from;
     for row in &rows[..n] {
-        at += put_line(&mut buf[at..], tag, row, width);
+        at += put_line(&mut buf[at..], tag, &row[..width]);
     }
     at
 }

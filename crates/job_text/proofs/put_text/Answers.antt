@@ -6,7 +6,7 @@ use Rattle.job_text.proofs.put_text.Goals as goal
 
 pub put_line-at-requires : goal.put_line-at-requires
 unfolding text_of_lines
-put_line-at-requires c = let sized = simp length-append at c.requires in (omega arith, omega arith)
+put_line-at-requires c = let sized = simp length-append at c.requires in omega arith
 
 pub put-at-requires : goal.put-at-requires
 unfolding text_of_lines
@@ -17,7 +17,7 @@ unfolding text_of_lines
 put_line-requires c =
     let sized = simp length-append at c.requires in
     let begun = put_then c.put_line-at.ensures c.put-at.ensures in
-    (omega arith, omega (arith, rw length-append at begun.answer, part-size begun))
+    omega (arith, rw length-append at begun.answer, part-size begun)
 
 pub returns : goal.returns
 unfolding text_of_lines

@@ -1,5 +1,5 @@
 -- What private functions promise: the lines of all samples, and job text by the arrays that the writer has for its first and last lines.
-use Rattle.std.specs.Prelude.{ℕ, List, ◌++◌, ℤ, length, take}
+use Rattle.std.specs.Prelude.{ℕ, List, ◌++◌, ℤ, length}
 use Rattle.text.specs.Line.{number_line}
 use Rattle.text.specs.Lines.{lines}
 use Rattle.job_text.specs.JobText.{sample_line}
@@ -9,4 +9,4 @@ sample_lines n dilutions counts = lines (sample_line n dilutions counts) (length
 
 -- 80 is `P`, and 69 is `E`.
 unfoldable pub text_of_lines : List ℤ → ℕ → List ℕ → List ℕ → List ℤ → List ℕ
-text_of_lines first n dilutions counts last = number_line 80 (take 3 first) ++ sample_lines n dilutions counts ++ number_line 69 (take 1 last)
+text_of_lines first n dilutions counts last = number_line 80 first ++ sample_lines n dilutions counts ++ number_line 69 last

@@ -23,7 +23,7 @@ use Rattle.panel.proofs.Answers.{only-refusal, text-room}
 use Rattle.panel.proofs.answer.Goals as goal
 
 pub put_line-requires : goal.put_line-requires
-put_line-requires c = (omega arith, rw (length-number-line 63 []) (unfold numbers further in omega arith))
+put_line-requires c = rw (length-number-line 63 []) (unfold numbers further in omega arith)
 
 pub returns-in_default : goal.returns-in_default
 returns-in_default c = rw (no_number _ (sym c.in_default.ensures)) c.put_line.ensures
@@ -42,7 +42,7 @@ put_line-requires-in-Err c =
     let held : SFits w64 c.in-Some.b = search rules in
     let room : 112_999 ≤ length c.args.out.now = omega arith in
     let d = denied c.in-Some.b room (rw (to_z-of_z held) at c.write_panels.ensures) c.in-Err.is in
-    (omega arith, rw (d.0, c.from.ensures, c.number-in-Err.ensures, d.2) (omega (arith, room, refusal-few 2 (omega arith))))
+    rw (d.0, c.from.ensures, c.number-in-Err.ensures, d.2) (omega (arith, room, refusal-few 2 (omega arith)))
 
 pub returns-in-Ok : goal.returns-in-Ok
 returns-in-Ok c =

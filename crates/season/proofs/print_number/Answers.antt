@@ -18,4 +18,4 @@ short tag k h = rw length-number-line (simp length-append (omega (arith, length-
 
 pub put_line-length-requires : goal.put_line-length-requires
 put_line-length-requires g c =
-    (omega arith, rw (to_z_pos w64 {n = c.args.number} (omega (arith, c.requires))) (short c.args.tag c.args.number c.requires))
+    rw (to_z_pos w64 {n = c.args.number} (omega (arith, c.requires))) (short c.args.tag c.args.number c.requires)

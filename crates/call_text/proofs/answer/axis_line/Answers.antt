@@ -7,7 +7,7 @@ use Rattle.call_text.proofs.answer.axis_line.Goals as goal
 
 pub put_numbers-second-requires : goal.put_numbers-second-requires
 put_numbers-second-requires c =
-    rw (to_z-of_z c.ranges.entry) (omega arith, omega (arith, one-bound c.args.entry c.ranges.entry.sfits, c.put_byte-first.ensures.answer))
+    rw (to_z-of_z c.ranges.entry) (omega (arith, one-bound c.args.entry c.ranges.entry.sfits, c.put_byte-first.ensures.answer))
 
 pub natural_field-third-requires : goal.natural_field-third-requires
 natural_field-third-requires c =
@@ -19,7 +19,7 @@ put_numbers-end-requires c =
     let l : length c.args.row ≡ 8 = search rules in
     let e = entry-end c.args.entry c.ranges.entry.sfits c.put_byte-first.ensures (rw (to_z-of_z c.ranges.entry) at c.put_numbers-second.ensures) in
     let r = numbers-bound c.args.row (λ i. search (rules, element-size)) c.args.n in
-    (omega arith, omega (arith, c.natural_field-third.ensures.bounded, c.natural_field-third.auto))
+    omega (arith, c.natural_field-third.ensures.bounded, c.natural_field-third.auto)
 
 pub put_byte-len-requires : goal.put_byte-len-requires
 put_byte-len-requires c =

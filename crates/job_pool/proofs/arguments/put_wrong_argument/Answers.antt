@@ -23,10 +23,8 @@ read : {z : ℤ} {k : ℕ} → z ≡ pos k → k < 2 ^ 32 → to_z w64 (of_z w64
 read {k = k} e h = let f : SFits w64 (pos k) = record { sfits = omega (arith, h) } in rw e (to_z-of_z f)
 
 pub put_line-requires : goal.put_line-requires
-put_line-requires c = (
-  omega arith,
-  rw (read c.from.ensures c.ranges.number.fits) (omega (arith, short c.args.number c.ranges.number.fits, c.told-out)),
-)
+put_line-requires c =
+    rw (read c.from.ensures c.ranges.number.fits) (omega (arith, short c.args.number c.ranges.number.fits, c.told-out))
 
 pub returns : goal.returns
 unfolding wrong_argument_line

@@ -1,5 +1,5 @@
 -- The text of a table fits, and where the table is that of samples it is theirs.
-use Rattle.std.proofs.Common.{◌≡◌, ℕ, ◌≤◌, List, ◌∷◌, [], ℤ, pos, take, arith}
+use Rattle.std.proofs.Common.{◌≡◌, ℕ, ◌≤◌, List, ◌∷◌, [], ℤ, pos, arith}
 use Rattle.readings.specs.Samples.{Sample}
 use Rattle.scatter.specs.Table.{table_of}
 use Rattle.scatter.specs.declared.table.Table.{Table}
@@ -13,7 +13,7 @@ use Rattle.job_table.proofs.lines.put_table.Goals as goal
 -- what is written is the text of the samples
 text-is : (n k m : ℕ) (t : Table) (head : List ℤ) (rows : List (List ℤ)) (ss : List Sample) →
     head ≡ pos n ∷ pos k ∷ pos t.e ∷ [] → m ≡ n → rows ≡ table_rows n t.scatter → t ≡ table_of n ss → n ≤ 8 →
-    text_of_rows (take 3 head) m rows ≡ samples_text n k ss
+    text_of_rows head m rows ≡ samples_text n k ss
 text-is n k m t head rows ss h o q e few = rw (h, o, q, e) (text-of-samples n k ss few)
 
 pub put-requires : goal.put-requires

@@ -1,5 +1,5 @@
 -- `job_table::lines::table_job` meets its contract: the text is that of the job's table, and it is written where it fits.
-use Rattle.std.proofs.Common.{◌≡◌, ℕ, List, ◌∷◌, [], ℤ, pos, take, arith}
+use Rattle.std.proofs.Common.{◌≡◌, ℕ, List, ◌∷◌, [], ℤ, pos, arith}
 use Rattle.job.specs.declared.Job as arrays
 use Rattle.job.specs.laws.Replying.{put_whole, too_short}
 use Rattle.scatter.specs.declared.table.Table.{Table}
@@ -14,7 +14,7 @@ use Rattle.job_table.proofs.lines.table_job.Goals as goal
 -- What is written is the text of the job's table.
 text-is : (job : arrays.Job) → Held job → (m : ℕ) (t : Table) (head : List ℤ) (rows : List (List ℤ)) → t ≡ table_for (job_in job) →
     head ≡ pos job.n ∷ pos job.k ∷ pos t.e ∷ [] → m ≡ job.n → rows ≡ table_rows job.n t.scatter →
-    text_of_rows (take 3 head) m rows ≡ table_text (job_in job)
+    text_of_rows head m rows ≡ table_text (job_in job)
 text-is job h m t head rows e p o q = rw (p, o, q) (text-of-arrays job h t e)
 
 pub of-lines-requires : goal.of-lines-requires

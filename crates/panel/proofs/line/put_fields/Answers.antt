@@ -4,7 +4,7 @@ use mathlib.Core.List.{List}
 use Prim.Native.Nat.{◌-◌}
 use native.Mathlib.Omega.{arith}
 use lib.IntN.{ℤ, pos}
-use lib.ListN.{drop, get_or, length, length-drop, take}
+use lib.ListN.{drop, get_or, length, take}
 use mir.Syntax.{w64}
 use mir.Val.{SFits}
 use mir.Facts.{to_z-of_z}
@@ -15,11 +15,8 @@ use Rattle.panel.proofs.line.put_fields.Goals as goal
 
 -- the numbers after the first
 module _ (zs : List ℤ) where
-  further-all : take (length zs - 1) (take (length zs - 1) (drop 1 zs)) ≡ drop 1 zs
-  further-all = rw (rest_all 1 zs, rest_all 1 zs)
-
-  further-count : length (take (length zs - 1) (drop 1 zs)) ≡ length zs - 1
-  further-count = rw (rest_all 1 zs) (length-drop 1 zs)
+  further-all : take (length zs - 1) (drop 1 zs) ≡ drop 1 zs
+  further-all = rest_all 1 zs
 
 pub put_number-at-requires : goal.put_number-at-requires
 put_number-at-requires c =
@@ -30,10 +27,8 @@ pub put_numbers-at-requires : goal.put_numbers-at-requires
 put_numbers-at-requires c =
     let zs = c.args.numbers.now in
     let f : SFits w64 (get_or zs 0 (pos 0)) = search rules in
-    let p = rw (to_z-of_z f) at c.put_number-at.ensures in (
-      omega (arith, further-count zs),
-      rw (further-all zs) (omega (arith, first-and-further-length zs c.args.word.now c.requires.0, p.answer)),
-    )
+    let p = rw (to_z-of_z f) at c.put_number-at.ensures in
+    rw (further-all zs) (omega (arith, first-and-further-length zs c.args.word.now c.requires.0, p.answer))
 
 pub put_byte-at-requires : goal.put_byte-at-requires
 put_byte-at-requires c =

@@ -1,9 +1,6 @@
 -- `season_report::line::line_length` meets its contract.
-use mathlib.Core.Path.{sym, ap, ◌∙◌}
+use mathlib.Core.Path.{sym, ◌∙◌}
 use native.Mathlib.Omega.{arith}
-use lib.ListN.{length}
-use lib.Seq.{take_all}
-use Rattle.text.specs.Line.{numbers}
 use Rattle.season_report.specs.laws.Text.{line-length}
 use Rattle.season_report.proofs.line.line_length.Goals as goal
 
@@ -12,7 +9,6 @@ returns c =
     let zs = c.args.numbers.now in
     record {
       exact =
-          c.numbers_length.ensures.exact ∙ ap (λ l. length (numbers l)) (take_all 12 zs (omega (arith, c.requires)))
-          ∙ sym (line-length zs (omega (arith, c.requires)));
-      bounded = c.numbers_length.ensures.bounded;
+          c.numbers_length.ensures.exact ∙ sym (line-length zs (omega (arith, c.requires)));
+      bounded = omega (arith, c.numbers_length.ensures.bounded, c.requires);
     }

@@ -1,5 +1,5 @@
 -- `season_report::line::put_line` meets its contract: the first number, the others and the line feed, each written where the last one ended.
-use Rattle.std.proofs.Common.{◌≡◌, ◌+◌, ◌-◌, ◌≤◌, ℕ, ℤ, pos, List, FitsSigned, w64, drop, get_or, length, length-drop, map, take, arith, rules}
+use Rattle.std.proofs.Common.{◌≡◌, ◌+◌, ◌-◌, ◌≤◌, ℕ, ℤ, pos, List, FitsSigned, w64, drop, get_or, length, map, take, arith, rules}
 use mir.Facts.{to_z-of_z}
 use Rattle.text.specs.Decimal.{number}
 use Rattle.text.specs.Line.{line, numbers}
@@ -13,11 +13,8 @@ room : (zs : List ℤ) (size : ℕ) → (1 ≤ length zs) × (length (line (map 
 room zs size h = rw (line-parts zs h.0) at h.1
 
 -- the others are all after the first
-others : (zs : List ℤ) → take (length zs - 1) (take (length zs - 1) (drop 1 zs)) ≡ drop 1 zs
-others zs = rw (rest_all 1 zs, rest_all 1 zs)
-
-count : (zs : List ℤ) → length (take (length zs - 1) (drop 1 zs)) ≡ length zs - 1
-count zs = rw (rest_all 1 zs) (length-drop 1 zs)
+others : (zs : List ℤ) → take (length zs - 1) (drop 1 zs) ≡ drop 1 zs
+others zs = rest_all 1 zs
 
 pub put_number-at-requires : goal.put_number-at-requires
 put_number-at-requires c =
@@ -29,7 +26,7 @@ put_numbers-at-requires c =
     let zs = c.args.numbers.now in
     let fits : FitsSigned w64 (get_or zs 0 (pos 0)) = search rules in
     let first = rw (to_z-of_z fits) at c.put_number-at.ensures in
-    (omega (arith, count zs), rw (others zs) (omega (arith, room _ _ c.requires, first.answer, c.put_number-at.auto)))
+    rw (others zs) (omega (arith, room _ _ c.requires, first.answer, c.put_number-at.auto))
 
 pub put_byte-requires : goal.put_byte-requires
 put_byte-requires c =

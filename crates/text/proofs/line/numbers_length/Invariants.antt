@@ -5,4 +5,4 @@ use Rattle.text.proofs.line.numbers_length.Given as goal
 
 abbrev pub invariant-loop-value : goal.invariant-loop-value
 invariant-loop-value l =
-    record { exact : l.total ≡ length (numbers (take l.value-index l.value-items)); bounded : l.total ≤ 21 * l.value-index }
+    record { exact : l.total ≡ length (numbers (take l.value-index l.values)); bounded : l.total ≤ 21 * l.value-index }

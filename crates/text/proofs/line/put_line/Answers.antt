@@ -5,13 +5,13 @@ use Rattle.text.specs.laws.Put.{put_then}
 use Rattle.text.proofs.line.put_line.Goals as goal
 
 pub put_byte-at-requires : goal.put_byte-at-requires
-put_byte-at-requires c = let sized = rw length-number-line at c.requires.1 in omega arith
+put_byte-at-requires c = let sized = rw length-number-line at c.requires in omega arith
 
 pub put_numbers-at-requires : goal.put_numbers-at-requires
-put_numbers-at-requires c = let sized = rw length-number-line at c.requires.1 in (c.requires.0, omega arith)
+put_numbers-at-requires c = let sized = rw length-number-line at c.requires in omega arith
 
 pub put_byte-requires : goal.put_byte-requires
-put_byte-requires c = let sized = rw length-number-line at c.requires.1 in omega arith
+put_byte-requires c = let sized = rw length-number-line at c.requires in omega arith
 
 pub returns : goal.returns
 returns c = rw number-line (put_then (put_then c.put_byte-at.ensures c.put_numbers-at.ensures) c.put_byte.ensures)

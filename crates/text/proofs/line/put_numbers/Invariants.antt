@@ -5,4 +5,4 @@ use Rattle.text.specs.Put.{Put}
 use Rattle.text.proofs.line.put_numbers.Given as goal
 
 abbrev pub invariant-loop-value : goal.invariant-loop-value
-invariant-loop-value l = Put (numbers (take l.value-index l.value-items)) l.at l.fn.buf l.buf l.next
+invariant-loop-value l = Put (numbers (take l.value-index l.values)) l.at l.fn.buf l.buf l.next

@@ -6,7 +6,7 @@ use Rattle.job_table.proofs.lines.Lines.put.Goals as goal
 
 pub put_line-at-requires : goal.put_line-at-requires
 unfolding text_of_rows
-put_line-at-requires c = let sized = rw length-append at c.requires in (omega arith, omega arith)
+put_line-at-requires c = let sized = rw length-append at c.requires in omega arith
 
 pub put_rows-requires : goal.put_rows-requires
 unfolding text_of_rows

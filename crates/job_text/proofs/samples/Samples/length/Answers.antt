@@ -1,5 +1,5 @@
 -- One line more: its numbers have at most 189 bytes, and there are at most 256 lines.
-use Rattle.std.proofs.Common.{◌∙◌, ap, arith, length}
+use Rattle.std.proofs.Common.{◌+◌, ◌∙◌, ap, arith, length, length-take-le}
 use Rattle.text.specs.Line.{numbers}
 use Rattle.text.specs.laws.Lines.{lines-length, lines_none}
 use Rattle.text.specs.laws.Numbers.{length-number-line}
@@ -13,7 +13,9 @@ pub loop-i-preserved : goal.loop-i-preserved
 unfolding sample_line
 loop-i-preserved c =
     let size = c.numbers_length.ensures.exact ∙ ap (λ l. length (numbers l)) c.numbers.ensures.1 in
+    let channels = c.args.self.now.readings.channels in
+    let few = length-take-le (c.args.self.now.n + 1) c.numbers.result (omega (arith, c.numbers.ensures.0)) in
     record {
       exact = rw (lines-length (sample_line _ _ _) c.loop-i.i, length-number-line) (omega (arith, c.loop-i.invariant.exact, size));
-      bounded = omega (arith, c.numbers_length.ensures.bounded, c.args.self.now.readings.channels);
+      bounded = omega (arith, few, c.numbers_length.ensures.bounded, channels);
     }

@@ -15,10 +15,8 @@ put_line-at-requires c =
     let a = c.args.self.now in
     let i = c.loop-i.i in
     let room = line-within (sample_line a.n a.dilutions.now a.counts.now) (length a.dilutions.now) i c.loop-i-test.true in
-    let line = ap (number_line 83) c.numbers.ensures.1 in (
-      omega (arith, c.numbers.ensures.0, a.readings.channels),
-      omega (arith, ap length line, room, c.loop-i.invariant.answer, part-size c.loop-i.invariant, c.requires),
-    )
+    let line = ap (number_line 83) c.numbers.ensures.1 in
+    omega (arith, ap length line, room, c.loop-i.invariant.answer, part-size c.loop-i.invariant, c.requires)
 
 pub loop-i-preserved : goal.loop-i-preserved
 unfolding sample_line

@@ -1,7 +1,7 @@
 -- `Lines::length` meets its contract: the R line, and the A lines.
 use mathlib.Core.Path.{ap}
 use native.Mathlib.Omega.{arith}
-use lib.ListN.{length, take}
+use lib.ListN.{length}
 use Rattle.run.specs.laws.Word.{short-word}
 use Rattle.text.specs.laws.Numbers.{length-word-line}
 use Rattle.report.proofs.Written.{text-size}
@@ -13,7 +13,7 @@ returns c =
     record {
       exact =
           rw (
-            text-size (take 5 lines.head) lines.outcome lines.axes lines.n,
+            text-size lines.head lines.outcome lines.axes lines.n,
             length-word-line,
             c.word_of.ensures,
             c.numbers_length.ensures.exact,

@@ -1,6 +1,5 @@
 -- `Lines::put` meets its contract: the R line, and the A lines after it.
 use native.Mathlib.Omega.{arith}
-use lib.ListN.{take}
 use Rattle.text.specs.laws.Put.{put_then}
 use Rattle.report.specs.inner.Text.{text_of}
 use Rattle.report.proofs.Written.{text-size}
@@ -9,7 +8,7 @@ use Rattle.report.proofs.lines.Lines.put.Goals as goal
 pub put_word_line-at-requires : goal.put_word_line-at-requires
 put_word_line-at-requires c =
     let lines = c.args.self.now in
-    (omega arith, rw c.word_of-word.ensures (omega (arith, text-size (take 5 lines.head) lines.outcome lines.axes lines.n)))
+    rw c.word_of-word.ensures (omega (arith, text-size lines.head lines.outcome lines.axes lines.n))
 
 pub put_rows-requires : goal.put_rows-requires
 put_rows-requires c =
@@ -18,7 +17,7 @@ put_rows-requires c =
       lines.few,
       omega (arith, lines.few),
       lines.wide,
-      omega (arith, text-size (take 5 lines.head) lines.outcome lines.axes lines.n, first.answer),
+      omega (arith, text-size lines.head lines.outcome lines.axes lines.n, first.answer),
     )
 
 pub returns : goal.returns
