@@ -2,27 +2,14 @@
 // an argument.
 #![tactic(auto)]
 
-use input::read_readable;
+use input::{open_argument, read_readable};
 use job_pool::arguments::{put_wrong_argument, wrong_argument};
 use job_pool::texts::answer;
 use limits::MOST_BYTES;
 use std::env::FillError;
-use std::fs::{File, Files};
 use std::io;
 use std::io::Read;
 use std::rt::Env;
-use std::str::from_utf8;
-
-// A name has at most 4,095 bytes on Linux.
-const LONGEST_NAME: usize = 4_095;
-
-// Opens the file that argument i names. There is none where the argument is missing, empty, too long or no UTF-8, or can't be opened.
-fn open_argument<R: Env + Files>(rt: &R, i: usize) -> Option<R::File> {
-    let mut name = [0u8; LONGEST_NAME];
-    let length = rt.arg(i, &mut name).ok()?;
-    let path = from_utf8(&name[..length]).ok()?;
-    File::open(rt, path).ok()
-}
 
 // How many words the program was started with, its own name among them. More than 4 count as 4, and fewer than 3 as 3.
 fn words(rt: &impl Env) -> usize {
