@@ -21,7 +21,8 @@ use scatter::table::Table;
 use sums::Sums;
 
 // The samples of n channels, a dilution each and n counts each, sample after sample, and 0 after them; n is 0 where no book is begun.
-// no plainer: a ghost field that says `Consistent` would leave no book of any samples, and the definitions compare with those (`book_with`).
+// Rule of the project: no heap, so the arrays have room for the most samples.
+// No plainer: a ghost field that says `Consistent` would leave no book of any samples, and the definitions compare with those (`book_with`).
 #[derive(Clone, Copy)]
 pub struct Book {
     n: usize,

@@ -15,9 +15,8 @@ use job_table::lines::put_table;
 use refusal::Refusal;
 use scatter::table::Table;
 use sums::Sums;
+use text::line::LINE_FEED;
 use text::put_byte;
-
-const LINE_FEED: u8 = b'\n';
 
 // The bytes, and 0 after them.
 // C interface / rule of the project needs it: there is no heap, so an array that holds the longest page, and its length, in place of a Vec.

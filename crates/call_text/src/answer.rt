@@ -8,12 +8,8 @@ ghost use Rattle.call_text.specs.inner.Answers.{FieldPut, Prints};
 
 use record::Answer;
 use refusal::Refusal;
-use text::line::put_numbers;
+use text::line::{LINE_FEED, TAB, put_numbers};
 use text::{put_byte, put_bytes, put_natural};
-
-const TAB: u8 = b'\t';
-
-const LINE_FEED: u8 = b'\n';
 
 // A call's answer, and what its line says beside it: row i of v of an axis call, else 0; the record's channels and its counts of refused calls.
 #[derive(Clone, Copy)]

@@ -19,7 +19,7 @@ fn keep(counts: &mut [u32; 2048], numbers: &[u32; 9], from: usize, n: usize)
     counts[from..from + n].copy_from_slice(&numbers[1..=n]);
 }
 
-// The line after the samples of a job.
+// The line after the samples of a job. Tried: `map_err(..)?` in place of the match leaves the goals of its exit open.
 fn finish(text: &[u8], at: usize, job: Job) -> Result<Job, RefusedLine>
     requires { job.k ≤ most_samples }
     ensures { result ≡ finished_at text.now at job }

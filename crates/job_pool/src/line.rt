@@ -6,6 +6,7 @@ ghost use Rattle.text.specs.Put.{Put};
 ghost use Rattle.job_pool.specs.Printed.{refused_job_line};
 
 use refusal::Refusal;
+use text::line::{LINE_FEED, TAB};
 use text::{put_byte, put_natural};
 
 // A tab and a number; these are at most 21 bytes.
@@ -13,7 +14,7 @@ fn put_field(buf: &mut [u8], at: usize, x: u64) -> usize
     requires { at + 21 ≤ length buf.old }
     ensures { Put (9 ∷ digits x) at buf.old buf.new result × (result ≤ at + 21) }
 {
-    let from = put_byte(buf, at, b'\t');
+    let from = put_byte(buf, at, TAB);
     put_natural(buf, from, x)
 }
 
@@ -26,5 +27,5 @@ pub(crate) fn put_refused_job(buf: &mut [u8], refusal: Refusal, line: usize, job
     at = put_field(buf, at, u64::from(refusal.number()));
     at = put_field(buf, at, line as u64);
     at = put_field(buf, at, job);
-    put_byte(buf, at, b'\n')
+    put_byte(buf, at, LINE_FEED)
 }

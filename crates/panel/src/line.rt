@@ -9,16 +9,13 @@ ghost use Rattle.panel.specs.inner.Line.{FieldsOf};
 use crate::Panel;
 use record::{Outcome, Run};
 use run::word::word_of;
+use text::line::{LINE_FEED, TAB};
 use text::{put_byte, put_bytes, put_number};
 
 // Each panel is run with this limit and this tolerance.
 const LIMIT: u64 = 16;
 
 const TOLERANCE: u64 = 0;
-
-const TAB: u8 = b'\t';
-
-const LINE_FEED: u8 = b'\n';
 
 // The numbers of the line, and the outcome.
 #[derive(Clone, Copy)]

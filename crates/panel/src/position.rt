@@ -68,7 +68,7 @@ pub fn panel_at(b: i64, position: i64) -> Result<Panel, Refusal>
     Ok(panel_after(size, place - 1))
 }
 
-// Whether each entry is from −b to b.
+// Whether each entry is from −b to b. Tried: `all` over the three as an array leaves `returns` open.
 #[tactic(auto, unfolding(crate::specs::Listed::panel_within))]
 fn entries_within(b: u64, x: Panel) -> bool
     ensures { result ≡ panel_within b x }

@@ -172,6 +172,7 @@ impl Record {
         requires { Kept self × (refusal_of 0 0 (load n numbers.now) ≡ 0) }
         ensures { TableLoaded self n numbers.now e result }
     {
+        // Tried without it: the borrow checker does not cover an array field that is made part of a literal here.
         let refused = self.refused;
         Record {
             solver: Solver::of_table(n, numbers, e),
@@ -250,6 +251,7 @@ impl Record {
         ensures { RunDone self limit tolerance result }
     {
         let ended = self.solver.run(limit, tolerance);
+        // As in `load_table`.
         let refused = self.refused;
         Run {
             outcome: ended.outcome,

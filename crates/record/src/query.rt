@@ -14,7 +14,7 @@ ghost use Rattle.record.specs.Record.{is_refused};
 use crate::Record;
 use refusal::Refusal;
 
-// What a call answers.
+// What a call answers. No plainer as a Result, or with an Option of a pair: theorems speak of lists of calls and of all their answers.
 #[derive(Clone, Copy, Debug, PartialEq, Eq)]
 pub enum Answer {
     Loaded,

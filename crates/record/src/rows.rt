@@ -13,6 +13,7 @@ pub fn row(a: &[i64; 64], i: usize) -> [i64; 8]
     row
 }
 
+// Tried: by `array::from_fn`, whose closure wants a `requires` of its own in the source.
 pub(crate) fn unpacked(a: &[i64; 64]) -> [[i64; 8]; 8]
     ensures { result ≡ rows_of a.now }
 {
@@ -23,6 +24,7 @@ pub(crate) fn unpacked(a: &[i64; 64]) -> [[i64; 8]; 8]
     rows
 }
 
+// Tried: row by row by `copy_from_slice`, whose goals do not reduce.
 pub(crate) fn packed(b: [[i64; 8]; 8]) -> [i64; 64]
     ensures { result ≡ flat_of (at b) }
 {

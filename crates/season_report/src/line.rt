@@ -7,9 +7,8 @@ ghost use Rattle.text.specs.Line.{line};
 ghost use Rattle.text.specs.Put.{Put, Sized};
 
 use crate::{LargestError, Season};
+use text::line::LINE_FEED;
 use text::{put_byte, put_number};
-
-const LINE_FEED: u8 = b'\n';
 
 // Where there is no largest error, it is printed as 0 of job 0 and axis 0.
 pub(crate) fn numbers_of(s: Season) -> [i64; 12]

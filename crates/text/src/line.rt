@@ -7,9 +7,10 @@ ghost use Rattle.text.specs.Line.{numbers, number_line, word_line, line_x};
 use crate::{number_length, put_byte, put_bytes, put_natural, put_number};
 use refusal::Refusal;
 
-const TAB: u8 = b'\t';
+// What parts the fields of a line, and what ends it.
+pub const TAB: u8 = b'\t';
 
-const LINE_FEED: u8 = b'\n';
+pub const LINE_FEED: u8 = b'\n';
 
 // The length of the values, each after a tab.
 pub fn numbers_length(values: &[i64]) -> usize
