@@ -13,21 +13,14 @@ use Rattle.readings.specs.Refusal.{job_refusal, number_refusal, samples_refusal}
 use Rattle.refusal.specs.Refusal.{number_of, numbered}
 use Rattle.refusal.specs.declared.Refusal.{Refusal}
 use Rattle.refusal.specs.declared.Refusal.TheVariants.{Malformed}
-use Rattle.refusal.specs.laws.Numbers.{numbered-number_of}
+use Rattle.refusal.specs.laws.Numbers.{number_of-numbered, numbered-number_of}
 use Rattle.season_report.specs.Texts.{ends_refusal}
 use Rattle.text.specs.Written.{or_short}
 use Rattle.field_axes.specs.Solution.{solve_refusal}
 use Rattle.field_axes.specs.Table.{table_refusal}
 
-abbrev same : ℕ → Bool
-same k = eqb (number_of (numbered (k + 1))) (k + 1)
-
-each : T (all same 16)
-each = tt
-
 pub number-of-numbered : (k : ℕ) → (k ≡ 0 → ⊥) → k ≤ 16 → number_of (numbered k) ≡ k
-number-of-numbered zero f h = absurd (f refl)
-number-of-numbered (suc m) f h = let e : suc m ≡ m + 1 = omega arith in rw e (eqb_yes (below same 16 each m (omega arith)))
+number-of-numbered k f h = number_of-numbered k (omega arith) h
 
 -- of any refusal
 pub number-few : (r : Refusal) → number_of r ≤ 16

@@ -65,7 +65,8 @@ pub fn input_left<R: Read>(input: &mut R) -> io::Result<bool>
     Ok(input.read(&mut byte)? == 1)
 }
 
-// Opens the file that argument i names. There is none where the argument is missing, empty, too long or no UTF-8, or can't be opened.
+// Opens the file that argument i names. There is none where the argument is missing, empty, too long or no UTF-8, or can't be opened. It has no
+// clause: no contract of std says which file an argument names, nor whether it can be opened.
 pub fn open_argument<R: Env + Files>(rt: &R, i: usize) -> Option<R::File> {
     let mut name = [0u8; LONGEST_NAME];
     let length = rt.arg(i, &mut name).ok()?;

@@ -1,4 +1,4 @@
-// Writers of text into a lent buffer: bytes and decimal numbers, and the answer of a writer.
+// Writers of text into a lent buffer: bytes, decimal numbers, and lines of them.
 #![tactic(auto)]
 
 pub mod line;
