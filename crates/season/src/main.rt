@@ -7,6 +7,7 @@ ghost use Rattle.limits.specs.Limits.{most_jobs};
 ghost use Rattle.season_report.specs.Limits.{SeasonLimits};
 
 use limits::MOST_BYTES;
+use refusal::Refusal;
 use season_report::Season;
 use std::env::FillError;
 use std::fs::Files;
@@ -80,7 +81,7 @@ fn main(rt: HostRuntime) -> io::Result<()> {
         Err(missing) => return print_number(&rt, b'?', missing),
     }
     if most < files {
-        print_number(&rt, b'X', 16)?;
+        print_number(&rt, b'X', Refusal::TooManyJobs.number() as usize)?;
     }
     Ok(())
 }

@@ -162,7 +162,7 @@ module _ (jobs : List JobEnd) where
 
 pub largest-named : The-largest
 unfolding The-largest
-largest-named jobs = record { some = named-says jobs; only = only-these jobs; none = no-error jobs }
+largest-named jobs = record { some = named-says jobs; only = only-these jobs; none = λ never. (no-error jobs never, rw (no-error jobs never)) }
 
 -- ---- the errors of a text
 

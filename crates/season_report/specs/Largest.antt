@@ -6,6 +6,7 @@ use Rattle.job.specs.Job.{Job, accepted, job_of, refused}
 use Rattle.record.specs.declared.Record.{Record}
 use Rattle.report.specs.Report.{line_a, run_for}
 use Rattle.season_report.specs.Job.{JobEnd, end_of, errors_of}
+use Rattle.season_report.specs.Text.{largest_numbers}
 use Rattle.text.specs.Line.{number_line}
 
 -- the job of this number has an axis of this number with this error
@@ -30,8 +31,9 @@ pub record LargestNamed (jobs : List JobEnd) : Type 0 where
   -- and no others are
   pub only : (error job axis : ℕ) → LargestFirst jobs error job axis →
       (figures_of jobs).largest ≡ Some (record { error = error; job = job; axis = axis })
-  -- 'If no job was accepted, the largest error, its job and its axis are printed as 0', which `largest_numbers` says of none
-  pub none : ((job axis error : ℕ) → HasError jobs job axis error → ⊥) → (figures_of jobs).largest ≡ None
+  -- 'If no job was accepted, the largest error, its job and its axis are printed as 0'
+  pub none : ((job axis error : ℕ) → HasError jobs job axis error → ⊥) →
+      ((figures_of jobs).largest ≡ None) × (largest_numbers (figures_of jobs).largest ≡ 0 ∷ 0 ∷ 0 ∷ [])
 
 -- this is r_i of a record: line `A` i of its report, which is '`A` i a_ii r_i and row i of v', has it after an entry and before a row; 65 is `A`
 pub record PrintedError (r : Record) (i error : ℕ) : Type 0 where
