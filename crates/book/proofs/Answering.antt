@@ -11,7 +11,8 @@ use Rattle.book.specs.Consistent.{Consistent}
 use Rattle.book.specs.Done.{Changes}
 use Rattle.book.specs.declared.Book.{Book}
 use Rattle.book.specs.declared.BookAnswer.{BookAnswer}
-use Rattle.book.specs.laws.Calls.{after-refused, after-taken}
+use Rattle.book.specs.laws.Book.{consistent-made}
+use Rattle.book.specs.laws.Calls.{after-refused, after-taken, summary-held}
 use Rattle.book.proofs.After.{after-consistent}
 
 -- what is judged `Ok` has no number
@@ -63,3 +64,6 @@ module _ (b : Book) (call : BookCall) (c : Consistent b) where
 pub after-begun : (b : Book) → Consistent b → (n : ℕ) → book_refusal b.n b.summary.k (begin n) ≡ 0 → book_after b (begin n) ≡ empty_book n
 unfolding channels_after summary_then samples_then empty_book
 after-begun b c n e = after-taken b c (begin n) e
+
+-- by which `Book::none` and `Book::summary` are proved
+pub ruleset standing = (consistent-made, summary-held)

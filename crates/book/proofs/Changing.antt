@@ -1,4 +1,4 @@
--- One sample added to the arrays of a book, and one taken out.
+-- One sample added to the arrays of a book, and one taken out; and the lemmas that a book's functions are proved by.
 use mathlib.Core.Path.{◌≡◌, sym, ap, ◌∙◌}
 use mathlib.Core.Bool.{true}
 use mathlib.Core.List.{List, [], ◌∷◌, ◌++◌, append-nil}
@@ -30,8 +30,8 @@ use Rattle.book.specs.declared.Book.{Book}
 use Rattle.book.specs.inner.Arrays.{closed_up}
 use Rattle.book.specs.laws.Book.{counts-append, dilutions-append, length-counts, length-dilutions, proper-front, proper-rest}
 use Rattle.book.specs.laws.Calls.{Takes, add-taken, after-taken, ith-place, number-held, strike-taken, summary-held}
-use Rattle.book.specs.laws.Held.{count_most, counts-held, counts-length, counts-room, dilution-most}
-use Rattle.book.specs.laws.Held.{dilutions-held, few-held, so-many-counts, so-many-dilutions}
+use Rattle.book.specs.laws.Held.{count_most, counts-held, counts-length, counts-room, dilution-most, dilutions-held, dilutions-length, few-held}
+use Rattle.book.specs.laws.Held.{so-many-counts, so-many-dilutions, summary-bounded}
 
 -- one sample handed over
 one-sample : (n d : ℕ) (cs : List ℕ) → length cs ≡ n → samples n (d ∷ []) cs ≡ sample d cs ∷ []
@@ -200,3 +200,19 @@ module _ (b : Book) (c : Consistent b) where
     unfolding book_with channels_after summary_then samples_then
     struck f g h j =
         rw (g, f, struck-sample, h, j, dilutions-closed, counts-closed) (sym (after-taken b c (strike i) e))
+
+-- by which `with_sample` and `without_sample` are proved
+pub ruleset adding = (added, added-bounded, added-place, added-readings, added-room, counts-length, counts-room, few-held, summary-bounded)
+
+pub ruleset striking = (
+  first,
+  struck,
+  struck-end,
+  struck-included,
+  struck-place,
+  struck-readings,
+  counts-length,
+  counts-room,
+  dilutions-length,
+  few-held,
+)

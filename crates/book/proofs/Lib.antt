@@ -3,3 +3,4 @@ pub mod Changing
 pub mod Answering
 pub mod After
 pub mod Fed
+pub mod Pasted

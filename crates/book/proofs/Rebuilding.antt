@@ -101,8 +101,8 @@ module _ (b : Book) (c : Consistent b) where
   pub value-small : (s i : ℕ) → z (sample_of b s) i ≤ z_limit
   value-small s i = z-bound (sample_of b s) (in-range s) i
 
-  pub product-small : (s i j : ℕ) → z (sample_of b s) i * z (sample_of b s) j ≤ z_limit * z_limit
-  product-small s i j = mul-le-mul (value-small s i) (value-small s j)
+  pub product_small : (s i j : ℕ) → z (sample_of b s) i * z (sample_of b s) j ≤ z_limit * z_limit
+  product_small s i j = mul-le-mul (value-small s i) (value-small s j)
 
   -- what each sample gives, none of it above a bound
   module _ (f : Sample → ℕ) (most : ℕ) (bound : (s : ℕ) → f (sample_of b s) ≤ most) where

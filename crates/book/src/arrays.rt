@@ -4,6 +4,7 @@ ghost use Rattle.std.proofs.lemmas.List.Edits.{sets};
 ghost use Rattle.book.specs.inner.Arrays.{closed_up};
 
 // The values, from the place `at` on.
+#[tactic(auto, using(crate::proofs::Pasted::writing))]
 pub(crate) fn put_counts(counts: &mut [u32; 2048], at: usize, values: &[u32])
     requires { (length counts.old ≡ 2048) × (at + length values.now ≤ 2048) }
     ensures { counts.new ≡ sets counts.old at values.now }

@@ -66,6 +66,7 @@ fn empty_book(n: usize) -> Book
 }
 
 // The book with one sample more at its end.
+#[tactic(auto, using(crate::proofs::Changing::adding))]
 fn with_sample(b: Book, dilution: u32, counts: &[u32]) -> Book
     requires { Consistent b × (book_refusal b.n b.summary.k (add dilution counts.now) ≡ 0) }
     ensures { result ≡ book_after b (add dilution counts.now) }
@@ -85,6 +86,7 @@ fn with_sample(b: Book, dilution: u32, counts: &[u32]) -> Book
 }
 
 // The book without its i-th sample.
+#[tactic(auto, using(crate::proofs::Changing::striking))]
 fn without_sample(b: Book, i: usize) -> Book
     requires { Consistent b × (book_refusal b.n b.summary.k (strike i) ≡ 0) }
     ensures { result ≡ book_after b (strike i) }
@@ -110,6 +112,7 @@ fn without_sample(b: Book, i: usize) -> Book
 
 impl Book {
     // Before one is begun: every other call is refused 2.
+    #[tactic(auto, using(crate::proofs::Answering::standing), unfolding(crate::specs::Book::empty_book, crate::specs::Book::no_book))]
     pub fn none() -> Self
         ensures { (result ≡ no_book) × Consistent result }
     {
@@ -178,6 +181,7 @@ impl Book {
     }
 
     // The number of samples, the channel sums and the cross sums.
+    #[tactic(auto, using(crate::proofs::Answering::standing))]
     pub fn summary(self) -> Sums
         requires { Consistent self }
         ensures { result ≡ sums_of (samples_in self) }

@@ -20,6 +20,7 @@ impl Book {
     }
 
     // z_i × z_j of a sample.
+    #[tactic(auto, using(crate::proofs::Rebuilding::product_small))]
     fn product_at(&self, s: usize, i: usize, j: usize) -> u64
         requires { Consistent self.now × (s < self.now.summary.k) × (i < self.now.n) × (j < self.now.n) }
         ensures { result ≡ z (sample_of self.now s) i * z (sample_of self.now s) j }

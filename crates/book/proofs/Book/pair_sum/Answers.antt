@@ -7,7 +7,7 @@ use Rattle.readings.specs.Samples.{z}
 use Rattle.sums.specs.Ranges.{z_limit}
 use Rattle.book.specs.declared.Book.{Book}
 use Rattle.book.specs.inner.Rebuild.{sample_of}
-use Rattle.book.proofs.Rebuilding.{downward, sum-fits, total-held, product-small, yields-downward}
+use Rattle.book.proofs.Rebuilding.{downward, sum-fits, total-held, product_small, yields-downward}
 use Rattle.book.proofs.Book.pair_sum.Goals as goal
 
 -- what a sample gives
@@ -21,7 +21,7 @@ sum-requires-clause-fits c =
     (yields-downward _ _ (λ a b. refl) (λ a b p. p) _ c.args.self.now.summary.k cc)
     c.map.ensures.closure (λ x r q k. search rules))
     (sum-fits c.args.self.now c.requires.0 (λ r. z r c.args.i * z r c.args.j) (z_limit * z_limit)
-    (λ s. product-small c.args.self.now c.requires.0 s c.args.i c.args.j) (omega arith))
+    (λ s. product_small c.args.self.now c.requires.0 s c.args.i c.args.j) (omega arith))
 
 pub returns : goal.returns
 returns c =
@@ -31,4 +31,4 @@ returns c =
     (yields-downward _ _ (λ a b. refl) (λ a b p. p) _ c.args.self.now.summary.k cc)
     c.map.ensures.closure (λ x r q k. search rules))
     ∙ total-held c.args.self.now c.requires.0 (λ r. z r c.args.i * z r c.args.j) (z_limit * z_limit)
-    (λ s. product-small c.args.self.now c.requires.0 s c.args.i c.args.j)
+    (λ s. product_small c.args.self.now c.requires.0 s c.args.i c.args.j)
