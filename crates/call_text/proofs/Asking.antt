@@ -6,6 +6,7 @@ use Rattle.std.specs.Int.{FitsUnsignedBits}
 use Rattle.std.specs.Result.{OkIff, result_ok, result_unwrap_or}
 use mir.Syntax.{w64}
 use mir.Val.{SFits}
+use mir.Facts.{to_z-of_z}
 use borrow.Author.Tests.{le-leb, lt-leb, ne_eqb}
 use lib.ListN.{length-map}
 use lib.Seq.{length-take-le}
@@ -14,7 +15,7 @@ use Rattle.ledger.specs.declared.Order.TheVariants.{Cyclic, Tournament}
 use Rattle.call_text.specs.Calls.{argument, call_by, load_by, named, named_by, one_by, reading, samples_by, sweep_by, turn_by}
 use Rattle.call_text.specs.Numbers.{beyond}
 use Rattle.call_text.specs.Requests.{asked_by, asked_for}
-use Rattle.call_text.specs.declared.request.Request.TheVariants.{Load, LoadSamples, Turn, Sweep, TournamentSweep}
+use Rattle.call_text.specs.declared.request.Request.TheVariants.{Axis, Load, LoadSamples, LoosePair, Turn, Sweep, TournamentSweep}
 use Rattle.call_text.specs.inner.Asked.{alone, only}
 
 -- a number that was tried for a natural one
@@ -156,12 +157,20 @@ module _ (bench : ℕ) where
   no-argument call (x ∷ []) e = absurd (let z : ◌≡◌ {A = ℕ} 0 1 = cc in omega arith)
   no-argument call (x ∷ y ∷ ys) e = refl
 
-  pub an-argument : (call : ℕ → Call) (ys : List ℤ) (i : ℕ) → Some i ≡ only ys →
+  an-argument : (call : ℕ → Call) (ys : List ℤ) (i : ℕ) → Some i ≡ only ys →
       Some (asked_by bench (call i)) ≡ asked_for (named bench (one_by call ys))
   unfolding only one_by named asked_for
   an-argument call [] i e = absurd (let z : ◌≡◌ {A = ℕ} 0 1 = cc in omega arith)
   an-argument call (x ∷ []) i e = let w : i ≡ argument x = cc in rw w
   an-argument call (x ∷ y ∷ ys) i e = absurd (let z : ◌≡◌ {A = ℕ} 0 1 = cc in omega arith)
+
+  pub a-pair : (ys : List ℤ) (t : ℕ) → Some t ≡ only ys → Some (LoosePair bench t) ≡ asked_for (named bench (one_by loose_pair ys))
+  unfolding asked_by
+  a-pair ys t e = an-argument loose_pair ys t e
+
+  pub an-axis : (ys : List ℤ) (i : ℕ) → Some i ≡ only ys → Some (Axis bench i) ≡ asked_for (named bench (one_by axis ys))
+  unfolding asked_by
+  an-axis ys i e = an-argument axis ys i e
 
 -- by the tag
 module _ (tag : ℕ) (ys : List ℤ) where
@@ -203,6 +212,31 @@ module _ (tag : ℕ) (ys : List ℤ) where
       (tag ≡ 79 → ⊥) → None ≡ asked_for (named bench (call_by tag ys))
   unfolding named asked_for
   other_tag bench n₁ n₂ n₃ n₄ n₅ n₆ n₇ = rw (no-call n₁ n₂ n₃ n₄ n₅ n₆ n₇)
+
+-- by which the requests are proved
+pub ruleset arguments = (to_z-of_z, argument-tried)
+
+pub ruleset loads = (to_z-of_z, a-load, no_load)
+
+pub ruleset turns = (to_z-of_z, a-turn, turn_few, turn_many)
+
+pub ruleset ones = (to_z-of_z, only-one, only_few, only_many)
+
+pub ruleset tags = (
+  of-load,
+  of-samples,
+  of-turn,
+  of-sweep,
+  of-pair,
+  of-axis,
+  of-tournament-sweep,
+  a-sweep,
+  a-tournament-sweep,
+  a-pair,
+  an-axis,
+  no-argument,
+  other_tag,
+)
 
 -- the bench, which is the first number
 module _ (tag : ℕ) (xs : List ℤ) where

@@ -10,6 +10,7 @@ use native.Mathlib.Omega.{arith}
 use borrow.Author.Tests.{ne_eqb, lt-leb, le-leb, lt-ltb, leb-true}
 use lib.Dec.{eqb, leb, ltb, lit<}
 use lib.IntN.{ℤ}
+use mir.Facts.{to_z-of_z}
 use lib.ListN.{length, take, drop, get_or, drop_of_length-le}
 use lib.Seq.{drop-cons}
 use Rattle.integer.specs.Signed.{signed}
@@ -184,3 +185,8 @@ module _ (f : List ℕ) where
     pub plain-some : (x : ℕ) (y : ℤ) → Some x ≡ unsigned_of f → y ≡ signed false x → Some y ≡ signed_of f
     unfolding without_minus signed
     plain-some x y n w = sym (plain ∙ rw (← n, w))
+
+-- by which a field's value and its signed number are proved
+pub ruleset values = (a-digit, later-digits, nine-digits, one_more, value-end, value-more)
+
+pub ruleset signs = (to_z-of_z, number-below, plain-none, plain-some, minus-none, minus-zero, minus-some)

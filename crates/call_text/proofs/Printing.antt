@@ -15,6 +15,7 @@ use lib.IntN.{ℤ, pos}
 use lib.ListN.{length, take, get_or, replicate, length-append}
 use lib.Seq.{take-suc, take_all}
 use lib.Signed.{mag}
+use mir.Facts.{to_z-of_z}
 use Rattle.text.specs.Decimal.{digits, number}
 use Rattle.text.specs.laws.Digits.{length-number}
 use Rattle.text.specs.Put.{Put}
@@ -103,6 +104,18 @@ turned-printed made t {z} e p = subst (λ (a : Answer). Prints (shown_as a t) z)
     by : (made : Bool) → Prints (line ((84 ∷ []) ∷ digits (bool_byte made) ∷ [])) z → Prints (shown_as (Turned made) t) z
     by true p = p
     by false p = p
+
+-- the lines of a fixed text
+pub loaded-line : line ((76 ∷ []) ∷ []) ≡ 76 ∷ 10 ∷ []
+unfolding line further
+loaded-line = refl
+
+pub none-line : line ((81 ∷ []) ∷ (110 ∷ 111 ∷ 110 ∷ 101 ∷ []) ∷ []) ≡ 81 ∷ 9 ∷ 110 ∷ 111 ∷ 110 ∷ 101 ∷ 10 ∷ []
+unfolding line further
+none-line = refl
+
+-- by which an answer's line is proved
+pub ruleset shows = (to_z-of_z, loaded-line, turned-printed, none-line)
 
 -- An element of an array of 64-bit signed numbers is one.
 pub element-size : (xs : List ℤ) (us : List Val) (i : ℕ) → shadow (each ℤ (SInt w64).own_val xs us) → mag (get_or xs i (pos 0)) < 2 ^ 63

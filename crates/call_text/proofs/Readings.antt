@@ -9,6 +9,7 @@ use Rattle.std.specs.Int.{FitsUnsignedBits}
 use Rattle.std.specs.Result.{OkIff, result_unwrap_or}
 use borrow.Author.Tests.{le-leb, leb-true}
 use lib.IntN.{ℤ, pos, negsuc}
+use mir.Facts.{to_z-of_z}
 use lib.ListN.{length, take, drop, get_or, set, length-map}
 use lib.Seq.{drop-cons, length-take-le, set_at, take-suc}
 use Rattle.call_text.specs.Calls.{most_reading, reading}
@@ -42,3 +43,6 @@ module _ (numbers : List ℤ) (entry : List ℕ) (i : ℕ) (h : i < length numbe
         map-append,
         append_assoc,
       )
+
+-- by which both are proved
+pub ruleset as_readings = (to_z-of_z, reading-tried, reads-next)

@@ -95,6 +95,7 @@ pub fn nothing() -> Printed
     fixed(b"")
 }
 
+#[tactic(auto, using(crate::proofs::Printing::shows), unfolding(crate::specs::Answers::shown, crate::specs::Answers::shown_as))]
 pub fn answer_line(told: Told) -> Printed
     requires { told.n ≤ 8 }
     ensures { Prints (shown told) result }

@@ -18,6 +18,7 @@ fn all_digits(field: &[u8]) -> bool
 }
 
 // The value of at most 10 digits.
+#[tactic(auto, using(crate::proofs::Digits::values))]
 fn value(field: &[u8]) -> u64
     requires { (length field.now ≤ digit_limit) × (all_within 48 57 field.now ≡ true) }
     ensures { result ≡ value_from 0 field.now }
@@ -56,6 +57,7 @@ fn natural(field: &[u8]) -> Option<u64>
     Some(value(field))
 }
 
+#[tactic(auto, using(crate::proofs::Digits::signs))]
 pub fn number(field: &[u8]) -> Option<i64>
     ensures { result ≡ signed_of field.now }
 {

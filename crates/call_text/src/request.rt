@@ -45,6 +45,7 @@ pub enum Request {
 pub const NUMBERS: usize = 4096;
 
 // An argument whose range has no negative number: a negative one is out of it.
+#[tactic(auto, using(crate::proofs::Asking::arguments))]
 pub fn argument(x: i64) -> u64
     ensures { result ≡ argument x }
 {
@@ -52,7 +53,7 @@ pub fn argument(x: i64) -> u64
 }
 
 // The numbers are those after the bench, here and in what follows; the places count the bench too.
-#[tactic(auto, using(crate::proofs::Asking::no_load))]
+#[tactic(auto, using(crate::proofs::Asking::loads))]
 fn load(bench: usize, numbers: &[i64]) -> Option<Request>
     ensures { result ≡ asked_for (named bench (load_by numbers.now)) }
 {
@@ -88,7 +89,7 @@ fn load_samples(bench: usize, numbers: &[i64]) -> Option<Request>
     })
 }
 
-#[tactic(auto, using(crate::proofs::Asking::turn_few, crate::proofs::Asking::turn_many))]
+#[tactic(auto, using(crate::proofs::Asking::turns))]
 fn turn(bench: usize, numbers: &[i64]) -> Option<Request>
     ensures { result ≡ asked_for (named bench (turn_by numbers.now)) }
 {
@@ -115,7 +116,7 @@ fn alone(request: Request, numbers: &[i64]) -> Option<Request>
 }
 
 // The argument of a call that has one.
-#[tactic(auto, using(crate::proofs::Asking::only_few, crate::proofs::Asking::only_many))]
+#[tactic(auto, using(crate::proofs::Asking::ones))]
 fn only(numbers: &[i64]) -> Option<u64>
     ensures { result ≡ only numbers.now }
 {
@@ -125,7 +126,7 @@ fn only(numbers: &[i64]) -> Option<u64>
     Some(argument(*x))
 }
 
-#[tactic(auto, using(crate::proofs::Asking::other_tag))]
+#[tactic(auto, using(crate::proofs::Asking::tags))]
 fn by_tag(tag: u8, bench: usize, numbers: &[i64]) -> Option<Request>
     ensures { result ≡ asked_for (named bench (call_by tag numbers.now)) }
 {
