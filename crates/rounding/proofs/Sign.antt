@@ -80,3 +80,8 @@ module _ (u s : ℤ) (w : ℕ) (f : SFits w64 u) (e : s ≡ sign (to_z w64 (of_z
 
     pub result_fits : SFits w64 (to_z w64 (of_z w64 s) *ℤ to_z w64 q)
     result_fits = rw result (held (rnd u w) (rw rnd-size (omega (arith, rounded, rounded-small))))
+
+-- by which `sign_of` and `nearest` are proved
+pub ruleset signs = (to_z-of_z, shifted, twice-fits, sum_fits, sum-sign)
+
+pub ruleset roundings = (word, product-fits, size, rounded-small, result, result_fits)

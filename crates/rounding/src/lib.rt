@@ -7,6 +7,7 @@ ghost use Rattle.rounding.specs.inner.Rounding.{sign};
 
 // −1 for a negative u, and 1 for any other.
 // no plainer: `signum` gives 0 for 0, and a library method, whose body isn't here, may branch (.ci/branchless).
+#[tactic(auto, using(crate::proofs::Sign::signs))]
 fn sign_of(u: i64) -> i64
     ensures { result ≡ sign u }
 {
@@ -22,6 +23,7 @@ fn nearest_size(size: u64, w: u64) -> u64
 }
 
 // rnd(u/w): |u| is rounded and gets u's sign, so that what is divided is never negative; u is never doubled.
+#[tactic(auto, using(crate::proofs::Sign::roundings))]
 pub fn nearest(u: i64, w: u64) -> i64
     requires { (0 < w) × (w < 2 ^ 63) × (nat_abs u + w / 2 < 2 ^ 63) }
     ensures { result ≡ rnd u w }

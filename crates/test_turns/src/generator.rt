@@ -28,6 +28,7 @@ pub fn pick(k: u64, end: u64) -> u64
 }
 
 // A size up to `most`, from a number below 2^62 and the third draw.
+#[tactic(auto, using(std::proofs::lemmas::Bool::ne_eqb), unfolding(crate::specs::Generator::size_from))]
 fn size_from(wide: u64, mode: u64, most: u64) -> u64
     requires { (3 ≤ most) × (most < 2 ^ 63) }
     ensures { result ≡ size_from wide mode most }
@@ -66,6 +67,7 @@ pub fn with_sign(k: u64, size: u64) -> i64
     integer::with_sign(minus(k), size)
 }
 
+#[tactic(auto, using(integer::specs::laws::Word::word), unfolding(crate::specs::Generator::value_of))]
 pub fn value(k: u64, most: u64) -> i64
     requires { (k < 2 ^ 40) × (3 ≤ most) × (most < 2 ^ 63) }
     ensures { (result ≡ value_of k most) × (nat_abs result ≤ most) }
@@ -82,6 +84,7 @@ pub fn product(x: u64, y: u64) -> u64
 }
 
 // no plainer: by from_fn over a table of the offsets each closure needs clauses of its own, and a bound on the table's numbers
+#[tactic(auto, using(integer::specs::laws::Word::word), unfolding(turn::specs::Turn::eight, crate::specs::Generator::row_of))]
 fn row(key: u64, most: u64) -> [i64; 8]
     requires { (key < 2 ^ 39) × (3 ≤ most) × (most < 2 ^ 63) }
     ensures { result ≡ row_of key most }
