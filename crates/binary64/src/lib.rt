@@ -1,7 +1,7 @@
 // IEEE 754 binary64 numbers: a kept entry or an error times 2^e / 1024, and the bytes of a number.
 #![tactic(auto)]
 
-ghost use Rattle.std.specs.Prelude.{◌+◌, ◌<◌, ◌≤◌, ◌^◌, ◌≡◌, not, T, pos, nat_abs, length};
+ghost use Rattle.std.specs.Prelude.{◌<◌, ◌≤◌, ◌^◌, ◌≡◌, not, T, pos, nat_abs, length};
 ghost use Rattle.std.specs.Float.Ieee.{is_nan};
 ghost use Rattle.limits.specs.Limits.{most_shift};
 ghost use Rattle.binary64.specs.Binary64.{binary64_of, bytes_of};
@@ -31,11 +31,10 @@ pub fn bytes_of(x: f64) -> [u8; 8]
     x.to_bits().to_le_bytes()
 }
 
-// The eight bytes of x at the place; the answer is the place after them.
-pub fn put_binary64(buf: &mut [u8], at: usize, x: f64) -> usize
-    requires { (at + 8 ≤ length buf.old) × T (not (is_nan x)) }
-    ensures { Put (bytes_of x) at buf.old buf.new result }
+// The eight bytes of x, at the front of the buffer; the answer is how many they are.
+pub fn put_binary64(buf: &mut [u8], x: f64) -> usize
+    requires { (8 ≤ length buf.old) × T (not (is_nan x)) }
+    ensures { Put (bytes_of x) 0 buf.old buf.new result }
 {
-    let bytes = bytes_of(x);
-    text::put_bytes(buf, at, &bytes)
+    text::put_bytes(buf, &bytes_of(x))
 }

@@ -1,6 +1,6 @@
 -- The texts that the writers put together, and the pages that they are.
 use Prim.Native.Nat.{ℕ, ◌+◌, ◌-◌, ◌*◌, ◌≤◌, ◌<◌}
-use mathlib.Core.Path.{◌≡◌, refl, sym, ap, ◌∙◌}
+use mathlib.Core.Path.{◌≡◌, sym, ap, ◌∙◌}
 use mathlib.Core.List.{List, [], ◌∷◌, ◌++◌, map-append, append_assoc, append-nil}
 use native.Mathlib.Numerals.{add-one}
 use native.Mathlib.Omega.{arith}
@@ -11,11 +11,10 @@ use Rattle.text.specs.Decimal.{digits}
 use Rattle.text.specs.Line.{line, further}
 use Rattle.text.specs.Put.{Put}
 use Rattle.text.specs.laws.Numbers.{further-append}
-use Rattle.text.specs.laws.Put.{front_length, put_then}
-use Rattle.call_text.specs.inner.Answers.{FieldPut}
+use Rattle.text.specs.laws.Put.{front_length}
 use Rattle.book_text.specs.Answers.{cross_row, cross_rows, sums_line}
 use Rattle.book_text.specs.Pages.{Pages, page_of}
-use Rattle.book_text.specs.inner.Played.{NaturalsPut, naturals}
+use Rattle.book_text.specs.inner.Played.{naturals}
 
 -- a text at the front of the array
 pub paged : {w x : List ℕ} {r : ℕ} (t : List ℕ) → Put w 0 (replicate 2048 0) x r → w ≡ t → Pages t (record { bytes = x; len = r })
@@ -48,12 +47,6 @@ sums-text n t =
     ap (λ (l : List ℕ). l ++ (10 ∷ []))
     (append_assoc (90 ∷ 9 ∷ digits t.k) (naturals (take n t.channel)) (naturals (cross_rows n t.cross n))
     ∙ ap (λ (l : List ℕ). (90 ∷ 9 ∷ digits t.k) ++ l) (sym (naturals-append (take n t.channel) (cross_rows n t.cross n))))
-
-pub sums-paged : (n : ℕ) (t : Sums) {x y u v z : List ℕ} {a b c e r most more : ℕ} → Put (90 ∷ []) 0 (replicate 2048 0) x a →
-    FieldPut (digits t.k) a x y b → NaturalsPut (take n t.channel) b most y u c → NaturalsPut (cross_rows n t.cross n) c more u v e →
-    Put (10 ∷ []) e v z r → Pages (sums_line n t) (record { bytes = z; len = r })
-sums-paged n t p q s w f =
-    paged (sums_line n t) (put_then (put_then (put_then (put_then p q.puts) s.puts) w.puts) f) (sums-text n t)
 
 -- row i as it is read: from 8 × i + i to before 8 × i + n
 module _ (n : ℕ) (cross : List ℕ) (i : ℕ) (l : length cross ≡ 64) (few : n ≤ 8) (h : i < n) where

@@ -2,8 +2,8 @@
 use Rattle.std.proofs.Common.{ℕ, ◌+◌, ◌-◌, ◌≤◌, ◌<◌, ◌≡◌, refl, sym, ◌∙◌, Bool, true, false, List, Some, None, arith, leb, length, take}
 use Rattle.std.proofs.Common.{length-append, length-take-le}
 use borrow.Author.Tests.{le-leb, lt-leb, leb-true, leb-false}
-use Rattle.text.specs.Put.{Put}
-use Rattle.text.specs.laws.Put.{put-nothing, put_then, same_size}
+use Rattle.text.specs.Put.{Put, part, with_part}
+use Rattle.text.specs.laws.Put.{part-size, put-nothing, put-part}
 use Rattle.book.specs.Consistent.{Consistent}
 use Rattle.book_text.specs.Steps.{StepsBook, page_text, printed_from, start_place}
 use Rattle.book_text.specs.Text.{summary_text}
@@ -51,19 +51,19 @@ wrote_nothing text here entry e c = record { reached = at-start text false here 
 
 module _ (text : List ℕ) (here : Place) (z : BookStep) (s : StepsBook text false here z) (full : length z.page.bytes ≡ 2048)
     {entry buf : List ℕ} {end : ℕ} (w : WroteBook text here entry buf end) where
-  pub room : length (summary_text false text) ≤ length entry → end + length (take z.page.len z.page.bytes) ≤ length buf
+  pub room : length (summary_text false text) ≤ length entry → length (take z.page.len z.page.bytes) ≤ length (part (length buf) end buf)
   unfolding page_text
   room h =
       let before = w.reached.before in
       let whole : length (summary_text false text) ≡ length before + length (printed_from text false here.book here.at here.line) =
       rw (w.reached.is, length-append) in
-      rw (size text here z s full, same_size w.puts) (omega (arith, w.puts.answer, at_least text here z s full))
+      rw (size text here z s full) (omega (arith, w.puts.answer, at_least text here z s full, part-size w.puts))
 
-  module _ {out : List ℕ} {end_after : ℕ} (p : Put (take z.page.len z.page.bytes) end buf out end_after) where
-    pub written_last : z.next ≡ None → Put (summary_text false text) 0 entry out end_after
+  module _ {out : List ℕ} {n : ℕ} (p : Put (take z.page.len z.page.bytes) 0 (part (length buf) end buf) out n) where
+    pub written_last : z.next ≡ None → Put (summary_text false text) 0 entry (with_part (length buf) end buf out) (end + n)
     unfolding page_text
-    written_last m = rw (w.reached.is, prints-last s m) (put_then w.puts p)
+    written_last m = rw (w.reached.is, prints-last s m) (put-part w.puts p)
 
-    pub written-more : (next : Place) → z.next ≡ Some next → WroteBook text next entry out end_after
+    pub written-more : (next : Place) → z.next ≡ Some next → WroteBook text next entry (with_part (length buf) end buf out) (end + n)
     unfolding page_text goes_on
-    written-more next m = record { reached = goes_on s w.reached next m; puts = put_then w.puts p }
+    written-more next m = record { reached = goes_on s w.reached next m; puts = put-part w.puts p }

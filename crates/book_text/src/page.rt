@@ -39,9 +39,9 @@ pub(crate) fn tagged(tag: u8, numbers: &[u64]) -> Page
     ensures { Pages (line ((tag ∷ []) ∷ map digits numbers.now)) result }
 {
     let mut bytes = [0u8; 2048];
-    let first = put_byte(&mut bytes, 0, tag);
-    let end = put_naturals(&mut bytes, first, numbers);
-    let len = put_byte(&mut bytes, end, LINE_FEED);
+    let mut at = put_byte(&mut bytes, tag);
+    at += put_naturals(&mut bytes[at..], numbers);
+    let len = at + put_byte(&mut bytes[at..], LINE_FEED);
     Page { bytes, len }
 }
 
@@ -53,11 +53,11 @@ pub(crate) fn sums_page(n: usize, t: Sums) -> Page
     let channel = t.channel;
     let cross = t.cross;
     let mut bytes = [0u8; 2048];
-    let first = put_byte(&mut bytes, 0, b'Z');
-    let second = natural_field(&mut bytes, first, t.k);
-    let third = put_naturals(&mut bytes, second, &channel[..n]);
-    let end = put_cross(&mut bytes, third, &cross, n);
-    let len = put_byte(&mut bytes, end, LINE_FEED);
+    let mut at = put_byte(&mut bytes, b'Z');
+    at += natural_field(&mut bytes[at..], t.k);
+    at += put_naturals(&mut bytes[at..], &channel[..n]);
+    at += put_cross(&mut bytes[at..], &cross, n);
+    let len = at + put_byte(&mut bytes[at..], LINE_FEED);
     Page { bytes, len }
 }
 

@@ -39,7 +39,7 @@ pub(crate) fn put_printed(text: &[u8], buf: &mut [u8]) -> usize
         let page = done.page;
         let bytes = page.bytes;
         let len = page.len;
-        end = put_bytes(buf, end, &bytes[..len]);
+        end += put_bytes(&mut buf[end..], &bytes[..len]);
         let Some(next) = done.next else {
             return end;
         };

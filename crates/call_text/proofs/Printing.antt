@@ -18,9 +18,9 @@ use lib.Signed.{mag}
 use mir.Facts.{to_z-of_z}
 use Rattle.text.specs.Decimal.{digits, number}
 use Rattle.text.specs.laws.Digits.{length-number}
-use Rattle.text.specs.Put.{Put}
+use Rattle.text.specs.Put.{Put, part, with_part}
 use Rattle.text.specs.laws.Numbers.{further-append}
-use Rattle.text.specs.laws.Put.{front_length, put_then, same-put}
+use Rattle.text.specs.laws.Put.{array-part, front_length, put-part, same-put}
 use Rattle.text.specs.Line.{line, further, numbers}
 use Rattle.record.specs.declared.query.Answer.{Answer}
 use Rattle.record.specs.declared.query.Answer.TheVariants.{Turned}
@@ -29,11 +29,12 @@ use Rattle.call_text.specs.declared.answer.Printed.{Printed}
 use Rattle.call_text.specs.declared.answer.Told.{Told}
 use Rattle.call_text.specs.inner.Answers.{FieldPut, Prints}
 
-pub put-field : {t e x y : List ℕ} {at r s : ℕ} → Put (9 ∷ []) at e x r → Put t r x y s → length t ≤ 20 → FieldPut t at e y s
-put-field p q h = record { puts = put_then p q; bounded = omega (arith, p.answer, q.answer) }
+pub put-field : {t e x y : List ℕ} {r s : ℕ} → Put (9 ∷ []) 0 e x r → Put t 0 (part (length x) r x) y s → length t ≤ 20 →
+    FieldPut t e (with_part (length x) r x y) (r + s)
+put-field p q h = record { puts = put-part p q; bounded = omega (arith, p.answer, q.answer) }
 
 -- A text at the front of the array is a line in it.
-printed : {w : List ℕ} {x : List ℕ} {r : ℕ} (t : List ℕ) → Put w 0 (replicate 256 0) x r → w ≡ t → Prints t (record { bytes = x; len = r })
+pub printed : {w : List ℕ} {x : List ℕ} {r : ℕ} (t : List ℕ) → Put w 0 (replicate 256 0) x r → w ≡ t → Prints t (record { bytes = x; len = r })
 unfolding line_printed
 printed t p e = record { is = rw (p.leaves, front_length p, e); short = p.within }
 
@@ -58,22 +59,24 @@ unfolding naturals further
 line-begun xs p = record { puts = p; bounded = omega (arith, p.answer) }
 
 pub line-on : {tag : ℕ} (xs : List ℕ) (i : ℕ) {x y : List ℕ} {r s : ℕ} → i < length xs → Begun tag xs i x r →
-    FieldPut (digits (get_or xs i 0)) r x y s → Begun tag xs (i + 1) y s
+    FieldPut (digits (get_or xs i 0)) (part 256 r x) y s → Begun tag xs (i + 1) (with_part 256 r x y) (r + s)
 line-on {tag} xs i h b q = record {
-  puts = same-put (append_assoc (tag ∷ []) (naturals xs i) _ ∙ ap (λ (t : List ℕ). tag ∷ t) (sym (naturals_more xs i h))) (put_then b.puts q.puts);
+  puts =
+      same-put (append_assoc (tag ∷ []) (naturals xs i) _ ∙ ap (λ (t : List ℕ). tag ∷ t) (sym (naturals_more xs i h)))
+      (array-part b.puts refl q.puts);
   bounded = omega (arith, b.bounded, q.bounded);
 }
 
-pub line-printed : {tag : ℕ} (xs : List ℕ) {x y : List ℕ} {r s : ℕ} → (i : ℕ) → i ≡ length xs → Begun tag xs i x r → Put (10 ∷ []) r x y s →
-    Prints (line ((tag ∷ []) ∷ map digits xs)) (record { bytes = y; len = s })
+pub line-printed : {tag : ℕ} (xs : List ℕ) {x y : List ℕ} {r s : ℕ} → (i : ℕ) → i ≡ length xs → Begun tag xs i x r →
+    Put (10 ∷ []) 0 (part 256 r x) y s → Prints (line ((tag ∷ []) ∷ map digits xs)) (record { bytes = with_part 256 r x y; len = r + s })
 unfolding line naturals
-line-printed xs i e b q = printed _ (put_then b.puts q) (rw (e, take_all (length xs) xs (omega arith), append_assoc))
+line-printed xs i e b q = printed _ (array-part b.puts refl q) (rw (e, take_all (length xs) xs (omega arith), append_assoc))
 
-pub axis-printed : {f x y u v z : List ℕ} {a b c e r : ℕ} (entry : ℤ) (zs : List ℤ) → Put (65 ∷ []) 0 (replicate 256 0) x a →
-    Put (numbers (entry ∷ [])) a x y b → FieldPut f b y u c → Put (numbers zs) c u v e → Put (10 ∷ []) e v z r
-    → Prints (line ((65 ∷ []) ∷ number entry ∷ f ∷ map number zs)) (record { bytes = z; len = r })
+pub axis-text : (entry : ℤ) (f : List ℕ) (zs : List ℤ) →
+    ((65 ∷ []) ++ numbers (entry ∷ [])) ++ (9 ∷ f) ++ numbers zs ++ (10 ∷ [])
+    ≡ line ((65 ∷ []) ∷ number entry ∷ f ∷ map number zs)
 unfolding line further numbers
-axis-printed entry zs p q t w s = printed _ (put_then (put_then (put_then (put_then p q) t.puts) w) s) (simp (append_assoc, append-nil))
+axis-text entry f zs = simp append_assoc
 
 -- n numbers, each after a tab, are at most 21 bytes each.
 pub numbers-bound : (zs : List ℤ) → ((i : ℕ) → mag (get_or zs i (pos 0)) < 2 ^ 63) → (n : ℕ) → length (numbers (take n zs)) ≤ 21 * n
@@ -91,9 +94,6 @@ unfolding numbers further
 one-bound z h =
     let e : length (numbers (z ∷ [])) ≡ suc (length (number z)) = ap (λ (l : List ℕ). suc (length l)) (append-nil (number z)) in
     omega (arith, length-number z h)
-
-pub entry-end : (z : ℤ) → mag z < 2 ^ 63 → {tag : ℕ} {e x y : List ℕ} {a b : ℕ} → Put (tag ∷ []) 0 e x a → Put (numbers (z ∷ [])) a x y b → b ≤ 22
-entry-end z h p q = omega (arith, one-bound z h, p.answer, q.answer)
 
 -- a turn that was made, or not
 pub turned-printed : (made : Bool) (t : Told) {z : Printed} → t.answer ≡ Turned made → Prints (line ((84 ∷ []) ∷ digits (bool_byte made) ∷ [])) z →

@@ -1,5 +1,5 @@
 // The line that an answer prints.
-ghost use Rattle.std.specs.Prelude.{[], ◌∷◌, map, ◌≡◌, ◌+◌, ◌≤◌, length, take};
+ghost use Rattle.std.specs.Prelude.{[], ◌∷◌, map, ◌≡◌, ◌≤◌, length, take};
 ghost use Rattle.text.specs.Decimal.{digits, number};
 ghost use Rattle.text.specs.Line.{line};
 ghost use Rattle.refusal.specs.Refusal.{number_of};
@@ -36,12 +36,13 @@ impl Printed {
     }
 }
 
-pub fn natural_field(buf: &mut [u8], at: usize, x: u64) -> usize
-    requires { at + 21 ≤ length buf.old }
-    ensures { FieldPut (digits x) at buf.old buf.new result }
+// A tab and a number, at the front of the buffer; the answer is how long they are.
+pub fn natural_field(buf: &mut [u8], x: u64) -> usize
+    requires { 21 ≤ length buf.old }
+    ensures { FieldPut (digits x) buf.old buf.new result }
 {
-    let start = put_byte(buf, at, TAB);
-    put_natural(buf, start, x)
+    let at = put_byte(buf, TAB);
+    at + put_natural(&mut buf[at..], x)
 }
 
 fn fixed(text: &[u8]) -> Printed
@@ -49,7 +50,7 @@ fn fixed(text: &[u8]) -> Printed
     ensures { Prints text.now result }
 {
     let mut bytes = [0u8; 256];
-    let len = put_bytes(&mut bytes, 0, text);
+    let len = put_bytes(&mut bytes, text);
     Printed { bytes, len }
 }
 
@@ -59,11 +60,11 @@ pub fn numbers_line(tag: u8, xs: &[u64]) -> Printed
     ensures { Prints (line ((tag ∷ []) ∷ map digits xs.now)) result }
 {
     let mut bytes = [0u8; 256];
-    let mut at = put_byte(&mut bytes, 0, tag);
+    let mut at = put_byte(&mut bytes, tag);
     for x in xs {
-        at = natural_field(&mut bytes, at, *x);
+        at += natural_field(&mut bytes[at..], *x);
     }
-    let len = put_byte(&mut bytes, at, LINE_FEED);
+    let len = at + put_byte(&mut bytes[at..], LINE_FEED);
     Printed { bytes, len }
 }
 
@@ -73,11 +74,11 @@ fn axis_line(entry: i64, error: u64, row: [i64; 8], n: usize) -> Printed
     ensures { Prints (line ((65 ∷ []) ∷ number entry ∷ digits error ∷ map number (take n row))) result }
 {
     let mut bytes = [0u8; 256];
-    let first = put_byte(&mut bytes, 0, b'A');
-    let second = put_numbers(&mut bytes, first, &[entry]);
-    let third = natural_field(&mut bytes, second, error);
-    let end = put_numbers(&mut bytes, third, &row[..n]);
-    let len = put_byte(&mut bytes, end, LINE_FEED);
+    let mut at = put_byte(&mut bytes, b'A');
+    at += put_numbers(&mut bytes[at..], &[entry]);
+    at += natural_field(&mut bytes[at..], error);
+    at += put_numbers(&mut bytes[at..], &row[..n]);
+    let len = at + put_byte(&mut bytes[at..], LINE_FEED);
     Printed { bytes, len }
 }
 

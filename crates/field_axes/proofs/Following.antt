@@ -13,8 +13,8 @@ use Rattle.report.specs.laws.AxisNumbers.{axes-row, two-before}
 use Rattle.record.specs.Record.{answer_to, row_to}
 use Rattle.record.specs.Run.{own}
 use Rattle.record.specs.declared.Record.{Record}
-use Rattle.text.specs.Put.{Put}
-use Rattle.text.specs.laws.Put.{same_size}
+use Rattle.text.specs.Put.{Put, part}
+use Rattle.text.specs.laws.Put.{part-size}
 use Rattle.text.specs.Rows.{Wide}
 use Rattle.field_axes.specs.Solution.{axes, axis_solution}
 use Rattle.field_axes.specs.inner.Solution.{used}
@@ -28,13 +28,14 @@ module _ (n : ℕ) (rows : List (List ℤ)) (few : n ≤ 8) (w : Wide rows) wher
   length-used zero h = omega arith
   length-used (suc i) h = simp (length-append, length-used i (omega arith), length-row-used i (omega arith)) (omega arith)
 
-  pub room : (i : ℕ) {at next : ℕ} {e x : List ℤ} → Put (used n rows i) at e x next → i < n → at + n * (n + 2) ≤ length e → next + (n + 2) ≤ length x
+  pub room : (i : ℕ) {at : ℕ} {e x : List ℤ} → Put (used n rows i) 0 e x at → i < n → n * (n + 2) ≤ length e →
+      n + 2 ≤ length (part (length x) at x)
   room i p h l =
       omega (
         arith,
         p.answer,
         length-used i (omega arith),
-        same_size p,
+        part-size p,
         mul-le-mul {n₁ = i + 1} {m₁ = n + 2} {n₂ = n} {m₂ = n + 2} (omega arith) (le_refl (n + 2)),
       )
 

@@ -1,9 +1,6 @@
 -- Every refusal has a number from 1 to 16, by which it is answered.
-use Rattle.std.proofs.Common.{ℕ, zero, suc, ◌+◌, ◌≤◌, ◌≡◌, refl, sym, ap, ◌∙◌, Bool, true, false, cond, List, ℤ, T, eqb, arith}
+use Rattle.std.proofs.Common.{ℕ, ◌≤◌, ◌≡◌, sym, ap, ◌∙◌, Bool, true, false, cond, List, ℤ, arith}
 use borrow.Author.Rules.{rules}
-use Rattle.std.proofs.Math.Facts.{eqb_yes}
-use Rattle.integer.specs.Range.{all}
-use Rattle.integer.specs.laws.Range.{below}
 use Rattle.job.specs.Job.{Job}
 use Rattle.job_pool.specs.Refusal.{pool_refusal}
 use Rattle.ledger.specs.Call.{load}

@@ -146,7 +146,7 @@ fn put_panel(b: i64, position: i64, out: &mut [i64]) -> Result<usize, Refusal>
         return Err(Refusal::ShortBuffer);
     }
     let entries = [x.a11, x.a12, x.a22];
-    Ok(text::numbers::put(out, 0, &entries))
+    Ok(text::numbers::put(out, &entries))
 }
 
 // The position in that list, from 1, of the panel of these entries, or the refusal's number negated.

@@ -50,16 +50,16 @@ fn outcome_number(outcome: Outcome) -> i64
 }
 
 // The numbers of axes 1 to n, each after the one before it.
-fn put_axes(n: usize, axes: &[[i64; 11]; 8], out: &mut [i64], at: usize) -> usize
-    requires { (n ≤ 8) × Wide axes.now × (at + n * (n + 2) ≤ length out.old) }
-    ensures { Put (used n axes.now n) at out.old out.new result }
+fn put_axes(n: usize, axes: &[[i64; 11]; 8], out: &mut [i64]) -> usize
+    requires { (n ≤ 8) × Wide axes.now × (n * (n + 2) ≤ length out.old) }
+    ensures { Put (used n axes.now n) 0 out.old out.new result }
 {
     let end = n + 3;
-    let mut next = at;
+    let mut at = 0;
     for numbers in &axes[..n] {
-        next = text::numbers::put(out, next, &numbers[1..end]);
+        at += text::numbers::put(&mut out[at..], &numbers[1..end]);
     }
-    next
+    at
 }
 
 // The numbers of a run that is not refused.
@@ -74,8 +74,8 @@ fn put_solution(n: usize, numbers: &[i64], limit: u64, tolerance: u64, out: &mut
         run.sweeps as i64,
         run.last.turns() as i64,
     ];
-    let at = text::numbers::put(out, 0, &head);
-    put_axes(n, &axes, out, at)
+    let at = text::numbers::put(out, &head);
+    at + put_axes(n, &axes, &mut out[at..])
 }
 
 // A run and its axes as numbers.

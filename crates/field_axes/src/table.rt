@@ -28,9 +28,9 @@ fn put_table(n: usize, dilutions: &[u32], counts: &[u32], out: &mut [i64]) -> us
     let sums = table.scatter;
     let entries = table.entries;
     let size = n * n;
-    let mut at = text::numbers::put(out, 0, &[table.e as i64]);
-    at = text::numbers::put(out, at, &sums[..size]);
-    text::numbers::put(out, at, &entries[..size])
+    let mut at = text::numbers::put(out, &[table.e as i64]);
+    at += text::numbers::put(&mut out[at..], &sums[..size]);
+    at + text::numbers::put(&mut out[at..], &entries[..size])
 }
 
 // A table from readings as numbers.

@@ -1,5 +1,5 @@
 // The line of a refusal with its job: `X`, the refusal's number, its line and the job, parted by tabs.
-ghost use Rattle.std.specs.Prelude.{◌∷◌, ◌+◌, ◌≤◌, length};
+ghost use Rattle.std.specs.Prelude.{◌∷◌, ◌≤◌, length};
 ghost use Rattle.refusal.specs.Refusal.{number_of};
 ghost use Rattle.text.specs.Decimal.{digits};
 ghost use Rattle.text.specs.Put.{Put};
@@ -9,13 +9,13 @@ use refusal::Refusal;
 use text::line::{LINE_FEED, TAB};
 use text::{put_byte, put_natural};
 
-// A tab and a number; these are at most 21 bytes.
-fn put_field(buf: &mut [u8], at: usize, x: u64) -> usize
-    requires { at + 21 ≤ length buf.old }
-    ensures { Put (9 ∷ digits x) at buf.old buf.new result × (result ≤ at + 21) }
+// A tab and a number, at the front of the buffer; these are at most 21 bytes.
+fn put_field(buf: &mut [u8], x: u64) -> usize
+    requires { 21 ≤ length buf.old }
+    ensures { Put (9 ∷ digits x) 0 buf.old buf.new result × (result ≤ 21) }
 {
-    let from = put_byte(buf, at, TAB);
-    put_natural(buf, from, x)
+    let at = put_byte(buf, TAB);
+    at + put_natural(&mut buf[at..], x)
 }
 
 // At the front of the buffer.
@@ -23,9 +23,9 @@ pub(crate) fn put_refused_job(buf: &mut [u8], refusal: Refusal, line: usize, job
     requires { 65 ≤ length buf.old }
     ensures { Put (refused_job_line (number_of refusal) line job) 0 buf.old buf.new result }
 {
-    let mut at = put_byte(buf, 0, b'X');
-    at = put_field(buf, at, u64::from(refusal.number()));
-    at = put_field(buf, at, line as u64);
-    at = put_field(buf, at, job);
-    put_byte(buf, at, LINE_FEED)
+    let mut at = put_byte(buf, b'X');
+    at += put_field(&mut buf[at..], u64::from(refusal.number()));
+    at += put_field(&mut buf[at..], line as u64);
+    at += put_field(&mut buf[at..], job);
+    at + put_byte(&mut buf[at..], LINE_FEED)
 }

@@ -51,7 +51,7 @@ impl Lines {
         ensures { Put (text_of_rows self.now.head self.now.n self.now.rows) 0 buf.old buf.new result }
     {
         let at = put_line(buf, b'T', &self.head);
-        put_rows(buf, at, b'S', &self.rows, self.n, self.n + 1)
+        at + put_rows(&mut buf[at..], b'S', &self.rows, self.n, self.n + 1)
     }
 }
 

@@ -26,7 +26,7 @@ fn put_text(out: &mut [u8], first: &[i64; 3], samples: &Samples, last: &[i64; 1]
         out.old out.new result }
 {
     let mut at = put_line(out, b'P', first);
-    at = samples.put(out, at);
+    at += samples.put(&mut out[at..]);
     at + put_line(&mut out[at..], b'E', last)
 }
 

@@ -43,12 +43,12 @@ impl Samples<'_> {
         total
     }
 
-    // Each line's writer gets the buffer's part from where the last line ended.
-    pub(crate) fn put(&self, out: &mut [u8], from: usize) -> usize
-        requires { from + length (sample_lines self.now.n self.now.dilutions.now self.now.counts.now) ≤ length out.old }
-        ensures { Put (sample_lines self.now.n self.now.dilutions.now self.now.counts.now) from out.old out.new result }
+    // The lines, at the front of the buffer: each line's writer gets the buffer's part from where the last line ended.
+    pub(crate) fn put(&self, out: &mut [u8]) -> usize
+        requires { length (sample_lines self.now.n self.now.dilutions.now self.now.counts.now) ≤ length out.old }
+        ensures { Put (sample_lines self.now.n self.now.dilutions.now self.now.counts.now) 0 out.old out.new result }
     {
-        let mut at = from;
+        let mut at = 0;
         for i in 0..self.dilutions.len() {
             at += put_line(&mut out[at..], b'S', &self.numbers(i)[..=self.n]);
         }

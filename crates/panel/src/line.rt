@@ -57,11 +57,11 @@ fn put_fields(buf: &mut [u8], numbers: &[i64], word: &[u8]) -> usize
     requires { (1 ≤ length numbers.now) × (length (fields_line numbers.now word.now) ≤ length buf.old) }
     ensures { Put (fields_line numbers.now word.now) 0 buf.old buf.new result }
 {
-    let mut at = put_number(buf, 0, numbers[0]);
-    at = text::line::put_numbers(buf, at, &numbers[1..]);
-    at = put_byte(buf, at, TAB);
-    at = put_bytes(buf, at, word);
-    put_byte(buf, at, LINE_FEED)
+    let mut at = put_number(buf, numbers[0]);
+    at += text::line::put_numbers(&mut buf[at..], &numbers[1..]);
+    at += put_byte(&mut buf[at..], TAB);
+    at += put_bytes(&mut buf[at..], word);
+    at + put_byte(&mut buf[at..], LINE_FEED)
 }
 
 // The line, at the front of the buffer.

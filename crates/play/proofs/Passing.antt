@@ -11,8 +11,8 @@ use lib.Seq.{length-take-le}
 use Rattle.std.proofs.Common.{Err, None, Ok, Some}
 use Rattle.refusal.specs.Refusal.{numbered}
 use Rattle.record.specs.declared.Record.{Record}
-use Rattle.text.specs.Put.{Put, fitted}
-use Rattle.text.specs.laws.Put.{front_length, put-nothing, put_then, same_size}
+use Rattle.text.specs.Put.{Put, fitted, part, with_part}
+use Rattle.text.specs.laws.Put.{front_length, part-size, put-nothing, put-part}
 use Rattle.record.specs.Record.{fresh}
 use Rattle.play.specs.Buffer.{PlaysAll, played_into, output_of}
 use Rattle.play.specs.Steps.{Reached, Steps, begun, start_cursor}
@@ -70,19 +70,19 @@ module _ (text : List ℕ) (here : Cursor) (r : Record) (z : Stepped) (after : R
       fits_on on more = q ∙ rw (prints-more text false here r z after s on more, length-append, size) (less z.line.len _ left h)
 
   module _ {entry buf : List ℕ} {end : ℕ} (b : Wrote text r here entry buf end) where
-    pub room : length (played false text) ≤ length entry → end + length (take z.line.len z.line.bytes) ≤ length buf
+    pub room : length (played false text) ≤ length entry → length (take z.line.len z.line.bytes) ≤ length (part (length buf) end buf)
     unfolding printed_by
     room h =
         let whole : length (played false text) ≡ length b.lines.before + length (rest text false r here) = rw (b.lines.is, length-append) in
-        rw (size, same_size b.puts) (omega (arith, b.puts.answer, at_least))
+        rw size (omega (arith, b.puts.answer, at_least, part-size b.puts))
 
     -- the buffer and the place after the line is written
-    module _ {out : List ℕ} {next : ℕ} (p : Put (take z.line.len z.line.bytes) end buf out next) where
-      pub written_last : z.next ≡ None → Put (played false text) 0 entry out next
+    module _ {out : List ℕ} {n : ℕ} (p : Put (take z.line.len z.line.bytes) 0 (part (length buf) end buf) out n) where
+      pub written_last : z.next ≡ None → Put (played false text) 0 entry (with_part (length buf) end buf out) (end + n)
       unfolding printed_by
-      written_last last = rw (b.lines.is, prints-last text false here r z after s last) (put_then b.puts p)
+      written_last last = rw (b.lines.is, prints-last text false here r z after s last) (put-part b.puts p)
 
-      pub written-more : (on : Cursor) → z.next ≡ Some on → Wrote text after on entry out next
+      pub written-more : (on : Cursor) → z.next ≡ Some on → Wrote text after on entry (with_part (length buf) end buf out) (end + n)
       unfolding printed_by
       written-more on more = record {
         reached = s.reaches on more;
@@ -90,7 +90,7 @@ module _ (text : List ℕ) (here : Cursor) (r : Record) (z : Stepped) (after : R
           before = b.lines.before ++ printed_by z;
           is = b.lines.is ∙ rw (prints-more text false here r z after s on more, append_assoc);
         };
-        puts = put_then b.puts p;
+        puts = put-part b.puts p;
       }
 
 -- The buffer at exit, by whether what the text prints fits: t.

@@ -40,7 +40,7 @@ pub(crate) fn put_played(text: &[u8], buf: &mut [u8]) -> usize
     let mut end = 0;
     'lines: loop {
         let own = step(&mut r, text, false, here);
-        end = put_bytes(buf, end, own.line.text());
+        end += put_bytes(&mut buf[end..], own.line.text());
         let Some(next) = own.next else {
             return end;
         };

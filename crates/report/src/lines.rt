@@ -35,6 +35,6 @@ impl Lines {
     {
         let word = word_of(self.outcome);
         let at = put_word_line(buf, b'R', &self.head, word);
-        put_rows(buf, at, b'A', &self.axes, self.n, self.n + 3)
+        at + put_rows(&mut buf[at..], b'A', &self.axes, self.n, self.n + 3)
     }
 }

@@ -49,7 +49,7 @@ pub(crate) fn put_line(buf: &mut [u8], numbers: &[i64]) -> usize
     requires { (1 ≤ length numbers.now) × (length (line (map number numbers.now)) ≤ length buf.old) }
     ensures { Put (line (map number numbers.now)) 0 buf.old buf.new result }
 {
-    let mut at = put_number(buf, 0, numbers[0]);
-    at = text::line::put_numbers(buf, at, &numbers[1..]);
-    put_byte(buf, at, LINE_FEED)
+    let mut at = put_number(buf, numbers[0]);
+    at += text::line::put_numbers(&mut buf[at..], &numbers[1..]);
+    at + put_byte(&mut buf[at..], LINE_FEED)
 }

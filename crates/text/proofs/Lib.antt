@@ -1,2 +1,1 @@
-mod Writers
 mod Sign

@@ -1,6 +1,6 @@
 -- What a writer does to a lent buffer, of bytes or of numbers: what it writes stands from the place on that it was given, everything else stays,
 -- and the answer is the place after what was written.
-use Rattle.std.specs.Prelude.{ℕ, ◌+◌, ◌≤◌, ◌≡◌, cond, List, ◌++◌, leb, length, take, drop}
+use Rattle.std.specs.Prelude.{ℕ, ◌+◌, ◌-◌, ◌≤◌, ◌≡◌, cond, List, ◌++◌, leb, length, take, drop}
 
 -- The length of a text, known before its first byte is written, and what it is at most.
 pub record Sized (text : List ℕ) (most r : ℕ) : Type 0 where
@@ -16,3 +16,10 @@ pub record Put {X : Type 0} (text : List X) (at : ℕ) (entry exit : List X) (r 
   pub leaves : exit ≡ take at entry ++ (text ++ drop (length text) (drop at entry))
   pub answer : r ≡ at + length text
   pub within : r ≤ length entry
+
+-- The part `&mut buf[at..]` of a buffer of this size, and the buffer once that part has become y.
+abbrev pub part : {X : Type 0} → ℕ → ℕ → List X → List X
+part size at buffer = take (size - at) (drop at buffer)
+
+abbrev pub with_part : {X : Type 0} → ℕ → ℕ → List X → List X → List X
+with_part size at buffer y = take at buffer ++ (y ++ drop (size - at) (drop at buffer))

@@ -5,7 +5,7 @@ pub mod line;
 pub mod numbers;
 pub mod rows;
 
-ghost use Rattle.std.specs.Prelude.{◌∷◌, [], ◌+◌, ◌≤◌, length};
+ghost use Rattle.std.specs.Prelude.{◌∷◌, [], ◌≤◌, length};
 ghost use Rattle.text.specs.Decimal.{digits, number};
 ghost use Rattle.text.specs.Put.{Put, Sized};
 
@@ -29,53 +29,52 @@ pub(crate) fn number_length(z: i64) -> usize
     if z < 0 { 1 + n } else { n }
 }
 
-// Each writer below puts its text at the place that it is given, and answers the place after it.
-pub fn put_byte(buf: &mut [u8], at: usize, b: u8) -> usize
-    requires { at + 1 ≤ length buf.old }
-    ensures { Put (b ∷ []) at buf.old buf.new result }
+// Each writer puts its text at the front of the buffer that it is given, and answers how long it is.
+pub fn put_byte(buf: &mut [u8], b: u8) -> usize
+    requires { 1 ≤ length buf.old }
+    ensures { Put (b ∷ []) 0 buf.old buf.new result }
 {
-    buf[at] = b;
-    at + 1
+    buf[0] = b;
+    1
 }
 
-pub(crate) fn put<T: Copy>(buf: &mut [T], at: usize, text: &[T]) -> usize
-    requires { at + length text.now ≤ length buf.old }
-    ensures { Put text.now at buf.old buf.new result }
+pub(crate) fn put<T: Copy>(buf: &mut [T], text: &[T]) -> usize
+    requires { length text.now ≤ length buf.old }
+    ensures { Put text.now 0 buf.old buf.new result }
 {
-    let end = at + text.len();
-    buf[at..end].copy_from_slice(text);
-    end
+    buf[..text.len()].copy_from_slice(text);
+    text.len()
 }
 
-pub fn put_bytes(buf: &mut [u8], at: usize, text: &[u8]) -> usize
-    requires { at + length text.now ≤ length buf.old }
-    ensures { Put text.now at buf.old buf.new result }
+pub fn put_bytes(buf: &mut [u8], text: &[u8]) -> usize
+    requires { length text.now ≤ length buf.old }
+    ensures { Put text.now 0 buf.old buf.new result }
 {
-    put(buf, at, text)
+    put(buf, text)
 }
 
 // The digits before the last one are written first.
-pub fn put_natural(buf: &mut [u8], at: usize, x: u64) -> usize
-    requires { at + length (digits x) ≤ length buf.old }
-    ensures { Put (digits x) at buf.old buf.new result }
+pub fn put_natural(buf: &mut [u8], x: u64) -> usize
+    requires { length (digits x) ≤ length buf.old }
+    ensures { Put (digits x) 0 buf.old buf.new result }
 {
     if x < 10 {
-        put_byte(buf, at, b'0' + x as u8)
+        put_byte(buf, b'0' + x as u8)
     } else {
-        let last = put_natural(buf, at, x / 10);
-        put_byte(buf, last, b'0' + (x % 10) as u8)
+        let at = put_natural(buf, x / 10);
+        at + put_byte(&mut buf[at..], b'0' + (x % 10) as u8)
     }
 }
 
-pub fn put_number(buf: &mut [u8], at: usize, z: i64) -> usize
-    requires { at + length (number z) ≤ length buf.old }
-    ensures { Put (number z) at buf.old buf.new result }
+pub fn put_number(buf: &mut [u8], z: i64) -> usize
+    requires { length (number z) ≤ length buf.old }
+    ensures { Put (number z) 0 buf.old buf.new result }
 {
     let size = integer::magnitude(z);
     if z < 0 {
-        let first = put_byte(buf, at, MINUS);
-        put_natural(buf, first, size)
+        let at = put_byte(buf, MINUS);
+        at + put_natural(&mut buf[at..], size)
     } else {
-        put_natural(buf, at, size)
+        put_natural(buf, size)
     }
 }

@@ -24,50 +24,50 @@ pub fn numbers_length(values: &[i64]) -> usize
     total
 }
 
-// The values, each after a tab.
-pub fn put_numbers(buf: &mut [u8], at: usize, values: &[i64]) -> usize
-    requires { at + length (numbers values.now) ≤ length buf.old }
-    ensures { Put (numbers values.now) at buf.old buf.new result }
+// Each writer below puts its text at the front of the buffer. The values, each after a tab.
+pub fn put_numbers(buf: &mut [u8], values: &[i64]) -> usize
+    requires { length (numbers values.now) ≤ length buf.old }
+    ensures { Put (numbers values.now) 0 buf.old buf.new result }
 {
-    let mut next = at;
+    let mut at = 0;
     for value in values {
-        next = put_byte(buf, next, TAB);
-        next = put_number(buf, next, *value);
+        at += put_byte(&mut buf[at..], TAB);
+        at += put_number(&mut buf[at..], *value);
     }
-    next
+    at
 }
 
-// A line of a tag and the values, at the front of the buffer.
+// A line of a tag and the values.
 pub fn put_line(buf: &mut [u8], tag: u8, values: &[i64]) -> usize
     requires { length (number_line tag values.now) ≤ length buf.old }
     ensures { Put (number_line tag values.now) 0 buf.old buf.new result }
 {
-    let mut at = put_byte(buf, 0, tag);
-    at = put_numbers(buf, at, values);
-    put_byte(buf, at, LINE_FEED)
+    let mut at = put_byte(buf, tag);
+    at += put_numbers(&mut buf[at..], values);
+    at + put_byte(&mut buf[at..], LINE_FEED)
 }
 
-// A line of a tag, the values and a word, at the front of the buffer.
+// A line of a tag, the values and a word.
 pub fn put_word_line(buf: &mut [u8], tag: u8, values: &[i64], word: &[u8]) -> usize
     requires { length (word_line tag values.now word.now) ≤ length buf.old }
     ensures { Put (word_line tag values.now word.now) 0 buf.old buf.new result }
 {
-    let mut at = put_byte(buf, 0, tag);
-    at = put_numbers(buf, at, values);
-    at = put_byte(buf, at, TAB);
-    at = put_bytes(buf, at, word);
-    put_byte(buf, at, LINE_FEED)
+    let mut at = put_byte(buf, tag);
+    at += put_numbers(&mut buf[at..], values);
+    at += put_byte(&mut buf[at..], TAB);
+    at += put_bytes(&mut buf[at..], word);
+    at + put_byte(&mut buf[at..], LINE_FEED)
 }
 
-// The line of a refusal, at the front of the buffer.
+// The line of a refusal.
 pub fn put_refusal(buf: &mut [u8], refusal: Refusal, line: usize) -> usize
     requires { 44 ≤ length buf.old }
     ensures { Put (line_x (number_of refusal) line) 0 buf.old buf.new result }
 {
-    let mut at = put_byte(buf, 0, b'X');
-    at = put_byte(buf, at, TAB);
-    at = put_natural(buf, at, u64::from(refusal.number()));
-    at = put_byte(buf, at, TAB);
-    at = put_natural(buf, at, line as u64);
-    put_byte(buf, at, LINE_FEED)
+    let mut at = put_byte(buf, b'X');
+    at += put_byte(&mut buf[at..], TAB);
+    at += put_natural(&mut buf[at..], u64::from(refusal.number()));
+    at += put_byte(&mut buf[at..], TAB);
+    at += put_natural(&mut buf[at..], line as u64);
+    at + put_byte(&mut buf[at..], LINE_FEED)
 }

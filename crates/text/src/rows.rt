@@ -1,5 +1,5 @@
 // Rows of numbers as lines, a tag and the first numbers of a row in each: how long they are together, and the writer.
-ghost use Rattle.std.specs.Prelude.{◌+◌, ◌≤◌, length};
+ghost use Rattle.std.specs.Prelude.{◌≤◌, length};
 ghost use Rattle.text.specs.Put.{Put};
 ghost use Rattle.text.specs.Lines.{lines};
 ghost use Rattle.text.specs.Rows.{RowsSized, Wide, row_line};
@@ -18,19 +18,12 @@ pub fn rows_length(rows: &[[i64; 11]; 8], n: usize, width: usize) -> usize
     total
 }
 
-// Each line's writer gets the buffer's part from where the last line ended.
-pub fn put_rows(
-    buf: &mut [u8],
-    from: usize,
-    tag: u8,
-    rows: &[[i64; 11]; 8],
-    n: usize,
-    width: usize,
-) -> usize
-    requires { (n ≤ 8) × (width ≤ 11) × Wide rows.now × (from + length (lines (row_line tag width rows.now) n) ≤ length buf.old) }
-    ensures { Put (lines (row_line tag width rows.now) n) from buf.old buf.new result }
+// The lines, at the front of the buffer: each line's writer gets the buffer's part from where the last line ended.
+pub fn put_rows(buf: &mut [u8], tag: u8, rows: &[[i64; 11]; 8], n: usize, width: usize) -> usize
+    requires { (n ≤ 8) × (width ≤ 11) × Wide rows.now × (length (lines (row_line tag width rows.now) n) ≤ length buf.old) }
+    ensures { Put (lines (row_line tag width rows.now) n) 0 buf.old buf.new result }
 {
-    let mut at = from;
+    let mut at = 0;
     for row in &rows[..n] {
         at += put_line(&mut buf[at..], tag, &row[..width]);
     }

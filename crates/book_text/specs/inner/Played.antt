@@ -1,5 +1,5 @@
 -- What private functions promise of a call's line.
-use Rattle.std.specs.Prelude.{ℕ, ◌+◌, ◌*◌, ◌≤◌, ◌≡◌, List, [], ◌∷◌, map, ℤ, Option, Some, None, Result, Ok, Err}
+use Rattle.std.specs.Prelude.{ℕ, ◌*◌, ◌≤◌, ◌≡◌, List, [], ◌∷◌, map, ℤ, Option, Some, None, Result, Ok, Err}
 use Rattle.refusal.specs.Refusal.{number_of}
 use Rattle.refusal.specs.declared.Refusal.{Refusal}
 use Rattle.text.specs.Decimal.{digits}
@@ -26,9 +26,9 @@ use Rattle.book_text.specs.declared.step.BookStep.{BookStep}
 unfoldable pub naturals : List ℕ → List ℕ
 naturals xs = further (map digits xs)
 
-pub record NaturalsPut (xs : List ℕ) (at most : ℕ) (entry exit : List ℕ) (r : ℕ) : Type 0 where
-  pub puts : Put (naturals xs) at entry exit r
-  pub bounded : r ≤ at + 21 * most
+pub record NaturalsPut (xs : List ℕ) (most : ℕ) (entry exit : List ℕ) (r : ℕ) : Type 0 where
+  pub puts : Put (naturals xs) 0 entry exit r
+  pub bounded : r ≤ 21 * most
 
 -- the line of an answer that has one number or none, or of a refusal
 unfoldable pub short_text : Result BookAnswer Refusal → List ℕ

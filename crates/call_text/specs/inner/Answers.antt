@@ -1,5 +1,5 @@
 -- What private functions promise: The line that a call's answer prints.
-use Rattle.std.specs.Prelude.{ℕ, ◌+◌, ◌≤◌, ◌≡◌, List, ◌∷◌}
+use Rattle.std.specs.Prelude.{ℕ, ◌≤◌, ◌≡◌, List, ◌∷◌}
 use Rattle.text.specs.Put.{Put}
 use Rattle.call_text.specs.declared.answer.Printed.{Printed}
 use Rattle.call_text.specs.Answers.{line_printed}
@@ -9,6 +9,6 @@ pub record Prints (text : List ℕ) (r : Printed) : Type 0 where
   pub short : r.len ≤ 256
 
 -- a tab and a field, of at most 20 bytes
-pub record FieldPut (field : List ℕ) (at : ℕ) (entry exit : List ℕ) (r : ℕ) : Type 0 where
-  pub puts : Put (9 ∷ field) at entry exit r
-  pub bounded : r ≤ at + 21
+pub record FieldPut (field entry exit : List ℕ) (r : ℕ) : Type 0 where
+  pub puts : Put (9 ∷ field) 0 entry exit r
+  pub bounded : r ≤ 21

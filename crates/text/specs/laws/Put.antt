@@ -4,7 +4,7 @@ use Rattle.std.proofs.Common.{sym, ◌∙◌, append_assoc, append-nil, zero-add
 use Rattle.std.proofs.Common.{take-append-drop, drop_of_length-le, take_at, drop_at, drop-drop, length-take-le, take_all}
 use Rattle.std.proofs.Common.{add-one}
 use Rattle.std.proofs.Math.Seq.{take-length, paste, paste-suc}
-use Rattle.text.specs.Put.{Put}
+use Rattle.text.specs.Put.{Put, part, with_part}
 
 pub put-nothing : {X : Type 0} (at : ℕ) (entry : List X) → at ≤ length entry → Put [] at entry entry at
 put-nothing at entry h = record { leaves = sym (take-append-drop at entry); answer = sym (add-zero at); within = h }
@@ -38,20 +38,30 @@ module _ {X : Type 0} {t e x : List X} {a r : ℕ} (p : Put t a e x r) where
     within = rw same_size at q.within;
   }
 
-  pub part-size : r + length (take (length x - r) (drop r x)) ≡ length e
+  pub part-size : r + length (part (length x) r x) ≡ length e
   part-size = rw (rest_all r x, length-drop) (let w = p.within in omega (arith, same_size))
 
   past : drop (length x - r) (drop r x) ≡ []
   past = drop_of_length-le (drop r x) {i = length x - r} (rw length-drop (omega arith))
 
   -- A text that is written at the front of the part `&mut buf[r..]`, which comes back after what stands before it.
-  pub put-part : {u y : List X} {s : ℕ} → Put u 0 (take (length x - r) (drop r x)) y s
-      → Put (t ++ u) a e (take r x ++ (y ++ drop (length x - r) (drop r x))) (r + s)
+  pub put-part : {u y : List X} {s : ℕ} → Put u 0 (part (length x) r x) y s → Put (t ++ u) a e (with_part (length x) r x y) (r + s)
   put-part {u} {y} {s} q = put_then (record {
     leaves = rw (past, append-nil, q.leaves, rest_all r x);
     answer = rw (q.answer, zero-add);
     within = omega (arith, q.within, part-size, same_size);
   })
+
+  -- The same of an array, whose size is known.
+  module _ {size : ℕ} (known : size ≡ length e) where
+    as-long : size ≡ length x
+    as-long = known ∙ sym same_size
+
+    pub array-size : r + length (part size r x) ≡ size
+    array-size = rw as-long (part-size ∙ sym same_size)
+
+    pub array-part : {u y : List X} {s : ℕ} → Put u 0 (part size r x) y s → Put (t ++ u) a e (with_part size r x y) (r + s)
+    array-part q = rw as-long (put-part (rw as-long at q))
 
 -- The same text by another name.
 pub same-put : {X : Type 0} {t u e x : List X} {at r : ℕ} → t ≡ u → Put t at e x r → Put u at e x r

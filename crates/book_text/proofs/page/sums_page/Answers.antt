@@ -1,8 +1,12 @@
--- `page::sums_page` meets its contract.
-use Rattle.book_text.proofs.Paging.{sums-paged}
+-- `page::sums_page` meets its contract: each field stands where the last one ended.
+use Rattle.std.proofs.Common.{refl}
+use Rattle.text.specs.laws.Put.{array-part}
+use Rattle.book_text.proofs.Paging.{paged, sums-text}
 use Rattle.book_text.proofs.page.sums_page.Goals as goal
 
 pub returns : goal.returns
 returns c =
-    sums-paged _ _ c.put_byte-first.ensures c.natural_field-second.ensures c.put_naturals-third.ensures c.put_cross-end.ensures
-    c.put_byte-len.ensures
+    let number = array-part c.put_byte-at.ensures {size = 2048} refl c.natural_field-at.ensures.puts in
+    let channels = array-part number {size = 2048} refl c.put_naturals-at.ensures.puts in
+    let pairs = array-part channels {size = 2048} refl c.put_cross-at.ensures.puts in
+    paged _ (array-part pairs {size = 2048} refl c.put_byte.ensures) (sums-text c.args.n c.args.t)

@@ -1,11 +1,13 @@
 -- `page::tagged` meets its contract.
+use Rattle.std.proofs.Common.{refl}
 use Rattle.text.specs.Line.{line}
-use Rattle.text.specs.laws.Put.{put_then}
+use Rattle.text.specs.laws.Put.{array-part}
 use Rattle.book_text.specs.inner.Played.{naturals}
 use Rattle.book_text.proofs.Paging.{paged}
-use Rattle.std.proofs.Common.{refl}
 use Rattle.book_text.proofs.page.tagged.Goals as goal
 
 pub returns : goal.returns
 unfolding line naturals
-returns c = paged _ (put_then (put_then c.put_byte-first.ensures c.put_naturals-end.ensures.puts) c.put_byte-len.ensures) refl
+returns c =
+    let numbers = array-part c.put_byte-at.ensures {size = 2048} refl c.put_naturals-at.ensures.puts in
+    paged _ (array-part numbers {size = 2048} refl c.put_byte.ensures) refl

@@ -1,33 +1,39 @@
 -- `axis_line` meets its contract: the tag, the fields and the line feed, each where the last one ended.
-use Rattle.std.proofs.Common.{◌≡◌, arith, length, take}
+use Rattle.std.proofs.Common.{◌≡◌, arith, length, refl, take}
 use mir.Facts.{to_z-of_z}
 use borrow.Author.Rules.{rules}
-use Rattle.call_text.proofs.Printing.{axis-printed, element-size, entry-end, numbers-bound, one-bound}
+use Rattle.text.specs.laws.Put.{array-part, array-size}
+use Rattle.call_text.proofs.Printing.{axis-text, element-size, numbers-bound, one-bound, printed}
 use Rattle.call_text.proofs.answer.axis_line.Goals as goal
 
-pub put_numbers-second-requires : goal.put_numbers-second-requires
-put_numbers-second-requires c =
-    rw (to_z-of_z c.ranges.entry) (omega (arith, one-bound c.args.entry c.ranges.entry.sfits, c.put_byte-first.ensures.answer))
+pub put_numbers-at-requires : goal.put_numbers-at-requires
+put_numbers-at-requires c =
+    rw (to_z-of_z c.ranges.entry) (omega (arith, one-bound c.args.entry c.ranges.entry.sfits, array-size c.put_byte-at.ensures {size = 256} refl))
 
-pub natural_field-third-requires : goal.natural_field-third-requires
-natural_field-third-requires c =
-    let e = entry-end c.args.entry c.ranges.entry.sfits c.put_byte-first.ensures (rw (to_z-of_z c.ranges.entry) at c.put_numbers-second.ensures) in
-    omega arith
+pub natural_field-at-requires : goal.natural_field-at-requires
+natural_field-at-requires c =
+    let entry = array-part c.put_byte-at.ensures {size = 256} refl (rw (to_z-of_z c.ranges.entry) at c.put_numbers-at.ensures) in
+    omega (arith, one-bound c.args.entry c.ranges.entry.sfits, array-size entry {size = 256} refl)
 
-pub put_numbers-end-requires : goal.put_numbers-end-requires
-put_numbers-end-requires c =
+pub put_numbers-at-requires-2 : goal.put_numbers-at-requires-2
+put_numbers-at-requires-2 c =
     let l : length c.args.row ≡ 8 = search rules in
-    let e = entry-end c.args.entry c.ranges.entry.sfits c.put_byte-first.ensures (rw (to_z-of_z c.ranges.entry) at c.put_numbers-second.ensures) in
+    let entry = array-part c.put_byte-at.ensures {size = 256} refl (rw (to_z-of_z c.ranges.entry) at c.put_numbers-at.ensures) in
+    let error = array-part entry {size = 256} refl c.natural_field-at.ensures.puts in
     let r = numbers-bound c.args.row (λ i. search (rules, element-size)) c.args.n in
-    omega (arith, c.natural_field-third.ensures.bounded, c.natural_field-third.auto)
+    omega (arith, one-bound c.args.entry c.ranges.entry.sfits, c.natural_field-at.ensures.bounded, array-size error {size = 256} refl)
 
-pub put_byte-len-requires : goal.put_byte-len-requires
-put_byte-len-requires c =
-    let e = entry-end c.args.entry c.ranges.entry.sfits c.put_byte-first.ensures (rw (to_z-of_z c.ranges.entry) at c.put_numbers-second.ensures) in
+pub put_byte-requires : goal.put_byte-requires
+put_byte-requires c =
+    let entry = array-part c.put_byte-at.ensures {size = 256} refl (rw (to_z-of_z c.ranges.entry) at c.put_numbers-at.ensures) in
+    let error = array-part entry {size = 256} refl c.natural_field-at.ensures.puts in
+    let numbers = array-part error {size = 256} refl c.put_numbers-at-2.ensures in
     let r = numbers-bound c.args.row (λ i. search (rules, element-size)) c.args.n in
-    omega (arith, c.natural_field-third.ensures.bounded, c.put_numbers-end.ensures.answer, c.put_numbers-end.auto)
+    omega (arith, one-bound c.args.entry c.ranges.entry.sfits, c.natural_field-at.ensures.bounded, array-size numbers {size = 256} refl)
 
 pub returns : goal.returns
 returns c =
-    axis-printed _ (take c.args.n c.args.row) c.put_byte-first.ensures (rw (to_z-of_z c.ranges.entry) at c.put_numbers-second.ensures)
-    c.natural_field-third.ensures c.put_numbers-end.ensures c.put_byte-len.ensures
+    let entry = array-part c.put_byte-at.ensures {size = 256} refl (rw (to_z-of_z c.ranges.entry) at c.put_numbers-at.ensures) in
+    let error = array-part entry {size = 256} refl c.natural_field-at.ensures.puts in
+    let numbers = array-part error {size = 256} refl c.put_numbers-at-2.ensures in
+    printed _ (array-part numbers {size = 256} refl c.put_byte.ensures) (axis-text c.args.entry _ (take c.args.n c.args.row))

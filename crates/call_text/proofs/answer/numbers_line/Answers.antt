@@ -10,4 +10,4 @@ pub loop-x-preserved : goal.loop-x-preserved
 loop-x-preserved c = line-on _ _ c.loop-x-test.true c.loop-x.invariant c.natural_field-at.ensures
 
 pub returns : goal.returns
-returns c = line-printed _ _ (omega arith) c.loop-x.invariant c.put_byte-len.ensures
+returns c = line-printed _ _ (omega arith) c.loop-x.invariant c.put_byte.ensures

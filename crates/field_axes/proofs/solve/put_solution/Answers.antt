@@ -11,7 +11,7 @@ use Rattle.record.specs.declared.run.Run.{Run}
 use Rattle.run.specs.Run.{run_of}
 use Rattle.run.specs.laws.Calls.{matrix-begins, run-calls}
 use Rattle.run.specs.laws.Course.{run_ends}
-use Rattle.text.specs.laws.Put.{put_then, same_size}
+use Rattle.text.specs.laws.Put.{part-size, put-part}
 use Rattle.field_axes.specs.Solution.{solution, solution_of}
 use Rattle.field_axes.specs.laws.Solvable.{channels}
 use Rattle.field_axes.proofs.Following.{used-axes}
@@ -28,7 +28,7 @@ pub put_axes-requires : goal.put_axes-requires
 put_axes-requires c = (
   channels _ _ _ _ _ c.requires,
   record { wide = rw c.axes_numbers-axes.ensures (length-axes-row _) },
-  omega (arith, c.put-at.ensures.answer, same_size c.put-at.ensures, c.requires.room),
+  omega (arith, c.put-at.ensures.answer, part-size c.put-at.ensures, c.requires.room),
 )
 
 pub returns : goal.returns
@@ -42,6 +42,6 @@ returns c =
     let axes-are = used-axes a.n (run_of a.n a.numbers.now a.limit a.tolerance).last calls.channels few a.n (omega arith) in
     let sweeps = few-sweeps _ _ _ _ _ c.run-run.ensures.is c.requires.allowed.sweeps in
     let turns : c.turns.result < 2 ^ 63 = omega (arith, c.run-run.ensures.keeps.solver.turns) in
-    put_then
+    put-part
     (rw (to_z-of_z f, c.outcome_number.ensures, to_z_pos w64 sweeps, to_z_pos w64 turns, c.turns.ensures, c.run-run.ensures.is) at c.put-at.ensures)
     (rw (c.axes_numbers-axes.ensures, c.run-run.ensures.is, axes-are) at c.put_axes.ensures)

@@ -2,7 +2,7 @@
 use Rattle.std.proofs.Common.{◌<◌, ◌^◌, arith}
 use mir.Syntax.{w64}
 use mir.Facts.{to_z_pos}
-use Rattle.text.specs.laws.Put.{put_then}
+use Rattle.text.specs.laws.Put.{put-part}
 use Rattle.field_axes.specs.Table.{table_numbers, table_numbers_of}
 use Rattle.field_axes.proofs.table.put_table.Goals as goal
 
@@ -11,4 +11,4 @@ unfolding table_numbers_of table_numbers
 returns c =
     let small : c.table_of_readings-table.result.e < 2 ^ 63 = omega arith in
     rw (← c.table_of_readings-table.ensures)
-    (put_then (rw (to_z_pos w64 small) at c.put-at.ensures) (put_then c.put-at-2.ensures c.put.ensures))
+    (put-part (put-part (rw (to_z_pos w64 small) at c.put-at.ensures) c.put-at-2.ensures) c.put.ensures)

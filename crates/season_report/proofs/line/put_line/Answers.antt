@@ -3,7 +3,7 @@ use Rattle.std.proofs.Common.{◌≡◌, ◌+◌, ◌-◌, ◌≤◌, ℕ, ℤ, 
 use mir.Facts.{to_z-of_z}
 use Rattle.text.specs.Decimal.{number}
 use Rattle.text.specs.Line.{line, numbers}
-use Rattle.text.specs.laws.Put.{put_then, rest_all}
+use Rattle.text.specs.laws.Put.{part-size, put-part, rest_all}
 use Rattle.season_report.specs.laws.Text.{line_first, line-parts}
 use Rattle.season_report.proofs.line.put_line.Goals as goal
 
@@ -26,7 +26,7 @@ put_numbers-at-requires c =
     let zs = c.args.numbers.now in
     let fits : FitsSigned w64 (get_or zs 0 (pos 0)) = search rules in
     let first = rw (to_z-of_z fits) at c.put_number-at.ensures in
-    rw (others zs) (omega (arith, room _ _ c.requires, first.answer, c.put_number-at.auto))
+    rw (others zs) (omega (arith, room _ _ c.requires, part-size first))
 
 pub put_byte-requires : goal.put_byte-requires
 put_byte-requires c =
@@ -34,7 +34,7 @@ put_byte-requires c =
     let fits : FitsSigned w64 (get_or zs 0 (pos 0)) = search rules in
     let first = rw (to_z-of_z fits) at c.put_number-at.ensures in
     let next = rw (others zs) at c.put_numbers-at.ensures in
-    omega (arith, room _ _ c.requires, first.answer, c.put_number-at.auto, next.answer, c.put_numbers-at.auto)
+    omega (arith, room _ _ c.requires, first.answer, next.answer, part-size (put-part first next))
 
 pub returns : goal.returns
 returns c =
@@ -42,4 +42,4 @@ returns c =
     let fits : FitsSigned w64 (get_or zs 0 (pos 0)) = search rules in
     let first = rw (to_z-of_z fits) at c.put_number-at.ensures in
     let next = rw (others zs) at c.put_numbers-at.ensures in
-    rw (line_first zs c.requires.0) (put_then (put_then first next) c.put_byte.ensures)
+    rw (line_first zs c.requires.0) (put-part (put-part first next) c.put_byte.ensures)

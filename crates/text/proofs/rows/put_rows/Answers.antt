@@ -7,7 +7,7 @@ use Rattle.text.specs.Rows.{row_line}
 use Rattle.text.proofs.rows.put_rows.Goals as goal
 
 pub loop-row-init : goal.loop-row-init
-loop-row-init c = rw (lines_none (row_line _ _ _)) (put-nothing c.args.from c.args.buf.now (omega arith))
+loop-row-init c = rw (lines_none (row_line _ _ _)) (put-nothing 0 c.args.buf.now (omega arith))
 
 pub put_line-at-requires : goal.put_line-at-requires
 put_line-at-requires c =

@@ -5,4 +5,4 @@ use Rattle.text.specs.Rows.{row_line}
 use Rattle.text.proofs.rows.put_rows.Given as goal
 
 abbrev pub invariant-loop-row : goal.invariant-loop-row
-invariant-loop-row l = Put (lines (row_line l.tag l.width l.rows) l.row-index) l.from l.fn.buf l.buf l.at
+invariant-loop-row l = Put (lines (row_line l.tag l.width l.rows) l.row-index) 0 l.fn.buf l.buf l.at

@@ -1,6 +1,6 @@
 -- The first line, and the rows after it.
 use Rattle.std.proofs.Common.{arith, length-append}
-use Rattle.text.specs.laws.Put.{put_then}
+use Rattle.text.specs.laws.Put.{part-size, put-part}
 use Rattle.job_table.specs.inner.Done.{text_of_rows}
 use Rattle.job_table.proofs.lines.Lines.put.Goals as goal
 
@@ -13,8 +13,8 @@ unfolding text_of_rows
 put_rows-requires c =
     let sized = rw length-append at c.requires in
     let few = c.args.self.now.few in
-    (few, omega arith, c.args.self.now.wide, omega arith)
+    (few, omega arith, c.args.self.now.wide, omega (arith, part-size c.put_line-at.ensures))
 
 pub returns : goal.returns
 unfolding text_of_rows
-returns c = put_then c.put_line-at.ensures c.put_rows.ensures
+returns c = put-part c.put_line-at.ensures c.put_rows.ensures

@@ -7,7 +7,7 @@ use Rattle.job_text.specs.JobText.{sample_line}
 use Rattle.job_text.proofs.samples.Samples.put.Goals as goal
 
 pub loop-i-init : goal.loop-i-init
-loop-i-init c = rw (lines_none (sample_line _ _ _)) (put-nothing c.args.from c.args.out.now (omega arith))
+loop-i-init c = rw (lines_none (sample_line _ _ _)) (put-nothing 0 c.args.out.now (omega arith))
 
 pub put_line-at-requires : goal.put_line-at-requires
 unfolding sample_line

@@ -5,4 +5,4 @@ use Rattle.job_text.specs.JobText.{sample_line}
 use Rattle.job_text.proofs.samples.Samples.put.Given as goal
 
 abbrev pub invariant-loop-i : goal.invariant-loop-i
-invariant-loop-i l = Put (lines (sample_line l.self.n l.self.dilutions.now l.self.counts.now) l.i) l.from l.fn.out l.out l.at
+invariant-loop-i l = Put (lines (sample_line l.self.n l.self.dilutions.now l.self.counts.now) l.i) 0 l.fn.out l.out l.at

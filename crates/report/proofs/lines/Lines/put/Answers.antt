@@ -1,6 +1,6 @@
 -- `Lines::put` meets its contract: the R line, and the A lines after it.
 use native.Mathlib.Omega.{arith}
-use Rattle.text.specs.laws.Put.{put_then}
+use Rattle.text.specs.laws.Put.{part-size, put-part}
 use Rattle.report.specs.inner.Text.{text_of}
 use Rattle.report.proofs.Written.{text-size}
 use Rattle.report.proofs.lines.Lines.put.Goals as goal
@@ -17,9 +17,9 @@ put_rows-requires c =
       lines.few,
       omega (arith, lines.few),
       lines.wide,
-      omega (arith, text-size lines.head lines.outcome lines.axes lines.n, first.answer),
+      omega (arith, text-size lines.head lines.outcome lines.axes lines.n, part-size first),
     )
 
 pub returns : goal.returns
 unfolding text_of
-returns c = put_then (rw c.word_of-word.ensures at c.put_word_line-at.ensures) c.put_rows.ensures
+returns c = put-part (rw c.word_of-word.ensures at c.put_word_line-at.ensures) c.put_rows.ensures
