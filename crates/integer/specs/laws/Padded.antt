@@ -1,9 +1,8 @@
 -- Laws of a padded list: its length, what stands at each place, its front, what storing after it makes, and what taking elements out leaves.
 use Rattle.std.specs.Prelude.{◌≡◌, refl, List, [], ◌∷◌, ◌++◌, ℕ, zero, suc, ◌+◌, ◌-◌, ◌≤◌, get_or, take, drop}
 use Rattle.std.proofs.Common.{sym, ap, ◌∙◌, append_assoc, arith}
-use Rattle.std.proofs.Math.Nat.{sub-zero, zero-sub, suc-sub-suc}
 use Rattle.std.proofs.Math.ListN.{length, replicate, length-append, replicate-append-replicate}
-use Rattle.std.proofs.lemmas.List.{length-replicate}
+use Rattle.std.proofs.lemmas.List.{drop-replicate, length-replicate}
 use Rattle.std.proofs.lemmas.List.Edits.{sets}
 use Rattle.std.proofs.Math.Seq.{sets-eq, take-append_seam, drop-append-add, drop-append_seam}
 use Rattle.integer.specs.Padded.{padded}
@@ -32,11 +31,6 @@ module _ {A : Type 0} where
   pub padded-take : (m : ℕ) (d : A) (xs : List A) → take (length xs) (padded m d xs) ≡ xs
   unfolding padded
   padded-take m d xs = take-append_seam xs (replicate (m - length xs) d)
-
-  drop-replicate : (i m : ℕ) (x : A) → drop i (replicate m x) ≡ replicate (m - i) x
-  drop-replicate zero m x = ap (λ (k : ℕ). replicate k x) (sym (sub-zero m))
-  drop-replicate (suc i) zero x = ap (λ (k : ℕ). replicate k x) (sym (zero-sub (suc i)))
-  drop-replicate (suc i) (suc m) x = drop-replicate i m x ∙ ap (λ (k : ℕ). replicate k x) (sym (suc-sub-suc m i))
 
   -- elements stored after the list
   pub padded-more : (m : ℕ) (d : A) (xs ys : List A) → length xs + length ys ≤ m →

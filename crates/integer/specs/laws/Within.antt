@@ -1,8 +1,10 @@
--- Laws of numbers within a range: what the test tells, of one and of each of a list; of two lists one after the other, and of a list's parts.
+-- Laws of numbers within a range: what the test tells, of one and of each of a list, which is also the library's test; of two lists one after the
+-- other, and of a list's parts.
 use Prim.Native.Nat.{ℕ, zero, suc, ◌≤◌, ◌<◌}
 use Rattle.std.specs.Prelude.{◌≡◌, Bool, true, false, ◌&&◌, leb, length, get_or, take, drop}
-use Rattle.std.proofs.Math.Path.{refl}
+use Rattle.std.proofs.Math.Path.{refl, ap}
 use Rattle.std.proofs.lemmas.Bool.{false≢true}
+use Rattle.std.specs.List.{list_all}
 use mathlib.Core.List.{List, [], ◌∷◌, ◌++◌}
 use Rattle.std.proofs.Common.{arith, leb-true}
 use Rattle.integer.specs.Within.{within, all_within}
@@ -16,6 +18,12 @@ unfolding within
 is_within low high x e =
     let p = both (leb low x) (leb x high) e in
     (leb-true low x p.0, leb-true x high p.1)
+
+-- as the library tests each of a list
+pub list_all-within : (low high : ℕ) (xs : List ℕ) → list_all (within low high) xs ≡ all_within low high xs
+unfolding all_within
+list_all-within low high [] = refl
+list_all-within low high (x ∷ xs) = ap (λ b. within low high x && b) (list_all-within low high xs)
 
 -- a number of the list is at most the range's end, and so is what stands for one past it
 pub all-at : (low high : ℕ) (xs : List ℕ) → all_within low high xs ≡ true → (i : ℕ) → get_or xs i 0 ≤ high
