@@ -7,6 +7,7 @@ use Rattle.std.proofs.Common.{None, Some}
 use native.Mathlib.Nat.{pow-suc, pow-le-pow_right, mul-le-mul_right}
 use native.Mathlib.Numerals.{add-one}
 use native.Mathlib.Omega.{arith}
+use Rattle.std.proofs.lemmas.Bool.{and_parts}
 use borrow.Author.Tests.{ne_eqb, lt-leb, le-leb, lt-ltb, leb-true}
 use lib.Dec.{eqb, leb, ltb, lit<}
 use lib.IntN.{ℤ}
@@ -16,16 +17,9 @@ use lib.Seq.{drop-cons}
 use Rattle.integer.specs.Signed.{signed}
 use Rattle.text.specs.Numeral.{leading_zero, value_from}
 use Rattle.integer.specs.Within.{all_within, within}
-use Rattle.integer.specs.laws.Within.{both, is_within}
+use Rattle.integer.specs.laws.Within.{is_within}
 use Rattle.call_text.specs.Numbers.{beyond, digit_limit, numeral, signed_of, stands_for, unsigned_of, with_minus, without_minus}
 use Rattle.std.specs.Cmp.Lexicographic.{pointwise}
-use Rattle.std.specs.List.{list_all}
-
--- whether all bytes are digits
-pub digits-all : (f : List ℕ) → list_all (within 48 57) f ≡ all_within 48 57 f
-unfolding all_within
-digits-all [] = refl
-digits-all (b ∷ bs) = rw (digits-all bs)
 
 -- the value r of a field of digits, of which those before byte i have the value v
 module _ (r : ℕ) (f : List ℕ) (i v : ℕ) (q : r ≡ value_from v (drop i f)) where
@@ -43,7 +37,7 @@ module _ (f : List ℕ) (i : ℕ) (d : all_within 48 57 (drop i f) ≡ true) (h 
   unfolding all_within
   parted =
       let p : drop i f ≡ get_or f i 0 ∷ drop (i + 1) f = drop-cons f i 0 h ∙ rw (add-one i) in
-      both (within 48 57 (get_or f i 0)) (all_within 48 57 (drop (i + 1) f)) (sym (ap (all_within 48 57) p) ∙ d)
+      and_parts (within 48 57 (get_or f i 0)) (all_within 48 57 (drop (i + 1) f)) (sym (ap (all_within 48 57) p) ∙ d)
 
   pub a-digit : (48 ≤ get_or f i 0) × (get_or f i 0 ≤ 57)
   a-digit = is_within 48 57 _ parted.0
@@ -89,8 +83,8 @@ pub ruleset zeros = (zero_short, zero_first, zero_no)
 numeral-only : (f : List ℕ) → numeral f ≡ true → all_within 48 57 f ≡ true
 unfolding numeral
 numeral-only f e =
-    let d = (both (ltb 0 (length f)) (not (leading_zero f) && all_within 48 57 f) e).1 in
-    (both (not (leading_zero f)) (all_within 48 57 f) d).1
+    let d = (and_parts (ltb 0 (length f)) (not (leading_zero f) && all_within 48 57 f) e).1 in
+    (and_parts (not (leading_zero f)) (all_within 48 57 f) d).1
 
 -- a field's number, by whether it is a numeral
 module _ (f : List ℕ) where
@@ -117,7 +111,7 @@ value-below : (f : List ℕ) (v : ℕ) → all_within 48 57 f ≡ true → value
 unfolding value_from all_within within
 value-below [] v e = omega arith
 value-below (b ∷ bs) v e =
-    let p = both (within 48 57 b) (all_within 48 57 bs) e in
+    let p = and_parts (within 48 57 b) (all_within 48 57 bs) e in
     let d = is_within 48 57 b p.0 in
     let h = value-below bs (v * 10 + (b - 48)) p.1 in
     let k : (v * 10 + (b - 48) + 1) * 10 ^ length bs ≤ (v + 1) * 10 * 10 ^ length bs = mul-le-mul_right (10 ^ length bs) (omega arith) in
@@ -154,7 +148,7 @@ module _ (f : List ℕ) where
       where
         by : (f : List ℕ) → pointwise eqb (take 1 f) (45 ∷ []) ≡ true → signed_of f ≡ with_minus (unsigned_of (drop 1 f))
         by [] e = absurd (true≢false (sym e))
-        by (b ∷ bs) e = rw (both (eqb b 45) true e).0
+        by (b ∷ bs) e = rw (and_parts (eqb b 45) true e).0
 
     pub minus-none : None ≡ unsigned_of (drop 1 f) → None ≡ signed_of f
     unfolding with_minus

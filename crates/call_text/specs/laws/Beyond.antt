@@ -3,7 +3,7 @@
 -- 4,294,967,295 for a dilution or a count, and a reading that is in a range is the number itself.
 use Rattle.std.specs.Prelude.{ℕ, ◌≤◌, ◌<◌, ◌≡◌, Bool, cond, ◌&&◌, List, [], ◌∷◌, ◌++◌, ℤ, nat_abs, negsuc, pos}
 use Rattle.std.proofs.Math.Path.{refl}
-use Rattle.std.proofs.Math.Bool.{true, false}
+use Rattle.std.proofs.Math.Bool.{true, false, and-false}
 use Rattle.std.proofs.Common.{arith}
 use borrow.Author.Tests.{lt-leb, lt-ltb, ltb-true}
 use Rattle.std.proofs.Math.Dec.{leb, ltb}
@@ -20,10 +20,6 @@ use Rattle.call_text.specs.Numbers.{beyond}
 pub bench-beyond : is_bench beyond ≡ false
 unfolding is_bench within
 bench-beyond = refl
-
-and-false : (t : Bool) → (t && false) ≡ false
-and-false true = refl
-and-false false = refl
 
 pub channels-beyond : (n m : ℕ) (numbers : List ℤ) → refusal_of n m (load beyond numbers) ≡ 5
 unfolding refusal_under
