@@ -7,13 +7,14 @@ use native.Mathlib.Nat.{mul-zero, mul-one, mul-suc, mul-le-mul, le_refl}
 use native.Mathlib.Omega.{arith}
 use lib.ListN.{length, get_or, take, drop, set, length-drop, length-append}
 use lib.Seq.{sets, take_all, length-take-le, get_or-drop}
+use Rattle.std.proofs.lemmas.Bool.{and_parts}
 use Rattle.limits.specs.Limits.{least_dilution, most_channels, most_count, most_dilution, most_samples}
 use Rattle.integer.specs.Padded.{padded}
 use Rattle.integer.specs.Tabulate.{tabulate}
 use Rattle.integer.specs.Within.{all_within}
 use Rattle.integer.specs.laws.Padded.{padded-closed, padded-more}
 use Rattle.integer.specs.laws.Tabulate.{get_d_tabulate}
-use Rattle.integer.specs.laws.Within.{all-at, both}
+use Rattle.integer.specs.laws.Within.{all-at}
 use Rattle.readings.specs.Ranges.{Readings}
 use Rattle.readings.specs.Samples.{Sample, sample, sample_at, samples}
 use Rattle.sums.specs.Combined.{minus_of, plus_of}
@@ -44,7 +45,7 @@ module _ (b : Book) (c : Consistent b) where
     takes = add-taken b.n b.summary.k d cs e
 
     in-ranges : (all_within least_dilution most_dilution (d ∷ []) ≡ true) × (all_within 0 most_count cs ≡ true)
-    in-ranges = both (all_within least_dilution most_dilution (d ∷ [])) (all_within 0 most_count cs) takes.ranges
+    in-ranges = and_parts (all_within least_dilution most_dilution (d ∷ [])) (all_within 0 most_count cs) takes.ranges
 
     pub added-readings : Readings b.n (d ∷ []) cs
     added-readings =

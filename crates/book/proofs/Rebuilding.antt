@@ -81,17 +81,14 @@ module _ (b : Book) (c : Consistent b) where
         count = take_bound _ b.n (drop (b.n * s) b.counts) (λ j. rw get_or-drop (count_most b c (b.n * s + j)));
       }
 
-  -- where a sample's count and dilution stand
-  module _ (s i : ℕ) (l : s < b.summary.k) (h : i < b.n) where
-    pub count-place : b.n * s + i < 2048
-    count-place = omega (arith, counts-room b c, mul-suc b.n s, mul-le-mul {n₁ = b.n} (le_refl b.n) (next l))
-      where
-        next : s < b.summary.k → suc s ≤ b.summary.k
-        next g = omega arith
+  -- where a sample's counts stand
+  pub counts-place : (s : ℕ) → s < b.summary.k → b.n * s + b.n ≤ 2048
+  counts-place s l = omega (arith, counts-room b c, mul-suc b.n s, mul-le-mul {n₁ = b.n} (le_refl b.n) (next l))
+    where
+      next : s < b.summary.k → suc s ≤ b.summary.k
+      next g = omega arith
 
-    pub dilution-place : s < 256
-    dilution-place = omega (arith, few-held b c)
-
+  module _ (s i : ℕ) (h : i < b.n) where
     pub value-read : get_or b.counts (b.n * s + i) 0 * get_or b.dilutions s 0 ≡ z (sample_of b s) i
     unfolding z sample_at
     value-read =
@@ -142,3 +139,6 @@ module _ (b : Book) (c : Consistent b) where
       total (λ s. z s (p / 8) * z s (p % 8)) (samples_in b) ≡ total (λ s. products s p) (samples_in b)
   unfolding products
   pair-at p h = total_ext _ _ (samples_in b) (λ s. rw (le-leb (p / 8) (p % 8) h))
+
+-- by which `Book::value_at` is proved
+pub ruleset reading = (counts-place, few-held, value-read)

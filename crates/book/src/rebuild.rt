@@ -12,6 +12,7 @@ use sums::Sums;
 
 impl Book {
     // A sample's value on a channel, z = count × dilution.
+    #[tactic(auto, using(crate::proofs::Rebuilding::reading))]
     fn value_at(&self, s: usize, i: usize) -> u64
         requires { Consistent self.now × (s < self.now.summary.k) × (i < self.now.n) }
         ensures { result ≡ z (sample_of self.now s) i }

@@ -6,12 +6,13 @@ use native.Mathlib.Omega.{arith}
 use Rattle.std.specs.Float.Ieee.Bits.{is_true}
 use Rattle.std.proofs.Math.ListN.{drop, length-append, length-take}
 use Rattle.std.proofs.Math.Seq.{split_at}
+use Rattle.std.proofs.lemmas.Bool.{and_parts}
 use Rattle.limits.specs.Limits.{least_channels, most_channels, most_samples}
 use Rattle.limits.specs.Unless.{unless}
 use Rattle.limits.specs.laws.Unless.{passed}
 use Rattle.integer.specs.Within.{within}
 use Rattle.integer.specs.laws.Tabulate.{length-tabulate}
-use Rattle.integer.specs.laws.Within.{both, is_within}
+use Rattle.integer.specs.laws.Within.{is_within}
 use Rattle.readings.specs.Ranges.{samples_within, values_within}
 use Rattle.readings.specs.Refusal.{are_counted}
 use Rattle.readings.specs.Samples.{Sample, sample}
@@ -44,7 +45,7 @@ add-taken n k dilution counts e =
     let values = passed (values_within n (dilution ∷ []) counts) 2 _ e (omega arith) in
     let counted = passed (are_counted n (dilution ∷ []) counts) 6 (unless (ltb k most_samples) 3 0) values.1 (omega arith) in
     let room = passed (ltb k most_samples) 3 0 counted.1 (omega arith) in
-    let w = both (within least_channels most_channels n) (samples_within (dilution ∷ []) counts) (is_true _ values.0) in
+    let w = and_parts (within least_channels most_channels n) (samples_within (dilution ∷ []) counts) (is_true _ values.0) in
     let c = is_within least_channels most_channels n w.0 in
     record {
       least = c.0;

@@ -7,11 +7,12 @@ use mathlib.Core.List.{List, [], ◌∷◌}
 use Prim.Native.Nat.{ℕ, zero, suc, ◌*◌, ◌≤◌}
 use native.Mathlib.Omega.{arith}
 use Rattle.std.proofs.Math.ListN.{get_or-eq_default}
+use Rattle.std.proofs.lemmas.Bool.{and_parts}
 use Rattle.limits.specs.Limits.{least_dilution, most_channels, most_count, most_dilution, most_samples}
 use Rattle.integer.specs.Padded.{padded}
 use Rattle.integer.specs.Within.{all_within, within}
 use Rattle.integer.specs.laws.Padded.{length-padded, padded-at}
-use Rattle.integer.specs.laws.Within.{all_append, all-at, both}
+use Rattle.integer.specs.laws.Within.{all_append, all-at}
 use Rattle.readings.specs.Samples.{Sample}
 use Rattle.readings.specs.laws.Samples.{no_sample}
 use Rattle.sums.specs.Ranges.{Bounded, InRange}
@@ -25,7 +26,7 @@ use Rattle.book.specs.laws.Calls.{number-held, summary-held}
 -- a proper sample's dilution and counts
 module _ (n : ℕ) (s : Sample) (p : ProperSample n s) where
   parts : (all_within least_dilution most_dilution (s.dilution ∷ []) ≡ true) × (all_within 0 most_count s.counts ≡ true)
-  parts = both (all_within least_dilution most_dilution (s.dilution ∷ [])) (all_within 0 most_count s.counts) p.ranges
+  parts = and_parts (all_within least_dilution most_dilution (s.dilution ∷ [])) (all_within 0 most_count s.counts) p.ranges
 
   proper-in-range : n ≤ most_channels → InRange s
   proper-in-range h =
@@ -46,7 +47,7 @@ module _ (n : ℕ) where
   unfolding dilutions_of all_within
   dilutions-within [] p = refl
   dilutions-within (s ∷ ss) p =
-      simp (both (within least_dilution most_dilution s.dilution) true (parts n s p.0).0).0 (dilutions-within ss p.1)
+      simp (and_parts (within least_dilution most_dilution s.dilution) true (parts n s p.0).0).0 (dilutions-within ss p.1)
 
   pub counts-within : (ss : List Sample) → AllProper n ss → all_within 0 most_count (counts_of ss) ≡ true
   unfolding counts_of all_within
