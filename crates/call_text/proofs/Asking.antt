@@ -164,13 +164,13 @@ module _ (bench : ℕ) where
   an-argument call (x ∷ []) i e = let w : i ≡ argument x = cc in rw w
   an-argument call (x ∷ y ∷ ys) i e = absurd (let z : ◌≡◌ {A = ℕ} 0 1 = cc in omega arith)
 
-  pub a-pair : (ys : List ℤ) (t : ℕ) → Some t ≡ only ys → Some (LoosePair bench t) ≡ asked_for (named bench (one_by loose_pair ys))
+  pub pair-request : (ys : List ℤ) (t : ℕ) → Some t ≡ only ys → Some (LoosePair bench t) ≡ asked_for (named bench (one_by loose_pair ys))
   unfolding asked_by
-  a-pair ys t e = an-argument loose_pair ys t e
+  pair-request ys t e = an-argument loose_pair ys t e
 
-  pub an-axis : (ys : List ℤ) (i : ℕ) → Some i ≡ only ys → Some (Axis bench i) ≡ asked_for (named bench (one_by axis ys))
+  pub axis-request : (ys : List ℤ) (i : ℕ) → Some i ≡ only ys → Some (Axis bench i) ≡ asked_for (named bench (one_by axis ys))
   unfolding asked_by
-  an-axis ys i e = an-argument axis ys i e
+  axis-request ys i e = an-argument axis ys i e
 
 -- by the tag
 module _ (tag : ℕ) (ys : List ℤ) where
@@ -232,8 +232,8 @@ pub ruleset tags = (
   of-tournament-sweep,
   a-sweep,
   a-tournament-sweep,
-  a-pair,
-  an-axis,
+  pair-request,
+  axis-request,
   no-argument,
   other_tag,
 )

@@ -1,1 +1,2 @@
 mod Gathered
+pub mod Values

@@ -41,6 +41,7 @@ fn size_from(wide: u64, mode: u64, most: u64) -> u64
     }
 }
 
+#[tactic(auto, using(crate::proofs::Values::sizes))]
 pub fn size(k: u64, most: u64) -> u64
     requires { (k < 2 ^ 40) × (3 ≤ most) × (most < 2 ^ 63) }
     ensures { (result ≡ size_of k most) × (result ≤ most) }
@@ -60,6 +61,7 @@ pub fn minus(k: u64) -> bool
 }
 
 // The size with the sign of value k.
+#[tactic(auto, using(crate::proofs::Values::signs))]
 pub fn with_sign(k: u64, size: u64) -> i64
     requires { (k < 2 ^ 40) × (size < 2 ^ 63) }
     ensures { (result ≡ signed (minus_of k) size) × (nat_abs result ≡ size) }

@@ -101,6 +101,7 @@ pub fn choice(rt: &impl Print, k: u64) -> io::Result<()>
 }
 
 // The largest g that T_l lets through beside |a_pq| = m: the whole part of 2m × 2^24 / T_l
+#[tactic(auto, using(crate::proofs::Values::thresholds))]
 fn largest_gap(m: u64, l: u32) -> u64
     requires { (m ≤ 512) × (1 ≤ l) × (l ≤ 14) }
     ensures { result ≤ 2 ^ 34 }
@@ -123,6 +124,7 @@ pub fn bound(rt: &impl Print, k: u64) -> io::Result<()>
 }
 
 // T n p q l f, then a digest of the new matrix and one of the new axes; both in whole where k is a multiple of 32
+#[tactic(auto, using(crate::proofs::Values::turns))]
 fn turned(
     rt: &impl Print,
     k: u64,
