@@ -3,7 +3,7 @@ ghost use Rattle.std.specs.Prelude.{◌≡◌};
 ghost use Rattle.refusal.specs.Refusal.{judged};
 ghost use Rattle.book.specs.Calls.{add, book_refusal, channels_then, make_table, strike};
 
-use readings::{are_counted, channels_within, is_within, values_within};
+use readings::{Samples, channels_within, is_within};
 use refusal::Refusal;
 
 // 2 for n outside 2..8.
@@ -21,11 +21,15 @@ pub(crate) fn check_channels(n: usize) -> Result<(), Refusal>
 pub(crate) fn check_add(n: usize, k: u64, dilution: u32, counts: &[u32]) -> Result<(), Refusal>
     ensures { result ≡ judged (book_refusal n k (add dilution counts.now)) (record {}) }
 {
-    let one = [dilution];
-    if !values_within(n, &one, counts) {
+    let one = Samples {
+        n,
+        dilutions: &[dilution],
+        counts,
+    };
+    if !one.values_within() {
         return Err(Refusal::OutOfRange);
     }
-    if !are_counted(n, &one, counts) {
+    if !one.are_counted() {
         return Err(Refusal::ListLength);
     }
     if k >= limits::MOST_SAMPLES as u64 {

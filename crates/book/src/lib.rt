@@ -16,6 +16,7 @@ ghost use Rattle.book.specs.Done.{Changes, table_to};
 
 use arrays::{close_up, put_counts};
 use checks::{check_add, check_channels, check_strike, check_table};
+use readings::Samples;
 use refusal::Refusal;
 use scatter::table::Table;
 use sums::Sums;
@@ -72,7 +73,11 @@ fn with_sample(b: Book, dilution: u32, counts: &[u32]) -> Book
     ensures { result ≡ book_after b (add dilution counts.now) }
 {
     let k = b.summary.k as usize;
-    let more = sums::sums_of(b.n, &[dilution], counts);
+    let more = sums::sums_of(&Samples {
+        n: b.n,
+        dilutions: &[dilution],
+        counts,
+    });
     let mut dilutions = b.dilutions;
     dilutions[k] = dilution;
     let mut all = b.counts;
@@ -99,7 +104,11 @@ fn without_sample(b: Book, i: usize) -> Book
     let from = n * s;
     let end = from + n;
     let dilution = dilutions[s];
-    let part = sums::sums_of(n, &[dilution], &counts[from..end]);
+    let part = sums::sums_of(&Samples {
+        n,
+        dilutions: &[dilution],
+        counts: &counts[from..end],
+    });
     close_up(&mut dilutions, s, 1);
     close_up(&mut counts, from, n);
     Book {

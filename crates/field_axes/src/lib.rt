@@ -13,6 +13,7 @@ ghost use Rattle.field_axes.specs.Panels.{panel_numbers, panel_of, panel_refusal
 ghost use Rattle.field_axes.specs.inner.Given.{Gives};
 
 use panel::Panel;
+use readings::Samples;
 use refusal::Refusal;
 
 // The answer of every function here: how many numbers or bytes were written, or the refusal's number negated.
@@ -45,7 +46,12 @@ pub fn field_axes_solve(
 pub fn field_axes_table(n: usize, dilutions: &[u32], counts: &[u32], out: &mut [i64]) -> i64
     ensures { Tabulates n dilutions.now counts.now out.old out.new result }
 {
-    answer(table::tabulate(n, dilutions, counts, out))
+    let samples = Samples {
+        n,
+        dilutions,
+        counts,
+    };
+    answer(table::tabulate(&samples, out))
 }
 
 // Job text of n, the sweep limit, the tolerance and samples, a dilution each and n counts each, sample after sample. Into `out`: the text. The
@@ -60,7 +66,12 @@ pub fn field_axes_job(
 ) -> i64
     ensures { WritesJob n limit tolerance dilutions.now counts.now out.old out.new result }
 {
-    answer(job_text::write_job(n, limit, tolerance, dilutions, counts, out))
+    let samples = Samples {
+        n,
+        dilutions,
+        counts,
+    };
+    answer(job_text::write_job(&samples, limit, tolerance, out))
 }
 
 // A job text to its report, document 01's `axes` as a function. Into `out`: the report. The answer is its length, or the refusal's number
@@ -99,17 +110,23 @@ pub fn field_axes_pool(
         (job_with other_n other_limit other_tolerance other_dilutions.now other_counts.now)
         out.old out.new result }
 {
-    answer(job_pool::write_pooled(
+    let first = Samples {
         n,
-        limit,
-        tolerance,
         dilutions,
         counts,
-        other_n,
+    };
+    let second = Samples {
+        n: other_n,
+        dilutions: other_dilutions,
+        counts: other_counts,
+    };
+    answer(job_pool::write_pooled(
+        &first,
+        limit,
+        tolerance,
+        &second,
         other_limit,
         other_tolerance,
-        other_dilutions,
-        other_counts,
         out,
     ))
 }

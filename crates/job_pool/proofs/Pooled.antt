@@ -71,13 +71,8 @@ module _ (a b : Job) (e : pool_refusal a b ≡ 0) where
             (sym (add-mul (length a.dilutions) (length b.dilutions) a.n));
       }
 
-  pub both-readings : BothReadings a.n a.dilutions a.counts b.dilutions b.counts
-  both-readings =
-      record {
-        first = readings a first-proper;
-        second = rw poolable.channels (readings b second-proper);
-        together = poolable.together;
-      }
+  pub both-readings : BothReadings a.n a.dilutions a.counts b.n b.dilutions b.counts
+  both-readings = record { first = readings a first-proper; second = readings b second-proper; together = poolable.together }
 
   -- n counts to a sample of the first
   pub first_counted : length a.counts ≡ a.n * length a.dilutions
@@ -93,18 +88,16 @@ module _ (a b : Job) (e : pool_refusal a b ≡ 0) where
 
   -- sums added are the sums of both jobs' samples, and so the table is theirs
   pub sums-table : table_from (scatter_by_sums a.n (plus_of (sums_of (samples a.n a.dilutions a.counts))
-      (sums_of (samples a.n b.dilutions b.counts)))) ≡ table_for (pooled_job a b)
+      (sums_of (samples b.n b.dilutions b.counts)))) ≡ table_for (pooled_job a b)
   unfolding table_for samples_of
   sums-table =
       let both = samples a.n (a.dilutions ++ b.dilutions) (a.counts ++ b.counts) in
       ap (λ t. table_from (scatter_by_sums a.n t))
-      (sums-plus (samples a.n a.dilutions a.counts) (samples a.n b.dilutions b.counts)
+      (ap (λ n. plus_of (sums_of (samples a.n a.dilutions a.counts)) (sums_of (samples n b.dilutions b.counts))) (sym poolable.channels)
+      ∙ sums-plus (samples a.n a.dilutions a.counts) (samples a.n b.dilutions b.counts)
       ∙ ap sums_of (sym (samples-append a.n a.dilutions a.counts first_counted b.dilutions b.counts)))
       ∙ table-by-sums both a.n (channels a first-proper).1
 
 pub table-is-pooled : TableIsPooled
 unfolding pooled_table pooled_sums samples_of
-table-is-pooled a b e =
-    ap (λ n. table_from (scatter_by_sums a.n (plus_of (sums_of (samples_of a)) (sums_of (samples n b.dilutions b.counts)))))
-    (sym (taken-poolable a b e).channels)
-    ∙ sums-table a b e
+table-is-pooled a b e = sums-table a b e

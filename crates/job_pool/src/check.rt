@@ -5,30 +5,26 @@ ghost use Rattle.job_text.specs.JobText.{job_with};
 ghost use Rattle.refusal.specs.Refusal.{judged};
 ghost use Rattle.job_pool.specs.Refusal.{pool_refusal};
 
-use readings::check_job;
+use readings::Samples;
 use refusal::Refusal;
 
 pub(crate) fn check_pool(
-    n1: usize,
+    first: &Samples,
     limit1: u64,
     tolerance1: u64,
-    dilutions1: &[u32],
-    counts1: &[u32],
-    n2: usize,
+    second: &Samples,
     limit2: u64,
     tolerance2: u64,
-    dilutions2: &[u32],
-    counts2: &[u32],
 ) -> Result<(), Refusal>
-    ensures { result ≡ judged (pool_refusal (job_with n1 limit1 tolerance1 dilutions1.now counts1.now)
-        (job_with n2 limit2 tolerance2 dilutions2.now counts2.now)) (record {}) }
+    ensures { result ≡ judged (pool_refusal (job_with first.now.n limit1 tolerance1 first.now.dilutions.now first.now.counts.now)
+        (job_with second.now.n limit2 tolerance2 second.now.dilutions.now second.now.counts.now)) (record {}) }
 {
-    if n1 != n2 {
+    if first.n != second.n {
         return Err(Refusal::UnequalChannels);
     }
-    check_job(n1, limit1, tolerance1, dilutions1, counts1)?;
-    check_job(n2, limit2, tolerance2, dilutions2, counts2)?;
-    if dilutions1.len() + dilutions2.len() > limits::MOST_SAMPLES {
+    first.check_job(limit1, tolerance1)?;
+    second.check_job(limit2, tolerance2)?;
+    if first.dilutions.len() + second.dilutions.len() > limits::MOST_SAMPLES {
         return Err(Refusal::SampleCount);
     }
     Ok(())

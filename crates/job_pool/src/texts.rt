@@ -7,6 +7,7 @@ ghost use Rattle.job_pool.specs.Writer.{WritesPooled};
 use crate::line::put_refused_job;
 use crate::write_pooled;
 use job::Job;
+use readings::Samples;
 use refusal::Refusal;
 
 // Of the first k dilutions and the first k × n counts of each.
@@ -15,17 +16,23 @@ fn pool_jobs(first: Job, second: Job, buf: &mut [u8]) -> Result<usize, Refusal>
     requires { Held first × Held second }
     ensures { WritesPooled (job_in first) (job_in second) buf.old buf.new result }
 {
+    let samples1 = Samples {
+        n: first.n,
+        dilutions: &first.dilutions[..first.k],
+        counts: &first.counts[..first.k * first.n],
+    };
+    let samples2 = Samples {
+        n: second.n,
+        dilutions: &second.dilutions[..second.k],
+        counts: &second.counts[..second.k * second.n],
+    };
     write_pooled(
-        first.n,
+        &samples1,
         first.limit,
         first.tolerance,
-        &first.dilutions[..first.k],
-        &first.counts[..first.k * first.n],
-        second.n,
+        &samples2,
         second.limit,
         second.tolerance,
-        &second.dilutions[..second.k],
-        &second.counts[..second.k * second.n],
         buf,
     )
 }

@@ -1,3 +1,2 @@
-pub mod Held
 pub mod Done
 pub mod Rows

@@ -5,6 +5,7 @@ ghost use Rattle.call_text.specs.Requests.{Placed, part, request_call};
 ghost use Rattle.play.specs.inner.Calls.{Answers, plain_of};
 
 use call_text::request::Request;
+use readings::Samples;
 use record::{Answer, AxisAnswer, Record, lent};
 
 // An answer that has no row.
@@ -54,7 +55,12 @@ pub(crate) fn call(
         } => {
             let dilutions = readings_at(readings, from, middle);
             let counts = readings_at(readings, middle, to);
-            plain(lent::load_samples(r, bench, n, dilutions, counts))
+            let samples = Samples {
+                n,
+                dilutions,
+                counts,
+            };
+            plain(lent::load_samples(r, bench, &samples))
         }
         Request::Turn { bench, p, q } => plain(lent::turn(r, bench, p, q)),
         Request::Sweep(bench) => plain(lent::sweep(r, bench)),

@@ -43,80 +43,86 @@ pub fn parameters_within(n: usize, limit: u64, tolerance: u64) -> bool
         && is_within(0, limits::TOLERANCE_LIMIT, tolerance)
 }
 
-// "dilution (1..100) and n counts (0..65,535)"
-fn samples_within(dilutions: &[u32], counts: &[u32]) -> bool
-    ensures { result ≡ samples_within dilutions.now counts.now }
-{
-    all_within(limits::LEAST_DILUTION, limits::MOST_DILUTION, dilutions)
-        && all_within(0, limits::MOST_COUNT, counts)
+// Samples handed over, with whatever values: n, a dilution each, and n counts each, sample after sample.
+#[derive(Clone, Copy)]
+pub struct Samples<'a> {
+    pub n: usize,
+    pub dilutions: &'a [u32],
+    pub counts: &'a [u32],
 }
 
-// Whether there are n counts to a sample. No product is made: n and the lengths may be any.
-pub fn are_counted(n: usize, dilutions: &[u32], counts: &[u32]) -> bool
-    ensures { result ≡ are_counted n dilutions.now counts.now }
-{
-    if n == 0 {
-        return counts.is_empty();
+impl Samples<'_> {
+    // "dilution (1..100) and n counts (0..65,535)"
+    fn samples_within(&self) -> bool
+        ensures { result ≡ samples_within self.now.dilutions.now self.now.counts.now }
+    {
+        all_within(
+            limits::LEAST_DILUTION,
+            limits::MOST_DILUTION,
+            self.dilutions,
+        ) && all_within(0, limits::MOST_COUNT, self.counts)
     }
-    counts.len() % n == 0 && counts.len() / n == dilutions.len()
-}
 
-fn are_so_many(dilutions: &[u32]) -> bool
-    ensures { result ≡ are_so_many dilutions.now }
-{
-    is_within(
-        limits::LEAST_SAMPLES as u64,
-        limits::MOST_SAMPLES as u64,
-        dilutions.len() as u64,
-    )
-}
-
-pub fn values_within(n: usize, dilutions: &[u32], counts: &[u32]) -> bool
-    ensures { result ≡ values_within n dilutions.now counts.now }
-{
-    channels_within(n) && samples_within(dilutions, counts)
-}
-
-fn job_within(n: usize, limit: u64, tolerance: u64, dilutions: &[u32], counts: &[u32]) -> bool
-    ensures { result ≡ job_within n limit tolerance dilutions.now counts.now }
-{
-    parameters_within(n, limit, tolerance) && samples_within(dilutions, counts)
-}
-
-// 'tried in that order': whether all values are within their ranges, how many counts there are, how many samples.
-fn check(within: bool, n: usize, dilutions: &[u32], counts: &[u32]) -> Result<(), Refusal>
-    ensures { result ≡ judged (unless within 2 (number_refusal n dilutions.now counts.now)) (record {}) }
-{
-    if !within {
-        return Err(Refusal::OutOfRange);
+    pub fn values_within(&self) -> bool
+        ensures { result ≡ values_within self.now.n self.now.dilutions.now self.now.counts.now }
+    {
+        channels_within(self.n) && self.samples_within()
     }
-    if !are_counted(n, dilutions, counts) {
-        return Err(Refusal::ListLength);
-    }
-    if !are_so_many(dilutions) {
-        return Err(Refusal::SampleCount);
-    }
-    Ok(())
-}
 
-// What n and samples are refused with.
-pub fn check_samples(n: usize, dilutions: &[u32], counts: &[u32]) -> Result<(), Refusal>
-    ensures { result ≡ judged (samples_refusal n dilutions.now counts.now) (record {}) }
-{
-    let within = values_within(n, dilutions, counts);
-    check(within, n, dilutions, counts)
-}
+    // The values of a job with these samples.
+    fn job_within(&self, limit: u64, tolerance: u64) -> bool
+        ensures { result ≡ job_within self.now.n limit tolerance self.now.dilutions.now self.now.counts.now }
+    {
+        parameters_within(self.n, limit, tolerance) && self.samples_within()
+    }
 
-// What a job is refused with.
-pub fn check_job(
-    n: usize,
-    limit: u64,
-    tolerance: u64,
-    dilutions: &[u32],
-    counts: &[u32],
-) -> Result<(), Refusal>
-    ensures { result ≡ judged (job_refusal n limit tolerance dilutions.now counts.now) (record {}) }
-{
-    let within = job_within(n, limit, tolerance, dilutions, counts);
-    check(within, n, dilutions, counts)
+    // Whether there are n counts to a sample. No product is made: n and the lengths may be any.
+    pub fn are_counted(&self) -> bool
+        ensures { result ≡ are_counted self.now.n self.now.dilutions.now self.now.counts.now }
+    {
+        if self.n == 0 {
+            return self.counts.is_empty();
+        }
+        self.counts.len() % self.n == 0 && self.counts.len() / self.n == self.dilutions.len()
+    }
+
+    fn are_so_many(&self) -> bool
+        ensures { result ≡ are_so_many self.now.dilutions.now }
+    {
+        is_within(
+            limits::LEAST_SAMPLES as u64,
+            limits::MOST_SAMPLES as u64,
+            self.dilutions.len() as u64,
+        )
+    }
+
+    // 'tried in that order': whether all values are within their ranges, how many counts there are, how many samples.
+    fn check_within(&self, within: bool) -> Result<(), Refusal>
+        ensures { result ≡ judged (unless within 2 (number_refusal self.now.n self.now.dilutions.now self.now.counts.now)) (record {}) }
+    {
+        if !within {
+            return Err(Refusal::OutOfRange);
+        }
+        if !self.are_counted() {
+            return Err(Refusal::ListLength);
+        }
+        if !self.are_so_many() {
+            return Err(Refusal::SampleCount);
+        }
+        Ok(())
+    }
+
+    // What n and samples are refused with.
+    pub fn check(&self) -> Result<(), Refusal>
+        ensures { result ≡ judged (samples_refusal self.now.n self.now.dilutions.now self.now.counts.now) (record {}) }
+    {
+        self.check_within(self.values_within())
+    }
+
+    // What a job of these samples is refused with.
+    pub fn check_job(&self, limit: u64, tolerance: u64) -> Result<(), Refusal>
+        ensures { result ≡ judged (job_refusal self.now.n limit tolerance self.now.dilutions.now self.now.counts.now) (record {}) }
+    {
+        self.check_within(self.job_within(limit, tolerance))
+    }
 }

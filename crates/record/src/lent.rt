@@ -6,6 +6,7 @@ ghost use Rattle.record.specs.Done.{AxisDone, Done, LooseDone};
 ghost use Rattle.record.specs.Kept.{Kept};
 
 use crate::{Answer, AxisAnswer, Record, Step};
+use readings::Samples;
 
 // A call by value on a lent record.
 fn lend<A, F: FnOnce(Record) -> Step<A>>(r: &mut Record, call: F) -> A
@@ -24,17 +25,14 @@ pub fn load(r: &mut Record, bench: usize, n: usize, numbers: &[i64]) -> Answer
     lend(r, |record| record.load(bench, n, numbers))
 }
 
-pub fn load_samples(
-    r: &mut Record,
-    bench: usize,
-    n: usize,
-    dilutions: &[u32],
-    counts: &[u32],
-) -> Answer
+pub fn load_samples(r: &mut Record, bench: usize, samples: &Samples) -> Answer
     requires { Kept r.old }
-    ensures { Done r.old (by bench (load_samples n dilutions.now counts.now)) result r.new }
+    ensures { Done r.old (by bench (load_samples samples.now.n samples.now.dilutions.now samples.now.counts.now)) result r.new }
 {
-    lend(r, |record| record.load_samples(bench, n, dilutions, counts))
+    // Tried with `lend`: a closure that captures a struct with references in it tells its caller nothing of what its call ensures.
+    let done = r.load_samples(bench, samples);
+    *r = done.next;
+    done.answer
 }
 
 pub fn turn(r: &mut Record, bench: usize, p: usize, q: usize) -> Answer

@@ -17,6 +17,7 @@ ghost use Rattle.refusal.specs.Refusal.{numbered};
 ghost use Rattle.std.specs.Prelude.{false, true, ◌≡◌};
 
 use ledger::Order;
+use readings::Samples;
 use refusal::Refusal;
 
 pub mod lent;
@@ -160,11 +161,20 @@ impl Record {
     }
 
     // Document 02, W5: the second load, of the table of samples.
-    pub fn load_samples(self, bench: usize, n: usize, dilutions: &[u32], counts: &[u32]) -> Step
+    pub fn load_samples(self, bench: usize, samples: &Samples) -> Step
         requires { Kept self }
-        ensures { Done self (by bench (load_samples n dilutions.now counts.now)) result.answer result.next }
+        ensures { Done self (by bench (load_samples samples.now.n samples.now.dilutions.now samples.now.counts.now)) result.answer result.next }
     {
-        self.named(bench, |solver| solver.load_samples(n, dilutions, counts))
+        // Tried as it is: a closure that captures a struct with references in it tells its caller nothing of what its call ensures.
+        let (n, dilutions, counts) = (samples.n, samples.dilutions, samples.counts);
+        self.named(
+            bench,
+            |solver| solver.load_samples(&Samples {
+                n,
+                dilutions,
+                counts,
+            }),
+        )
     }
 
     // The load of a table, its entries and its e. It is no call and names no bench: a run, whose record is its own, begins with it.

@@ -12,6 +12,7 @@ use crate::query::Answer;
 use crate::run::Ended;
 use crate::{AxisAnswer, Step, load, query, rows, run, sweep};
 use ledger::Order;
+use readings::Samples;
 use refusal::Refusal;
 
 // Channels n, 0 where there is no matrix; turns made m; the shift e of a table made from readings, else 0; the kept matrix and axes, row after
@@ -92,14 +93,15 @@ impl Solver {
     }
 
     // Document 02, W5: the second load, of the table of samples.
-    pub(crate) fn load_samples(self, n: usize, dilutions: &[u32], counts: &[u32]) -> SolverStep
+    pub(crate) fn load_samples(self, samples: &Samples) -> SolverStep
         requires { KeptSolver self }
-        ensures { Solved self (load_samples n dilutions.now counts.now) result.answer result.next }
+        ensures { Solved self (load_samples samples.now.n samples.now.dilutions.now samples.now.counts.now) result.answer result.next }
     {
-        if let Err(refusal) = readings::check_samples(n, dilutions, counts) {
+        if let Err(refusal) = samples.check() {
             return self.refuse(refusal);
         }
-        let table = scatter::table::table_of_readings(n, dilutions, counts);
+        let n = samples.n;
+        let table = scatter::table::table_of_readings(samples);
         Step {
             answer: Answer::SamplesLoaded(table.e),
             next: Solver::of_table(n, &table.entries[..n * n], table.e),

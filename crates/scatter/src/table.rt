@@ -12,6 +12,7 @@ ghost use Rattle.scatter.specs.inner.BySums.{scatter_by_sums};
 ghost use Rattle.scatter.specs.inner.Ranges.{Roundable, ZeroFrom};
 ghost use Rattle.scatter.specs.inner.Shift.{LeastShift};
 
+use readings::Samples;
 use sums::Sums;
 
 // n × n numbers, row after row, and zeros after them: the entries, and the exact S_ij that they are rounded from.
@@ -109,9 +110,9 @@ pub fn table_of(n: usize, t: Sums) -> Table
     }
 }
 
-pub fn table_of_readings(n: usize, dilutions: &[u32], counts: &[u32]) -> Table
-    requires { Readings n dilutions.now counts.now }
-    ensures { result ≡ table_of n (samples n dilutions.now counts.now) }
+pub fn table_of_readings(readings: &Samples) -> Table
+    requires { Readings readings.now.n readings.now.dilutions.now readings.now.counts.now }
+    ensures { result ≡ table_of readings.now.n (samples readings.now.n readings.now.dilutions.now readings.now.counts.now) }
 {
-    table_of(n, sums::sums_of(n, dilutions, counts))
+    table_of(readings.n, sums::sums_of(readings))
 }

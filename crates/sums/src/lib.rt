@@ -11,6 +11,7 @@ ghost use Rattle.sums.specs.Ranges.{Bounded, Included, InRange, z_limit};
 ghost use Rattle.sums.specs.inner.Ranges.{Room};
 ghost use Rattle.limits.specs.Limits.{most_samples};
 
+use readings::Samples;
 use std::array::from_fn;
 
 // A cross sum of the channels i ≤ j, counted from 0, stands at 8 × i + j; any other place is 0.
@@ -51,20 +52,20 @@ fn add_products(dilution: u32, counts: &[u32], cross: &mut [u64; 64])
     }
 }
 
-pub fn sums_of(n: usize, dilutions: &[u32], counts: &[u32]) -> Sums
-    requires { Readings n dilutions.now counts.now }
-    ensures { result ≡ sums_of (samples n dilutions.now counts.now) }
+pub fn sums_of(readings: &Samples) -> Sums
+    requires { Readings readings.now.n readings.now.dilutions.now readings.now.counts.now }
+    ensures { result ≡ sums_of (samples readings.now.n readings.now.dilutions.now readings.now.counts.now) }
 {
     let mut channel = [0u64; 8];
     let mut cross = [0u64; 64];
-    for s in 0..dilutions.len() {
-        let start = n * s;
-        let sample = &counts[start..start + n];
-        add_values(dilutions[s], sample, &mut channel);
-        add_products(dilutions[s], sample, &mut cross);
+    for s in 0..readings.dilutions.len() {
+        let start = readings.n * s;
+        let sample = &readings.counts[start..start + readings.n];
+        add_values(readings.dilutions[s], sample, &mut channel);
+        add_products(readings.dilutions[s], sample, &mut cross);
     }
     Sums {
-        k: dilutions.len() as u64,
+        k: readings.dilutions.len() as u64,
         channel,
         cross,
     }

@@ -19,6 +19,7 @@ ghost use Rattle.std.specs.Prelude.{◌^◌, ◌<◌, ◌≤◌};
 ghost use Rattle.sums.specs.inner.Ranges.{Room};
 ghost use Rattle.limits.specs.Limits.{most_count, most_dilution};
 
+use readings::Samples;
 use scatter::table::Table;
 use std::{array, io};
 
@@ -96,7 +97,11 @@ fn table_at(c: u64) -> Table
     let dilutions = dilutions_of(c);
     let counts = counts_of(c, n as u64);
     let held = n * k;
-    scatter::table::table_of_readings(n, &dilutions[..k], &counts[..held])
+    scatter::table::table_of_readings(&Samples {
+        n,
+        dilutions: &dilutions[..k],
+        counts: &counts[..held],
+    })
 }
 
 fn print_entry(rt: &impl Print, u: i64) -> io::Result<()> {

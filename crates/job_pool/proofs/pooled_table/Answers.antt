@@ -24,15 +24,15 @@ module _ (n : ℕ) (dilutions counts : List ℕ) {s : Sums} (e : s ≡ sums_of (
 
 pub plus-requires : goal.plus-requires
 plus-requires c = (
-  bounded _ _ _ c.sums_of-first.ensures c.requires.first,
-  bounded _ _ _ c.sums_of-second.ensures c.requires.second,
-  rw (counted _ _ _ c.sums_of-first.ensures, counted _ _ _ c.sums_of-second.ensures) c.requires.together,
+  bounded _ _ _ c.sums_of-sums1.ensures c.requires.first,
+  bounded _ _ _ c.sums_of-sums2.ensures c.requires.second,
+  rw (counted _ _ _ c.sums_of-sums1.ensures, counted _ _ _ c.sums_of-sums2.ensures) c.requires.together,
 )
 
 pub table_of-requires : goal.table_of-requires
 table_of-requires c =
-    let first = c.sums_of-first.ensures in
-    let second = c.sums_of-second.ensures in (
+    let first = c.sums_of-sums1.ensures in
+    let second = c.sums_of-sums2.ensures in (
       c.requires.first.channels,
       rw c.plus.ensures
           (plus-bounded _ _ (bounded _ _ _ first c.requires.first) (bounded _ _ _ second c.requires.second)

@@ -13,10 +13,10 @@ use Rattle.job_pool.proofs.write_pooled.Goals.{In_ok-check_pool}
 -- What is not refused.
 module _ (c : In_ok-check_pool) where
   abbrev first : Job
-  first = job_with c.args.n1 c.args.limit1 c.args.tolerance1 c.args.dilutions1.now c.args.counts1.now
+  first = job_with c.args.first.now.n c.args.limit1 c.args.tolerance1 c.args.first.now.dilutions.now c.args.first.now.counts.now
 
   abbrev second : Job
-  second = job_with c.args.n2 c.args.limit2 c.args.tolerance2 c.args.dilutions2.now c.args.counts2.now
+  second = job_with c.args.second.now.n c.args.limit2 c.args.tolerance2 c.args.second.now.dilutions.now c.args.second.now.counts.now
 
   taken : pool_refusal first second ≡ 0
   taken = not-judged _ _ _ (sym c.in_ok-check_pool.ensures)

@@ -30,7 +30,7 @@ module _ (j : Job) (p : Proper j) where
 -- What the test of the values tells, where it lets them pass.
 module _ (c : In_ok-check_job) where
   abbrev job : Job
-  job = job_with c.args.n c.args.limit c.args.tolerance c.args.dilutions.now c.args.counts.now
+  job = job_with c.args.samples.now.n c.args.limit c.args.tolerance c.args.samples.now.dilutions.now c.args.samples.now.counts.now
 
   taken : job_refusal job.n job.limit job.tolerance job.dilutions job.counts ≡ 0
   taken = not-judged _ _ _ (sym c.check_job.ensures ∙ c.in_ok-check_job.was)
@@ -55,8 +55,8 @@ pub overflow_cast-first-3 : goal.overflow_cast-first-3
 overflow_cast-first-3 c =
     let t = (goal.at.overflow_cast-first-3 c).In_ok-check_job in record { sfits = omega (arith, tolerance-most (job t) (proper t)) }
 
-pub invariant_of-samples : goal.invariant_of-samples
-invariant_of-samples c = let t = (goal.at.invariant_of-samples c).In_ok-check_job in record { readings = readings (job t) (proper t) }
+pub invariant_of-lines : goal.invariant_of-lines
+invariant_of-lines c = let t = (goal.at.invariant_of-lines c).In_ok-check_job in record { readings = readings (job t) (proper t) }
 
 pub returns-then-out-length : goal.returns-then-out-length
 returns-then-out-length c =

@@ -9,36 +9,36 @@ use Rattle.text.specs.laws.Written.{none_left, not-judged, short-last}
 use Rattle.field_axes.specs.Table.{table_refusal}
 use Rattle.field_axes.proofs.Answered.{first-refused, is_refused, is_taken}
 use Rattle.field_axes.proofs.table.check_table.Goals as goal
-use Rattle.field_axes.proofs.table.check_table.Goals.{In_ok-check_samples}
+use Rattle.field_axes.proofs.table.check_table.Goals.{In_ok-check}
 
-pub returns-in_err-check_samples : goal.returns-in_err-check_samples
+pub returns-in_err-check : goal.returns-in_err-check
 unfolding table_refusal or_short
-returns-in_err-check_samples c =
+returns-in_err-check c =
     let p = err_from_is_err_and c.from_residual.result c.from_residual.ensures.1 in
-    rw (p.1, p.2) (first-refused _ _ _ _ _ (sym c.in_err-check_samples.was ∙ c.check_samples.ensures))
+    rw (p.1, p.2) (first-refused _ _ _ _ _ (sym c.in_err-check.was ∙ c.check.ensures))
 
 -- samples that are not refused: the numbers of their table are few
-module _ (c : In_ok-check_samples) where
-  taken : samples_refusal c.args.n c.args.dilutions.now c.args.counts.now ≡ 0
-  taken = not-judged _ _ _ (sym c.check_samples.ensures ∙ c.in_ok-check_samples.was)
+module _ (c : In_ok-check) where
+  taken : samples_refusal c.args.samples.now.n c.args.samples.now.dilutions.now c.args.samples.now.counts.now ≡ 0
+  taken = not-judged _ _ _ (sym c.check.ensures ∙ c.in_ok-check.was)
 
-  few : c.args.n * c.args.n ≤ 64
+  few : c.args.samples.now.n * c.args.samples.now.n ≤ 64
   few = places _ (are-readings _ _ _ taken).channels
 
-pub overflow_mul-n : goal.overflow_mul-n
-overflow_mul-n c = record { fits = omega (arith, few (goal.at.overflow_mul-n c).In_ok-check_samples) }
+pub overflow_mul-samples : goal.overflow_mul-samples
+overflow_mul-samples c = record { fits = omega (arith, few (goal.at.overflow_mul-samples c).In_ok-check) }
 
-pub overflow_mul-n-2 : goal.overflow_mul-n-2
-overflow_mul-n-2 c = record { fits = omega (arith, few (goal.at.overflow_mul-n-2 c).In_ok-check_samples) }
+pub overflow_mul-samples-2 : goal.overflow_mul-samples-2
+overflow_mul-samples-2 c = record { fits = omega (arith, few (goal.at.overflow_mul-samples-2 c).In_ok-check) }
 
-pub overflow_add-n : goal.overflow_add-n
-overflow_add-n c = record { fits = omega (arith, few (goal.at.overflow_add-n c).In_ok-check_samples) }
+pub overflow_add-samples : goal.overflow_add-samples
+overflow_add-samples c = record { fits = omega (arith, few (goal.at.overflow_add-samples c).In_ok-check) }
 
-pub returns-then-size-n : goal.returns-then-size-n
+pub returns-then-size-samples : goal.returns-then-size-samples
 unfolding table_refusal
-returns-then-size-n c =
-    is_refused _ 12 (sym (short-last _ _ _ (taken (goal.at.returns-then-size-n c).In_ok-check_samples) c.if-size-n.true)) (λ z. omega arith)
+returns-then-size-samples c =
+    is_refused _ 12 (sym (short-last _ _ _ (taken (goal.at.returns-then-size-samples c).In_ok-check) c.if-size-samples.true)) (λ z. omega arith)
 
 pub returns : goal.returns
 unfolding table_refusal
-returns c = is_taken _ _ (none_left _ _ _ (taken (goal.at.returns c).In_ok-check_samples) c.if-size-n.false)
+returns c = is_taken _ _ (none_left _ _ _ (taken (goal.at.returns c).In_ok-check) c.if-size-samples.false)

@@ -38,26 +38,26 @@ module _ (a b : Job) where
         unfolding judged
         taken h = rw (poolable-taken a b (record { channels = same; first = first; second = second; together = h }))
 
-pub returns-then-n1-n2 : goal.returns-then-n1-n2
-returns-then-n1-n2 c = unequal _ _ c.if-n1-n2.true
+pub returns-then-first-second : goal.returns-then-first-second
+returns-then-first-second c = unequal _ _ c.if-first-second.true
 
 pub returns-in_err-check_job : goal.returns-in_err-check_job
 returns-in_err-check_job c =
     let p = err_from_is_err_and c.from_residual.result c.from_residual.ensures.1 in
-    rw (p.1, p.2) (first-out _ _ c.if-n1-n2.false _ c.in_err-check_job.ensures)
+    rw (p.1, p.2) (first-out _ _ c.if-first-second.false _ c.in_err-check_job.ensures)
 
 pub returns-in_err-check_job-2 : goal.returns-in_err-check_job-2
 returns-in_err-check_job-2 c =
     let p = err_from_is_err_and c.from_residual-in_err-check_job-2.result c.from_residual-in_err-check_job-2.ensures.1 in
     rw (p.1, p.2)
-    (second-out _ _ c.if-n1-n2.false (not-judged _ _ _ (sym c.in_ok-check_job.ensures)) _ c.in_err-check_job-2.ensures)
+    (second-out _ _ c.if-first-second.false (not-judged _ _ _ (sym c.in_ok-check_job.ensures)) _ c.in_err-check_job-2.ensures)
 
-pub returns-then-dilutions1-dilutions2-gt-MOST_SAMPLES : goal.returns-then-dilutions1-dilutions2-gt-MOST_SAMPLES
-returns-then-dilutions1-dilutions2-gt-MOST_SAMPLES c =
-    many _ _ c.if-n1-n2.false (not-judged _ _ _ (sym c.in_ok-check_job.ensures)) (not-judged _ _ _ (sym c.in_ok-check_job-2.ensures))
-    c.if-dilutions1-dilutions2-gt-MOST_SAMPLES.true
+pub returns-then-first-second-gt-MOST_SAMPLES : goal.returns-then-first-second-gt-MOST_SAMPLES
+returns-then-first-second-gt-MOST_SAMPLES c =
+    many _ _ c.if-first-second.false (not-judged _ _ _ (sym c.in_ok-check_job.ensures)) (not-judged _ _ _ (sym c.in_ok-check_job-2.ensures))
+    c.if-first-second-gt-MOST_SAMPLES.true
 
 pub returns : goal.returns
 returns c =
-    taken _ _ c.if-n1-n2.false (not-judged _ _ _ (sym c.in_ok-check_job.ensures)) (not-judged _ _ _ (sym c.in_ok-check_job-2.ensures))
-    c.if-dilutions1-dilutions2-gt-MOST_SAMPLES.false
+    taken _ _ c.if-first-second.false (not-judged _ _ _ (sym c.in_ok-check_job.ensures)) (not-judged _ _ _ (sym c.in_ok-check_job-2.ensures))
+    c.if-first-second-gt-MOST_SAMPLES.false

@@ -6,7 +6,7 @@ use Rattle.record.proofs.Record.load_samples.Goals as goal
 
 pub returns : goal.returns
 returns c =
-    let call = load_samples c.args.n c.args.dilutions.now c.args.counts.now in
+    let call = load_samples c.args.samples.now.n c.args.samples.now.dilutions.now c.args.samples.now.counts.now in
     named c.args.self c.args.bench call c.requires _ _
     (λ done p. let solved : Solved c.args.self.solver call done.answer done.next = search rules in (solved.answers, solved.leaves))
     c.named.ensures.outside c.named.ensures.of_bench

@@ -7,10 +7,9 @@ use Rattle.scatter.specs.laws.BySums.{table-by-sums}
 use Rattle.scatter.proofs.table.table_of_readings.Goals as goal
 
 pub table_of-requires : goal.table_of-requires
-table_of-requires c =
-    (c.requires.channels, rw c.sums_of.ensures (readings-bounded c.args.n c.args.dilutions.now c.args.counts.now c.requires))
+table_of-requires c = (c.requires.channels, rw c.sums_of.ensures (readings-bounded _ _ _ c.requires))
 
 pub returns : goal.returns
 returns c =
-    c.table_of.ensures ∙ ap (λ t. table_from (scatter_by_sums c.args.n t)) c.sums_of.ensures
-    ∙ table-by-sums _ c.args.n c.requires.channels
+    c.table_of.ensures ∙ ap (λ t. table_from (scatter_by_sums c.args.readings.now.n t)) c.sums_of.ensures
+    ∙ table-by-sums _ c.args.readings.now.n c.requires.channels

@@ -3,7 +3,7 @@ use Rattle.ledger.specs.Call.{load_samples}
 use Rattle.ledger.specs.laws.Accepted.{samples-alone}
 use Rattle.limits.specs.Limits.{entry_limit}
 use Rattle.limits.specs.laws.Channels.{places}
-use Rattle.readings.specs.Samples.{Sample, samples}
+use Rattle.readings.specs.Samples.{Sample}
 use Rattle.readings.specs.laws.Refusal.{are-readings, two-channels}
 use Rattle.scatter.specs.Table.{entries, scatter, shift, table_from_under, table_of, table_under}
 use Rattle.scatter.specs.declared.table.Table.{Table}
@@ -16,7 +16,7 @@ use Rattle.record.proofs.solver.Solver.load_samples.Goals as goal
 
 pub returns-in-Err : goal.returns-in-Err
 returns-in-Err c =
-    refuses c.args.self (load_samples c.args.n c.args.dilutions.now c.args.counts.now) c.requires _ (sym (samples-alone _ _ _ _ _)) _ _
+    refuses c.args.self (load_samples c.args.samples.now.n c.args.samples.now.dilutions.now c.args.samples.now.counts.now) c.requires _ (sym (samples-alone _ _ _ _ _)) _ _
     c.in-Err.ensures c.refuse.ensures
 
 pub table_of_readings-table-requires : goal.table_of_readings-table-requires
@@ -32,7 +32,7 @@ pub of_table-requires : goal.of_table-requires
 of_table-requires c =
     let taken = passed _ c.in_default.ensures in
     rw c.table_of_readings-table.ensures
-    (table_taken c.args.n (samples c.args.n c.args.dilutions.now c.args.counts.now) (two-channels _ _ _ taken) (are-readings _ _ _ taken).channels)
+    (table_taken c.args.samples.now.n _ (two-channels _ _ _ taken) (are-readings _ _ _ taken).channels)
 
 -- what the entries and the e of the table load
 same-table : (n : ℕ) (ss : List Sample) (t : Table) → t ≡ table_of n ss →
@@ -43,7 +43,7 @@ same-table n ss t e = rw e (ap (λ l. loaded_solver n l (shift (scatter n ss))) 
 pub returns : goal.returns
 unfolding value_of accepted_of_under samples_solver table_under table_from_under
 returns c =
-    accepted c.args.self (load_samples c.args.n c.args.dilutions.now c.args.counts.now) c.requires _ (sym (samples-alone _ _ _ _ _)) _ _
+    accepted c.args.self (load_samples c.args.samples.now.n c.args.samples.now.dilutions.now c.args.samples.now.counts.now) c.requires _ (sym (samples-alone _ _ _ _ _)) _ _
     c.in_default.ensures
     (ap (λ (x : Table). SamplesLoaded x.e) c.table_of_readings-table.ensures)
-    (c.of_table.ensures.is ∙ same-table c.args.n _ _ c.table_of_readings-table.ensures)
+    (c.of_table.ensures.is ∙ same-table c.args.samples.now.n _ _ c.table_of_readings-table.ensures)

@@ -1,7 +1,7 @@
 use Rattle.std.proofs.Common.{rules}
 use Rattle.refusal.specs.Refusal.{judged}
 use Rattle.readings.specs.Refusal.{number_refusal}
-use Rattle.readings.proofs.check.Goals as goal
+use Rattle.readings.proofs.Samples.check_within.Goals as goal
 
 pub returns-then-not-within : goal.returns-then-not-within
 unfolding judged

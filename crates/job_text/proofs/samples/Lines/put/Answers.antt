@@ -4,7 +4,7 @@ use Rattle.text.specs.Line.{number_line}
 use Rattle.text.specs.laws.Lines.{line-within, lines_more, lines_none}
 use Rattle.text.specs.laws.Put.{part-size, put-nothing, put-part, same-put}
 use Rattle.job_text.specs.JobText.{sample_line}
-use Rattle.job_text.proofs.samples.Samples.put.Goals as goal
+use Rattle.job_text.proofs.samples.Lines.put.Goals as goal
 
 pub loop-i-init : goal.loop-i-init
 loop-i-init c = rw (lines_none (sample_line _ _ _)) (put-nothing 0 c.args.out.now (omega arith))
@@ -12,7 +12,7 @@ loop-i-init c = rw (lines_none (sample_line _ _ _)) (put-nothing 0 c.args.out.no
 pub put_line-at-requires : goal.put_line-at-requires
 unfolding sample_line
 put_line-at-requires c =
-    let a = c.args.self.now in
+    let a = c.args.self.now.samples in
     let i = c.loop-i.i in
     let room = line-within (sample_line a.n a.dilutions.now a.counts.now) (length a.dilutions.now) i c.loop-i-test.true in
     let line = ap (number_line 83) c.numbers.ensures.1 in
