@@ -6,7 +6,7 @@ use Rattle.book.specs.Consistent.{Consistent}
 use Rattle.book.specs.Done.{table_to}
 use Rattle.book.specs.declared.Book.{Book}
 use Rattle.job.specs.Job.{Job, accepted, job_of}
-use Rattle.job_table.specs.Held.{samples_of, table_for}
+use Rattle.job_table.specs.JobTable.{samples_of, table_for}
 use Rattle.job_text.specs.JobText.{job_text_of, job_with}
 use Rattle.readings.specs.Ranges.{parameters_in_range}
 

@@ -3,6 +3,7 @@ mod Keeping
 mod Same
 mod Bytes
 pub mod Tags
+pub mod Told
 mod Ends
 mod Fields
 mod Lines

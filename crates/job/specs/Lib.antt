@@ -1,5 +1,6 @@
 pub mod Job
 pub mod Values
+pub mod Held
 pub mod Reading
 pub mod Reply
 pub mod Range

@@ -11,13 +11,13 @@ mod samples;
 ghost use Rattle.std.specs.Prelude.{◌≡◌};
 ghost use Rattle.job.specs.Job.{job_of};
 ghost use Rattle.job.specs.Reading.{reading_of};
-ghost use Rattle.job.specs.inner.Scan.{new_job};
 
 use crate::first::first_line;
 use refusal::Refusal;
 use samples::samples;
+use std::marker::Model;
 
-// A job: the first k dilutions and the first k × n counts, n to a sample, are those of its samples, and the others are 0.
+// A job, every value in its range: the first k dilutions and the first k × n counts, n to a sample, are those of its samples, and the others are 0.
 // Rule of the project: no heap, so the arrays have the length of the longest job's.
 #[derive(Clone, Copy)]
 pub struct Job {
@@ -29,6 +29,22 @@ pub struct Job {
     pub counts: [u32; 2048],
 }
 
+impl Model for Job {
+    ghost use Rattle.job.specs.Job.{Job};
+
+    ghost Value = { Job };
+
+    ghost use Rattle.job.specs.Held.{Held, in_arrays, job_in};
+
+    ghost view = { job_in };
+
+    ghost invariant = { Held };
+
+    ghost inverse = { in_arrays };
+
+    ghost inverse_ok = { λ a h. h.whole };
+}
+
 // Why a text is refused, and at which line of it.
 #[derive(Clone, Copy, Debug, PartialEq, Eq)]
 pub struct RefusedLine {
@@ -36,29 +52,11 @@ pub struct RefusedLine {
     pub line: usize,
 }
 
-// A job that has no samples yet.
-fn new_job(n: usize, limit: u64, tolerance: u64) -> Job
-    ensures { result ≡ new_job n limit tolerance }
-{
-    Job {
-        n,
-        limit,
-        tolerance,
-        k: 0,
-        dilutions: [0; 256],
-        counts: [0; 2048],
-    }
-}
-
 pub fn read(text: &[u8]) -> Result<Job, RefusedLine>
     ensures { result ≡ reading_of (job_of text.now) }
 {
     match first_line(text) {
-        Ok(first) => samples(
-            text,
-            first.next,
-            new_job(first.n, first.limit, first.tolerance),
-        ),
+        Ok(first) => samples(text, first),
         Err(refusal) => Err(RefusedLine { refusal, line: 1 }),
     }
 }

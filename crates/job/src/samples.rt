@@ -1,10 +1,12 @@
 // The lines after the first: the samples, and the end.
-ghost use Rattle.std.specs.Prelude.{◌≡◌, ◌+◌, ◌-◌, ◌≤◌};
+ghost use Rattle.std.specs.Prelude.{◌≡◌, ◌+◌, ◌≤◌, Ok};
 ghost use Rattle.std.proofs.Math.Seq.{slice};
 ghost use Rattle.std.proofs.lemmas.List.Edits.{sets};
-ghost use Rattle.job.specs.inner.Scan.{finished_at, samples_at};
-ghost use Rattle.limits.specs.Limits.{most_samples};
+ghost use Rattle.job.specs.Job.{job_of};
+ghost use Rattle.job.specs.Reading.{reading_of};
+ghost use Rattle.job.specs.inner.LineScan.{parameters_at};
 
+use crate::first::Parameters;
 use crate::last::last_line;
 use crate::ranges::sample_within;
 use crate::sample::sample_line;
@@ -19,30 +21,17 @@ fn keep(counts: &mut [u32; 2048], numbers: &[u32; 9], from: usize, n: usize)
     counts[from..from + n].copy_from_slice(&numbers[1..=n]);
 }
 
-// The line after the samples of a job. Tried: `map_err(..)?` in place of the match leaves the goals of its exit open.
-fn finish(text: &[u8], at: usize, job: Job) -> Result<Job, RefusedLine>
-    requires { job.k ≤ most_samples }
-    ensures { result ≡ finished_at text.now at job }
+// The lines after the first, whose numbers these are: the samples from the place after it on, then the end.
+pub(crate) fn samples(text: &[u8], first: Parameters) -> Result<Job, RefusedLine>
+    requires { Ok first ≡ parameters_at text.now }
+    ensures { result ≡ reading_of (job_of text.now) }
 {
-    match last_line(text, at, job.k) {
-        Ok(()) => Ok(job),
-        Err(refusal) => Err(RefusedLine {
-            refusal,
-            line: job.k + 2,
-        }),
-    }
-}
-
-// The lines from a place of the text on, after the samples of a job.
-pub(crate) fn samples(text: &[u8], from: usize, start: Job) -> Result<Job, RefusedLine>
-    requires { (start.k ≤ most_samples) × (start.n ≤ 8) }
-    ensures { result ≡ samples_at (257 - start.k) text.now from start }
-{
-    let mut job = start;
-    let mut at = from;
-    while let Some(line) = sample_line(text, at, job.n) {
-        let n = job.n;
-        let k = job.k;
+    let n = first.n;
+    let mut k = 0;
+    let mut dilutions = [0; 256];
+    let mut counts = [0; 2048];
+    let mut at = first.next;
+    while let Some(line) = sample_line(text, at, n) {
         if !sample_within(&line.numbers, n) {
             return Err(RefusedLine {
                 refusal: Refusal::OutOfRange,
@@ -55,10 +44,24 @@ pub(crate) fn samples(text: &[u8], from: usize, start: Job) -> Result<Job, Refus
                 line: k + 2,
             });
         }
-        job.dilutions[k] = line.numbers[0];
-        keep(&mut job.counts, &line.numbers, k * n, n);
-        job.k = k + 1;
+        dilutions[k] = line.numbers[0];
+        keep(&mut counts, &line.numbers, k * n, n);
+        k += 1;
         at = line.next;
     }
-    finish(text, at, job)
+    // Tried: `map_err(..)?` in place of the match leaves the goals of its exit open.
+    match last_line(text, at, k) {
+        Ok(()) => Ok(Job {
+            n,
+            limit: first.limit,
+            tolerance: first.tolerance,
+            k,
+            dilutions,
+            counts,
+        }),
+        Err(refusal) => Err(RefusedLine {
+            refusal,
+            line: k + 2,
+        }),
+    }
 }

@@ -12,7 +12,7 @@ use Rattle.integer.specs.laws.Within.{all_append}
 use Rattle.job.specs.Job.{Job}
 use Rattle.job.specs.Values.{Proper, in_range}
 use Rattle.job.specs.laws.Proper.{channels, number, ranges, readings}
-use Rattle.job_table.specs.Held.{samples_of, table_for}
+use Rattle.job_table.specs.JobTable.{samples_of, table_for}
 use Rattle.job_text.specs.JobText.{job_line_e, job_line_p, job_text_of}
 use Rattle.job_text.proofs.Writer.{taken-proper}
 use Rattle.limits.specs.Limits.{least_dilution, least_samples, most_count, most_dilution, most_samples}

@@ -2,7 +2,7 @@
 -- proof.
 use Rattle.std.specs.Prelude.{◌≡◌}
 use Rattle.job.specs.Job.{Job}
-use Rattle.job_table.specs.Held.{samples_of, table_for}
+use Rattle.job_table.specs.JobTable.{samples_of, table_for}
 use Rattle.scatter.specs.BySums.{scatter_by_sums}
 use Rattle.scatter.specs.Table.{table_from}
 use Rattle.scatter.specs.declared.table.Table.{Table}

@@ -1,5 +1,4 @@
 // Two job texts in, the report of both jobs pooled or the refusal out.
-ghost use Rattle.job_table.specs.Held.{Held, job_in};
 ghost use Rattle.text.specs.Put.{Put};
 ghost use Rattle.job_pool.specs.Printed.{pool_printed};
 ghost use Rattle.job_pool.specs.Writer.{WritesPooled};
@@ -11,10 +10,8 @@ use readings::Samples;
 use refusal::Refusal;
 
 // Of the first k dilutions and the first k × n counts of each.
-#[tactic(auto, unfolding(job_table::specs::Held::job_in))]
 fn pool_jobs(first: Job, second: Job, buf: &mut [u8]) -> Result<usize, Refusal>
-    requires { Held first × Held second }
-    ensures { WritesPooled (job_in first) (job_in second) buf.old buf.new result }
+    ensures { WritesPooled first second buf.old buf.new result }
 {
     let samples1 = Samples {
         n: first.n,

@@ -1,4 +1,4 @@
-pub mod Held
+pub mod JobTable
 pub mod Table
 pub mod inner
 pub mod laws

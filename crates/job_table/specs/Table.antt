@@ -2,7 +2,7 @@
 use Rattle.std.specs.Prelude.{ℕ, ◌+◌, ◌≡◌, List, [], ◌∷◌, ◌++◌, map, ℤ, pos, length}
 use Rattle.integer.specs.Tabulate.{tabulate}
 use Rattle.job.specs.Job.{Job}
-use Rattle.job_table.specs.Held.{samples_of}
+use Rattle.job_table.specs.JobTable.{samples_of}
 use Rattle.readings.specs.Samples.{Sample}
 use Rattle.scatter.specs.Table.{S, scatter, shift, table_of}
 use Rattle.scatter.specs.declared.table.Table.{Table}

@@ -5,7 +5,7 @@ pub mod lines;
 mod rows;
 
 ghost use Rattle.std.specs.Prelude.{◌≡◌};
-ghost use Rattle.job_table.specs.Held.{Held, job_in, table_for};
+ghost use Rattle.job_table.specs.JobTable.{table_for};
 
 use job::Job;
 use readings::Samples;
@@ -13,8 +13,7 @@ use scatter::table::Table;
 
 // That of the first k dilutions and the first k × n counts. The arrays are lent, since a copy of them costs more than a small table.
 pub fn table_of(job: Job) -> Table
-    requires { Held job }
-    ensures { result ≡ table_for (job_in job) }
+    ensures { result ≡ table_for job }
 {
     let counted = job.k * job.n;
     scatter::table::table_of_readings(&Samples {

@@ -2,7 +2,6 @@
 ghost use Rattle.std.specs.Prelude.{◌≡◌, ◌∷◌, [], ◌≤◌, length, pos};
 ghost use Rattle.job.specs.Job.{accepted};
 ghost use Rattle.job.specs.Reply.{Answers, Replies, printed_of};
-ghost use Rattle.job_table.specs.Held.{Held, job_in};
 ghost use Rattle.text.specs.Put.{Put, Sized};
 ghost use Rattle.text.specs.Rows.{Wide};
 ghost use Rattle.job_table.specs.inner.Done.{text_of_rows};
@@ -57,8 +56,7 @@ impl Lines {
 
 // The length is known before the first byte is written, so a buffer that is too short stays as it is.
 fn table_job(job: Job, buf: &mut [u8]) -> Result<usize, RefusedLine>
-    requires { Held job }
-    ensures { Answers table_text (accepted (job_in job)) buf.old buf.new result }
+    ensures { Answers table_text (accepted job) buf.old buf.new result }
 {
     let table = crate::table_of(job);
     let lines = Lines::of(job.n, job.k, table);

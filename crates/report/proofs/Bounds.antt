@@ -8,7 +8,7 @@ use lib.ListN.{length}
 use Rattle.job.specs.Job.{Job}
 use Rattle.job.specs.Values.{Proper}
 use Rattle.job.specs.laws.Proper.{channels, limit-most, number, samples-taken, tolerance-most}
-use Rattle.job_table.specs.Held.{samples_of, table_for}
+use Rattle.job_table.specs.JobTable.{samples_of, table_for}
 use Rattle.limits.specs.Limits.{most_sweeps}
 use Rattle.limits.specs.laws.Values.{some-entry}
 use Rattle.run.specs.laws.Calls.{AsCalls, run-calls, samples-begin, table-run-is}

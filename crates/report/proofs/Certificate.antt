@@ -18,7 +18,7 @@ use Rattle.job.proofs.Accepted.{accepted-proper}
 use Rattle.job.specs.Job.{Job, accepted, job_of}
 use Rattle.job.specs.Reply.{printed_by, printed_of}
 use Rattle.job.specs.Values.{Proper}
-use Rattle.job_table.specs.Held.{samples_of}
+use Rattle.job_table.specs.JobTable.{samples_of}
 use Rattle.job.specs.laws.Proper.{channels, samples-taken}
 use Rattle.ledger.specs.Axis.{error_of}
 use Rattle.ledger.specs.Bench.{NamedCall, is_bench}

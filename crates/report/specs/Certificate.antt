@@ -6,7 +6,7 @@ use Rattle.integer.specs.Matrix.{Matrix, Same, diagonal, product, transpose}
 use Rattle.integer.specs.Tabulate.{tabulate}
 use Rattle.job.specs.Job.{Job, accepted, job_of}
 use Rattle.job.specs.Reply.{printed_of}
-use Rattle.job_table.specs.Held.{samples_of}
+use Rattle.job_table.specs.JobTable.{samples_of}
 use Rattle.ledger.specs.Ledger.{State, loaded, ledger}
 use Rattle.ledger.specs.Near.{DirectionNear, RowNear}
 use Rattle.record.specs.declared.run.Outcome.{Outcome}

@@ -7,7 +7,6 @@ mod order;
 
 ghost use Rattle.job.specs.Job.{accepted};
 ghost use Rattle.job.specs.Reply.{Answers, Replies, printed_of};
-ghost use Rattle.job_table.specs.Held.{Held, job_in};
 ghost use Rattle.text.specs.Put.{Put};
 ghost use Rattle.report.specs.Done.{Ran, Reportable, ReportsRun, TableReportable, TableRunnable, run_of_table};
 ghost use Rattle.report.specs.Report.{report_of, run_for};
@@ -71,16 +70,14 @@ pub fn report_table(
 
 // The run of a job, on its table.
 pub fn run_of_job(job: Job) -> Run
-    requires { Held job }
-    ensures { Ran (run_for (job_in job)) result }
+    ensures { Ran (run_for job) result }
 {
     let table = job_table::table_of(job);
     run_of_table(job.n, job.limit, job.tolerance, table)
 }
 
 fn report_job(job: Job, buf: &mut [u8]) -> Result<usize, RefusedLine>
-    requires { Held job }
-    ensures { Answers report_of (accepted (job_in job)) buf.old buf.new result }
+    ensures { Answers report_of (accepted job) buf.old buf.new result }
 {
     let table = job_table::table_of(job);
     report_table(job.n, job.k, job.limit, job.tolerance, table, buf).map_err(|refusal| RefusedLine {

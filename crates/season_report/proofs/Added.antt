@@ -5,7 +5,8 @@ use mathlib.Core.List.{List, [], ◌∷◌, ◌++◌}
 use native.Mathlib.Nat.{add-zero}
 use Rattle.std.proofs.Common.{sub-one}
 use native.Mathlib.Omega.{arith}
-use mathlib.Core.Bool.{cond}
+use mathlib.Core.Bool.{cond, false}
+use borrow.Author.Tests.{ne_eqb}
 use Rattle.std.specs.Prelude.{Option}
 use Rattle.season_report.specs.declared.LargestError.{LargestError}
 use lib.Dec.{eqb}
@@ -40,6 +41,21 @@ one-counted (a ∷ b ∷ c ∷ d ∷ []) (suc (suc (suc (suc zero)))) n h l = λ
 one-counted (a ∷ b ∷ c ∷ d ∷ []) (suc (suc (suc (suc (suc k))))) n h l = absurd (omega arith)
 one-counted (a ∷ b ∷ c ∷ d ∷ e ∷ es) number n h l = absurd (omega arith)
 
+-- no refusal leaves them
+same-counts : (xs : List ℕ) → length xs ≡ 4 → xs ≡ by_number (λ k. get_or xs (k - 1) 0 + 0)
+same-counts [] n = absurd (omega arith)
+same-counts (a ∷ []) n = absurd (omega arith)
+same-counts (a ∷ b ∷ []) n = absurd (omega arith)
+same-counts (a ∷ b ∷ c ∷ []) n = absurd (omega arith)
+same-counts (a ∷ b ∷ c ∷ d ∷ []) n = λ i. sym (add-zero a) i ∷ sym (add-zero b) i ∷ sym (add-zero c) i ∷ sym (add-zero d) i ∷ []
+same-counts (a ∷ b ∷ c ∷ d ∷ e ∷ es) n = absurd (omega arith)
+
+-- nor does one of another number
+pub none-counted : (xs : List ℕ) (number : ℕ) → length xs ≡ 4 → 4 ≤ number - 1 → xs ≡ counts_with xs number
+none-counted xs number n h =
+    let other : (k : ℕ) → k ≤ 4 → eqb number k ≡ false = λ k l. ne_eqb number k (λ e. omega arith) in
+    same-counts xs n ∙ sym (rw (other 1 (omega arith), other 2 (omega arith), other 3 (omega arith), other 4 (omega arith)) refl)
+
 -- the errors of the first i axes
 unfoldable pub errors_to : Record → ℕ → List ℕ
 errors_to r i = tabulate i (λ k. error_at r (suc k))
@@ -62,15 +78,6 @@ errors-more l job r i h p q e =
 pub errors-all : (r : Record) → errors_to r r.solver.n ≡ record_errors r
 unfolding errors_to record_errors
 errors-all r = refl
-
--- no refusal leaves them
-same-counts : (xs : List ℕ) → length xs ≡ 4 → xs ≡ by_number (λ k. get_or xs (k - 1) 0 + 0)
-same-counts [] n = absurd (omega arith)
-same-counts (a ∷ []) n = absurd (omega arith)
-same-counts (a ∷ b ∷ []) n = absurd (omega arith)
-same-counts (a ∷ b ∷ c ∷ []) n = absurd (omega arith)
-same-counts (a ∷ b ∷ c ∷ d ∷ []) n = λ i. sym (add-zero a) i ∷ sym (add-zero b) i ∷ sym (add-zero c) i ∷ sym (add-zero d) i ∷ []
-same-counts (a ∷ b ∷ c ∷ d ∷ e ∷ es) n = absurd (omega arith)
 
 pub refused-added : (s : Season) (number : ℕ) {counts : List ℕ} → counts ≡ counts_with s.refused number →
     ◌≡◌ {A = Season}

@@ -52,14 +52,17 @@ fn with_errors(mut largest: Option<LargestError>, job: u64, r: Record) -> Option
     largest
 }
 
-// A refused job: under one of the numbers 1 to 4, as each text that is refused.
+// A refused job, counted under its number: one of 1 to 4, as that of each text that is refused.
 pub(crate) fn with_refused(s: Season, refusal: Refusal) -> Season
-    requires { SeasonLimits s × (s.jobs < most_jobs) × (1 ≤ number_of refusal) × (number_of refusal ≤ 4) }
+    requires { SeasonLimits s × (s.jobs < most_jobs) }
     ensures { (result ≡ added s (refused_under (number_of refusal))) × SeasonLimits result }
 {
     let mut refused = s.refused;
     let place = refusal.number() as usize - 1;
-    refused[place] += 1;
+    // Tried: after `get_mut` the answer has no name of its own for what the list holds where there is no such place.
+    if place < refused.len() {
+        refused[place] += 1;
+    }
     Season {
         jobs: s.jobs + 1,
         refused,

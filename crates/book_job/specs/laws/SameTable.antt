@@ -15,7 +15,7 @@ use Rattle.readings.specs.Samples.{Sample, sample_at, samples}
 use Rattle.scatter.specs.Table.{table_of}
 use Rattle.refusal.specs.Refusal.{judged}
 use Rattle.job.specs.Values.{Proper, in_range}
-use Rattle.job_table.specs.Held.{samples_of, table_for}
+use Rattle.job_table.specs.JobTable.{samples_of, table_for}
 use Rattle.job_text.proofs.Reading.{reads-back}
 use Rattle.book.specs.Book.{counts_of, dilutions_of, samples_in}
 use Rattle.book.specs.Calls.{book_refusal, make_table}

@@ -86,7 +86,7 @@ module _ (f : Job → List ℕ) where
     refused-by (refused number line) refusal k h r =
         let e = r.answer in
         let p : refusal ≡ record { refusal = numbered number; line = line } = cc in
-        (r.buffer, rw p (rw k))
+        (r.buffer, rw p (rw k.is))
     refused-by (accepted j) refusal k h r = by-test (leb (length (f j)) (length entry)) refl r.answer
       where
         by-test : (b : Bool) → leb (length (f j)) (length entry) ≡ b →

@@ -1,15 +1,15 @@
 -- Laws of what the program prints: by what the texts are read as, and by what the writer of the report answers.
 use Rattle.std.specs.Prelude.{ℕ, ◌≤◌, ◌≡◌, List, Result, Ok, Err, length}
 use Rattle.std.proofs.Math.Path.{sym}
-use Rattle.std.proofs.Common.{◌∙◌, zero-add, arith}
+use Rattle.std.proofs.Common.{◌∙◌, zero-add}
 use Rattle.std.proofs.Math.Nat.{le_trans}
 use borrow.Author.Tests.{eq-eqb, ne_eqb}
-use Rattle.job.specs.Job.{Answer, Job, accepted, job_of, refused}
+use Rattle.job.specs.Job.{Job, accepted, job_of}
 use Rattle.job.specs.Reading.{reading_of}
 use Rattle.job.specs.declared.RefusedLine.{RefusedLine}
-use Rattle.job.specs.laws.Refusals.{Known, known}
+use Rattle.job.specs.laws.Reading.{refused-read}
 use Rattle.refusal.specs.declared.Refusal.{Refusal}
-use Rattle.refusal.specs.Refusal.{number_of, numbered}
+use Rattle.refusal.specs.Refusal.{number_of}
 use Rattle.report.specs.Report.{report_of}
 use Rattle.text.specs.Put.{Put}
 use Rattle.text.specs.laws.Written.{length-tells, refusal-tells}
@@ -20,28 +20,16 @@ use Rattle.job_pool.specs.Writer.{WritesPooled}
 use Rattle.job_pool.specs.laws.Refusal.{pool-known}
 
 -- a text that is refused
-first_by : (first second : Answer) (r : RefusedLine) → Known first → reading_of first ≡ Err r →
-    printed_for first second ≡ refused_job_line (number_of r.refusal) r.line 1
-unfolding reading_of printed_for
-first_by (refused number at) second r k e = let q : r ≡ record { refusal = numbered number; line = at } = cc in rw q (rw k)
-first_by (accepted j) second r k e = absurd (let x : ◌≡◌ {A = ℕ} 0 1 = cc in omega arith)
-
-second-by : (a : Job) (second : Answer) (r : RefusedLine) → Known second → reading_of second ≡ Err r →
-    printed_for (accepted a) second ≡ refused_job_line (number_of r.refusal) r.line 2
-unfolding reading_of printed_for
-second-by a (refused number at) r k e = let q : r ≡ record { refusal = numbered number; line = at } = cc in rw q (rw k)
-second-by a (accepted j) r k e = absurd (let x : ◌≡◌ {A = ℕ} 0 1 = cc in omega arith)
-
 module _ (first second : List ℕ) where
   pub first-refused : (r : RefusedLine) → reading_of (job_of first) ≡ Err r →
       pool_printed first second ≡ refused_job_line (number_of r.refusal) r.line 1
-  unfolding pool_printed
-  first-refused r e = first_by (job_of first) (job_of second) r (known first) e
+  unfolding pool_printed printed_for
+  first-refused r e = rw (refused-read first r e)
 
   pub second-refused : (a : Job) → job_of first ≡ accepted a → (r : RefusedLine) → reading_of (job_of second) ≡ Err r →
       pool_printed first second ≡ refused_job_line (number_of r.refusal) r.line 2
-  unfolding pool_printed
-  second-refused a p r e = rw p (second-by a (job_of second) r (known second) e)
+  unfolding pool_printed printed_for
+  second-refused a p r e = rw (p, refused-read second r e)
 
 -- two texts that are accepted, and a buffer of 2,048 bytes
 module _ (first second : List ℕ) (a b : Job) (p : job_of first ≡ accepted a) (q : job_of second ≡ accepted b) where

@@ -8,10 +8,11 @@ use Rattle.std.specs.Result.{IsErrAnd}
 use Rattle.job.specs.Job.{accepted}
 use Rattle.job.specs.Reply.{Answers}
 use Rattle.job.specs.laws.Replying.{as_reply, written-answers}
-use Rattle.job.specs.declared.Job as arrays
+use Rattle.job.specs.Held.{Held, job_in}
+use Rattle.job.specs.declared.Job.TheInside.{Inside}
 use Rattle.job.specs.declared.RefusedLine.{RefusedLine}
-use Rattle.job_table.specs.Held.{Held, job_in, table_for}
-use Rattle.job_table.specs.laws.Laws.{samples-held}
+use Rattle.job.specs.laws.Held.{samples-held}
+use Rattle.job_table.specs.JobTable.{table_for}
 use Rattle.refusal.specs.declared.Refusal.{Refusal}
 use Rattle.scatter.specs.declared.table.Table.{Table}
 use Rattle.report.specs.Done.{ReportsRun, TableReportable, run_of_table}
@@ -20,7 +21,7 @@ use Rattle.report.proofs.Bounds.{table-reportable, table-reports}
 use Rattle.report.proofs.report_job.Goals as goal
 
 -- arrays that hold a job, and the job's table
-module _ (a : arrays.Job) (h : Held a) (t : Table) (e : t ≡ table_for (job_in a)) where
+module _ (a : Inside) (h : Held a) (t : Table) (e : t ≡ table_for (job_in a)) where
   reportable : TableReportable a.n a.k a.limit a.tolerance t
   unfolding job_in
   reportable = table-reportable (job_in a) h.proper t e a.k (samples-held a h)
@@ -33,7 +34,7 @@ module _ (a : arrays.Job) (h : Held a) (t : Table) (e : t ≡ table_for (job_in 
       written-answers report_of (job_in a) done.1 _ done.0
 
 pub report_table-requires : goal.report_table-requires
-report_table-requires c = reportable c.args.job c.requires _ c.table_of-table.ensures
+report_table-requires c = reportable _ c.job.invariant _ (rw (← c.job.view_is) at c.table_of-table.ensures)
 
 -- the writer's answer, with line 0 at its refusal
 abbrev Mapped : Result ℕ Refusal → Result ℕ RefusedLine → Type 0
@@ -48,4 +49,5 @@ mapped (Err e) (Err d) h = ap Err h
 pub returns : goal.returns
 returns c =
     let told : Mapped c.report_table.result c.map_err.result = search rules in
-    rw (mapped _ _ told) (answers c.args.job c.requires _ c.table_of-table.ensures c.report_table.ensures)
+    rw (mapped _ _ told, ← c.job.view_is)
+    (answers _ c.job.invariant _ (rw (← c.job.view_is) at c.table_of-table.ensures) c.report_table.ensures)

@@ -1,34 +1,64 @@
--- `samples::samples` meets its contract.
+-- `samples::samples` meets its contract: each line that was read picks the same branch of `samples_at`.
 use Rattle.std.proofs.Common.{◌∙◌, sym, refl, arith, rules}
-use Rattle.job.specs.inner.Scan.{kept}
-use Rattle.job.proofs.Keeping.{samples-end, samples-beyond, samples-full, samples-more}
+use Rattle.job.proofs.Keeping.{kept-within, samples-beyond, samples-ended, samples-full, samples-more, samples-refused}
+use Rattle.job.proofs.Same.{parameters-few}
+use Rattle.job.proofs.Told.{begun, tells-job, tells-refusal}
+use Rattle.job.specs.inner.Scan.{kept, new_job}
 use Rattle.job.proofs.samples.samples.Goals as goal
 
-pub returns : goal.returns
-returns c =
-    let v = c.loop-line.invariant in
-    c.finish.ensures ∙ samples-end _ _ _ _ v.3 v.0 _ c.sample_line.ensures c.in_default.is
+pub loop-line-init : goal.loop-line-init
+unfolding new_job
+loop-line-init c = record {
+  few = omega arith;
+  channels = parameters-few _ _ (sym c.requires);
+  long = search rules;
+  reads = begun _ _ c.requires;
+}
 
 pub returns-then-not-sample_within : goal.returns-then-not-sample_within
 returns-then-not-sample_within c =
     let v = c.loop-line.invariant in
-    samples-beyond _ _ _ _ v.3 v.0 _ c.sample_line.ensures _ c.in-Some.is
-    (sym c.sample_within.ensures ∙ c.if-not-sample_within.true)
+    tells-refusal _ _
+    (samples-beyond _ _ _ _ v.reads v.few _ c.sample_line.ensures _ c.in-Some.is (sym c.sample_within.ensures ∙ c.if-not-sample_within.true))
 
 pub returns-then-k-ge-MOST_SAMPLES : goal.returns-then-k-ge-MOST_SAMPLES
 returns-then-k-ge-MOST_SAMPLES c =
     let v = c.loop-line.invariant in
-    samples-full _ _ _ _ v.3 v.0 _ c.sample_line.ensures _ c.in-Some.is
-    (sym c.sample_within.ensures ∙ c.if-not-sample_within.false) c.if-k-ge-MOST_SAMPLES.true
+    tells-refusal _ _
+    (samples-full _ _ _ _ v.reads v.few _ c.sample_line.ensures _ c.in-Some.is (sym c.sample_within.ensures ∙ c.if-not-sample_within.false)
+    c.if-k-ge-MOST_SAMPLES.true)
+
+pub overflow_mul-k : goal.overflow_mul-k
+overflow_mul-k c = record { fits = omega (arith, kept-within _ _ c.if-k-ge-MOST_SAMPLES.false c.loop-line.invariant.channels) }
+
+pub keep-requires : goal.keep-requires
+keep-requires c = (c.loop-line.invariant.channels, kept-within _ _ c.if-k-ge-MOST_SAMPLES.false c.loop-line.invariant.channels)
 
 pub loop-line-preserved : goal.loop-line-preserved
 unfolding kept
 loop-line-preserved c =
-    let v = c.loop-line.invariant in (
-      omega arith,
-      v.1,
-      search rules,
-      samples-more _ _ _ _ v.3 v.0 _ c.sample_line.ensures _ c.in-Some.is
-          (sym c.sample_within.ensures ∙ c.if-not-sample_within.false) c.if-k-ge-MOST_SAMPLES.false
-          ∙ rw c.keep.ensures refl,
-    )
+    let v = c.loop-line.invariant in record {
+      few = omega arith;
+      channels = v.channels;
+      long = search rules;
+      reads =
+          samples-more _ _ _ _ v.reads v.few _ c.sample_line.ensures _ c.in-Some.is (sym c.sample_within.ensures ∙ c.if-not-sample_within.false)
+          c.if-k-ge-MOST_SAMPLES.false
+          ∙ rw c.keep.ensures refl;
+    }
+
+-- The job that was read is the text's.
+pub invariant_of-result : goal.invariant_of-result
+invariant_of-result c =
+    let v = c.loop-line.invariant in
+    (tells-job _ _ (samples-ended _ _ _ _ v.reads v.few _ c.sample_line.ensures c.in_default.is _ c.last_line.ensures _ c.in-Ok.is)).0
+
+pub returns-in-Ok : goal.returns-in-Ok
+returns-in-Ok c =
+    let v = c.loop-line.invariant in
+    (tells-job _ _ (samples-ended _ _ _ _ v.reads v.few _ c.sample_line.ensures c.in_default.is _ c.last_line.ensures _ c.in-Ok.is)).1
+
+pub returns-in-Err : goal.returns-in-Err
+returns-in-Err c =
+    let v = c.loop-line.invariant in
+    tells-refusal _ _ (samples-refused _ _ _ _ v.reads v.few _ c.sample_line.ensures c.in_default.is _ c.last_line.ensures _ c.in-Err.is)

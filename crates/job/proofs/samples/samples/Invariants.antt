@@ -1,12 +1,23 @@
--- The invariant: the reading from the start is the reading from `at` with the samples so far.
+-- The invariant: the reading of the text is the reading from `at` with the samples so far.
 use Rattle.std.proofs.Common.{◌≡◌, ◌-◌, ◌≤◌, length}
-use Rattle.job.specs.inner.Scan.{samples_at}
+use Rattle.job.specs.Job.{job_of}
+use Rattle.job.specs.inner.Scan.{arrays_of, samples_at}
 use Rattle.job.proofs.samples.samples.Given as goal
 
 abbrev pub invariant-loop-line : goal.invariant-loop-line
-invariant-loop-line l =
-    (l.job.k ≤ 256) × (l.job.n ≤ 8) × (length l.job.dilutions ≡ 256)
-    × (samples_at (257 - l.fn.start.k) l.text l.from l.fn.start ≡ samples_at (257 - l.job.k) l.text l.at l.job)
+invariant-loop-line l = record {
+  few : l.k ≤ 256;
+  channels : l.n ≤ 8;
+  long : length l.dilutions ≡ 256;
+  reads : arrays_of (job_of l.text) ≡ samples_at (257 - l.k) l.text l.at (record {
+    n = l.n;
+    limit = l.first.limit;
+    tolerance = l.first.tolerance;
+    k = l.k;
+    dilutions = l.dilutions;
+    counts = l.counts;
+  });
+}
 
 abbrev pub decreases-loop-line : goal.decreases-loop-line
-decreases-loop-line l = 257 - l.job.k
+decreases-loop-line l = 257 - l.k

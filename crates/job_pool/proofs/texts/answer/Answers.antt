@@ -3,7 +3,7 @@ use mathlib.Core.Path.{sym}
 use Prim.Native.Nat.{◌≤◌}
 use borrow.Author.Rules.{rules}
 use lib.ListN.{length}
-use Rattle.job_table.specs.laws.Laws.{accepted-read}
+use Rattle.job.specs.laws.Reading.{accepted-read}
 use Rattle.job_pool.specs.laws.Printed.{first-refused, refusal-printed, second-refused, whole-printed}
 use Rattle.job_pool.proofs.texts.answer.Goals as goal
 
@@ -13,17 +13,14 @@ returns-in-Err c = rw (first-refused _ _ _ (sym c.in-Err.ensures)) c.put_refused
 pub returns-in-Err-read : goal.returns-in-Err-read
 returns-in-Err-read c =
     let first = accepted-read _ _ (sym c.in-Ok.ensures) in
-    rw (second-refused _ _ _ first.is _ (sym c.in-Err-read.ensures)) c.put_refused_job-in-Err-read.ensures
-
-pub pool_jobs-requires : goal.pool_jobs-requires
-pool_jobs-requires c = ((accepted-read _ _ (sym c.in-Ok.ensures)).held, (accepted-read _ _ (sym c.in-Ok-read.ensures)).held)
+    rw (second-refused _ _ _ first _ (sym c.in-Err-read.ensures)) c.put_refused_job-in-Err-read.ensures
 
 pub returns-in-Ok-pool_jobs : goal.returns-in-Ok-pool_jobs
 returns-in-Ok-pool_jobs c =
     let first = accepted-read _ _ (sym c.in-Ok.ensures) in
     let second = accepted-read _ _ (sym c.in-Ok-read.ensures) in
     let room : 2048 ≤ length c.args.out.now = search rules in
-    whole-printed _ _ _ _ first.is second.is _ _ room _ c.pool_jobs.ensures _ c.in-Ok-pool_jobs.is
+    whole-printed _ _ _ _ first second _ _ room _ c.pool_jobs.ensures _ c.in-Ok-pool_jobs.is
 
 -- At a refusal the buffer is as it was, and the refusal's line is to be printed.
 pub returns-in-Err-pool_jobs : goal.returns-in-Err-pool_jobs
@@ -31,5 +28,5 @@ returns-in-Err-pool_jobs c =
     let first = accepted-read _ _ (sym c.in-Ok.ensures) in
     let second = accepted-read _ _ (sym c.in-Ok-read.ensures) in
     let room : 2048 ≤ length c.args.out.now = search rules in
-    let denied = refusal-printed _ _ _ _ first.is second.is _ _ room _ c.pool_jobs.ensures _ c.in-Err-pool_jobs.is in
+    let denied = refusal-printed _ _ _ _ first second _ _ room _ c.pool_jobs.ensures _ c.in-Err-pool_jobs.is in
     rw denied.1 (rw denied.0 at c.put_refused_job-in-Err-pool_jobs.ensures)
