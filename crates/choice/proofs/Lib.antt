@@ -1,2 +1,3 @@
 mod Chosen
 mod Search
+pub mod ProvedBy

@@ -28,6 +28,7 @@ pub fn threshold_of(l: u32) -> u64
 }
 
 // The smallest l from 1 to 14 that fits y and g.
+#[tactic(auto, using(crate::proofs::ProvedBy::smallest_fit))]
 fn smallest_fit(y: u64, g: u64, minus: bool) -> Option<Turn>
     requires { (y ≤ 2 * widest) × (g ≤ 2 * widest) }
     ensures { result ≡ smallest_fit y g minus 1 14 }
@@ -42,6 +43,7 @@ fn smallest_fit(y: u64, g: u64, minus: bool) -> Option<Turn>
 }
 
 // The turn of a pair p < q, from a_pp, a_qq and a_pq.
+#[tactic(auto, using(crate::proofs::ProvedBy::choose_turn))]
 pub fn choose_turn(app: i64, aqq: i64, apq: i64) -> Option<Turn>
     requires { (nat_abs app ≤ widest) × (nat_abs aqq ≤ widest) × (nat_abs apq ≤ widest) }
     ensures { result ≡ choose app aqq apq }
