@@ -19,3 +19,6 @@ whole-counted c n k p r = by (ℕ_discrete (c / n) k)
     by : Dec (c / n ≡ k) → eqb (c / n) k ≡ eqb c (n * k)
     by (yes q) = eq-eqb (c / n) k q ∙ sym (eq-eqb c (n * k) (sym (div-add-mod c n) ∙ rw (r, q, add-zero)))
     by (no f) = ne_eqb (c / n) k f ∙ sym (ne_eqb c (n * k) (λ e. f (rw e (mul-div_right k {m = n} p))))
+
+-- by which `Samples::are_counted` is proved
+pub ruleset counted = (ne_eqb, left_over, none-counted, whole-counted)

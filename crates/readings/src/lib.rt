@@ -11,6 +11,7 @@ ghost use Rattle.readings.specs.Refusal.{are_counted, are_so_many, job_refusal, 
 
 use refusal::Refusal;
 
+#[tactic(auto, unfolding(integer::specs::Within::within))]
 pub fn is_within(low: u64, high: u64, x: u64) -> bool
     ensures { result ≡ within low high x }
 {
@@ -35,6 +36,7 @@ pub fn channels_within(n: usize) -> bool
 }
 
 // "`P` n (2..8), sweep limit (1..16), tolerance t in units (0..1,048,576)."
+#[tactic(auto, unfolding(crate::specs::Ranges::parameters_in_range))]
 pub fn parameters_within(n: usize, limit: u64, tolerance: u64) -> bool
     ensures { result ≡ parameters_in_range n limit tolerance }
 {
@@ -77,6 +79,7 @@ impl Samples<'_> {
     }
 
     // Whether there are n counts to a sample. No product is made: n and the lengths may be any.
+    #[tactic(auto, using(crate::proofs::Counted::counted))]
     pub fn are_counted(&self) -> bool
         ensures { result ≡ are_counted self.now.n self.now.dilutions.now self.now.counts.now }
     {
@@ -97,6 +100,7 @@ impl Samples<'_> {
     }
 
     // 'tried in that order': whether all values are within their ranges, how many counts there are, how many samples.
+    #[tactic(auto, unfolding(refusal::specs::Refusal::judged, crate::specs::Refusal::number_refusal))]
     fn check_within(&self, within: bool) -> Result<(), Refusal>
         ensures { result ≡ judged (unless within 2 (number_refusal self.now.n self.now.dilutions.now self.now.counts.now)) (record {}) }
     {
@@ -113,6 +117,7 @@ impl Samples<'_> {
     }
 
     // What n and samples are refused with.
+    #[tactic(auto, unfolding(crate::specs::Refusal::samples_refusal))]
     pub fn check(&self) -> Result<(), Refusal>
         ensures { result ≡ judged (samples_refusal self.now.n self.now.dilutions.now self.now.counts.now) (record {}) }
     {
@@ -120,6 +125,7 @@ impl Samples<'_> {
     }
 
     // What a job of these samples is refused with.
+    #[tactic(auto, unfolding(crate::specs::Refusal::job_refusal))]
     pub fn check_job(&self, limit: u64, tolerance: u64) -> Result<(), Refusal>
         ensures { result ≡ judged (job_refusal self.now.n limit tolerance self.now.dilutions.now self.now.counts.now) (record {}) }
     {

@@ -3,7 +3,7 @@ use Rattle.std.proofs.Common.{◌∙◌, rules}
 use Rattle.std.proofs.lemmas.Iterator.{YieldsList-from_slice}
 use Rattle.std.proofs.lemmas.Iterator.Search.{all_from_yields_List}
 use Rattle.integer.specs.Within.{within}
-use Rattle.readings.proofs.Within.{list_all-within}
+use Rattle.integer.specs.laws.Within.{list_all-within}
 use Rattle.readings.proofs.all_within.Goals as goal
 
 pub returns : goal.returns
