@@ -8,3 +8,4 @@ pub mod Gain
 pub mod Norm
 pub mod Pass
 pub mod Whole
+pub mod ProvedBy

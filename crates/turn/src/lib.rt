@@ -29,6 +29,7 @@ pub fn turn_axes(v: &mut [[i64; 8]; 8], n: usize, r: Rotation, p: usize, q: usiz
 }
 
 // The block of rows p and q; its entry at p, q stands at q, p too.
+#[tactic(auto, using(crate::proofs::ProvedBy::put_block))]
 fn put_block(a: &mut [[i64; 8]; 8], p: usize, q: usize, pp: i64, pq: i64, qq: i64)
     requires { (p < q) × (q < 8) × Shaped a.old }
     ensures { a.new ≡ square (with_block p q (at a.old) pp pq qq) }

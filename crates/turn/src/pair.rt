@@ -13,6 +13,7 @@ pub struct Rotation {
 
 impl Rotation {
     // The rotation that l and the sign f stand for; `minus` says that f is −1.
+    #[tactic(auto, using(crate::proofs::ProvedBy::of), unfolding(crate::specs::Rotation::rotation_of))]
     pub fn of(l: u32, minus: bool) -> Self
         requires { (1 ≤ l) × (l ≤ 14) }
         ensures { result ≡ rotation_of l minus }
@@ -26,6 +27,7 @@ impl Rotation {
     }
 
     // The rotation back.
+    #[tactic(auto, using(crate::proofs::ProvedBy::inverse), unfolding(crate::specs::inner::Rotation::inverse))]
     pub(crate) fn inverse(self) -> Self
         requires { nat_abs self.s < 2 ^ 63 }
         ensures { result ≡ inverse self }
