@@ -20,6 +20,7 @@ pub fn run(n: usize, numbers: &[i64], limit: u64, tolerance: u64) -> Run
 
 // Of a table: its entries, and the shift e, which the record remembers. No plainer as one with `run`: a matrix is loaded by the load call, which
 // judges it, and a table is not.
+#[tactic(auto, using(crate::proofs::ProvedBy::run_table), unfolding(record::specs::Solver::loaded_solver, crate::specs::Run::table_run))]
 pub fn run_table(n: usize, numbers: &[i64], e: u32, limit: u64, tolerance: u64) -> Run
     requires { Allowed n numbers.now limit tolerance }
     ensures { RunsTable n numbers.now e limit tolerance result }

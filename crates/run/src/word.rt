@@ -4,6 +4,7 @@ ghost use Rattle.run.specs.Word.{outcome_word};
 
 use record::Outcome;
 
+#[tactic(auto, unfolding(crate::specs::Word::outcome_word))]
 pub fn word_of(outcome: Outcome) -> &'static [u8]
     ensures { result.now ≡ outcome_word outcome }
 {
