@@ -9,3 +9,4 @@ mod Fields
 mod Lines
 mod Numeral
 pub mod Records
+pub mod ProvedBy

@@ -3,6 +3,7 @@ ghost use Rattle.std.specs.Prelude.{◌≡◌};
 ghost use Rattle.job.specs.inner.FieldScan.{tagged_at, may_follow, digits_at, field_at};
 
 // Whether the tag and a tab stand at a place of the text.
+#[tactic(auto, using(crate::proofs::ProvedBy::tagged))]
 pub(crate) fn tagged(text: &[u8], at: usize, tag: u8) -> bool
     ensures { result ≡ tagged_at text.now at tag }
 {
@@ -35,6 +36,7 @@ fn may_follow(value: u32, b: u8) -> bool
 }
 
 // The rest of a field after digits of this value.
+#[tactic(auto, using(crate::proofs::ProvedBy::digits))]
 fn digits(text: &[u8], from: usize, start: u32) -> Field
     ensures { result ≡ digits_at text.now from start }
 {
@@ -51,6 +53,7 @@ fn digits(text: &[u8], from: usize, start: u32) -> Field
 }
 
 // The field that starts at a place of the text.
+#[tactic(auto, using(crate::proofs::ProvedBy::number))]
 pub(crate) fn number(text: &[u8], at: usize) -> Field
     ensures { result ≡ field_at text.now at }
 {

@@ -33,6 +33,7 @@ fn numbers_at(text: &[u8], from: usize, inner: usize) -> Option<Line>
 }
 
 // The line that starts at a place of the text, as a sample of n counts. A malformed line is none.
+#[tactic(auto, using(crate::proofs::ProvedBy::sample_line), unfolding(crate::specs::inner::LineScan::line_at))]
 pub(crate) fn sample_line(text: &[u8], at: usize, n: usize) -> Option<Line>
     requires { n ≤ 8 }
     ensures { result ≡ line_at text.now at 83 n }

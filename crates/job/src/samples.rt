@@ -14,6 +14,7 @@ use crate::{Job, RefusedLine};
 use refusal::Refusal;
 
 // The n counts of a sample are kept from a place on.
+#[tactic(auto, using(crate::proofs::ProvedBy::keep))]
 fn keep(counts: &mut [u32; 2048], numbers: &[u32; 9], from: usize, n: usize)
     requires { (n ≤ 8) × (from + n ≤ 2048) }
     ensures { counts.new ≡ sets counts.old from (slice 1 (n + 1) numbers.now) }
