@@ -1,4 +1,5 @@
 // What the static library offers, as functions of Rattle; the crate `field_axes_c` exports them to Rust and C.
+// C interface: samples come as n, dilutions and counts, one by one, and each function makes the struct of them at once.
 #![tactic(auto)]
 
 mod solve;

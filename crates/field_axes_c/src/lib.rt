@@ -1,5 +1,5 @@
 // The functions of the static library, for Rust and C: those of `field_axes`, each with its contract. bindings/ declares them; tests/ compares those
-// declarations with these.
+// declarations with these. C interface: samples are handed over as n, dilutions and counts, one by one.
 #![tactic(auto)]
 
 ghost use Rattle.std.specs.Prelude.{◌≡◌};

@@ -7,6 +7,6 @@ use Rattle.sums.proofs.sums_of.Given as goal
 
 abbrev pub invariant-loop-s : goal.invariant-loop-s
 invariant-loop-s l = record {
-  channel : l.channel ≡ totals 8 z (tabulate l.s (sample_at l.readings.n l.readings.dilutions.now l.readings.counts.now));
-  cross : l.cross ≡ totals 64 products (tabulate l.s (sample_at l.readings.n l.readings.dilutions.now l.readings.counts.now));
+  channel : l.channel ≡ totals 8 z (tabulate l.s (sample_at l.n l.dilutions l.counts));
+  cross : l.cross ≡ totals 64 products (tabulate l.s (sample_at l.n l.dilutions l.counts));
 }
