@@ -10,8 +10,9 @@ use borrow.Author.Tests.{ltb-true, ltb-false, le-leb}
 use lib.Dec.{eqb, ltb, lit≤}
 use lib.ListN.{length, get_or, drop, length-append, length-drop}
 use Rattle.text.specs.Parts.{split, before}
+use Rattle.std.proofs.lemmas.Bool.{and_parts}
+use Rattle.integer.specs.laws.Within.{all_append}
 use Rattle.integer.specs.Within.{within, all_within}
-use Rattle.integer.specs.laws.Within.{both}
 use Rattle.readings.specs.Ranges.{parameters_in_range}
 use Rattle.job.specs.Range.{sample_in_range}
 use Rattle.job.specs.Text.{number_of, numbers_of, is_tag, record_of, line_of}
@@ -47,20 +48,13 @@ line-count tag c line xs e = record-count tag c (split 9 line) xs e
 
 -- ---- one sample more
 
-all_append : (low high : ℕ) (xs ys : List ℕ) → all_within low high xs ≡ true → all_within low high ys ≡ true → all_within low high (xs ++ ys) ≡ true
-unfolding all_within
-all_append low high [] ys p q = q
-all_append low high (x ∷ xs) ys p q =
-    let b = both (within low high x) (all_within low high xs) p in
-    simp b.0 (all_append low high xs ys b.1 q)
-
 all_one : (low high x : ℕ) → within low high x ≡ true → all_within low high (x ∷ []) ≡ true
 unfolding all_within
 all_one low high x p = simp p
 
 sample-parts : (xs : List ℕ) → sample_in_range xs ≡ true → (within 1 100 (get_or xs 0 0) ≡ true) × (all_within 0 65535 (drop 1 xs) ≡ true)
 unfolding sample_in_range
-sample-parts xs r = both (within 1 100 (get_or xs 0 0)) (all_within 0 65535 (drop 1 xs)) r
+sample-parts xs r = and_parts (within 1 100 (get_or xs 0 0)) (all_within 0 65535 (drop 1 xs)) r
 
 -- What holds of the job while its samples are read.
 record Begun (j : Job) : Type 0 where

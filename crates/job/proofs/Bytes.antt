@@ -10,8 +10,9 @@ use lib.ListN.{length, get_or, drop_of_length-le}
 use lib.Seq.{drop-cons}
 use Rattle.std.specs.Char.{is_ascii_digit}
 use Rattle.text.specs.inner.Numeral.{is_digit}
+use Rattle.std.proofs.lemmas.Bool.{and_parts}
 use Rattle.integer.specs.Within.{within}
-use Rattle.integer.specs.laws.Within.{both, is_within}
+use Rattle.integer.specs.laws.Within.{is_within}
 use Rattle.job.specs.inner.FieldScan.{may_follow, digits_onward, digits_at, field_from, field_at}
 use Rattle.job.specs.declared.field.Field.{Field}
 use Rattle.job.specs.declared.field.Field.TheVariants.{Inner, Last, Bad}
@@ -61,7 +62,7 @@ module _ (text : List ℕ) (at : ℕ) where
 pub may-follow : (v b : ℕ) → may_follow v b ≡ true → (1 ≤ v) × (v ≤ 999999) × (48 ≤ b) × (b ≤ 57)
 unfolding may_follow
 may-follow v b e =
-    let p = both _ (is_digit b) e in
-    let q = both (ltb 0 v) (leb v 999999) p.0 in
+    let p = and_parts _ (is_digit b) e in
+    let q = and_parts (ltb 0 v) (leb v 999999) p.0 in
     let d = is_within 48 57 b p.1 in
     (ltb-true 0 v q.0, leb-true v 999999 q.1, d.0, d.1)

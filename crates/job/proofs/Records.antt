@@ -10,9 +10,9 @@ use borrow.Author.Tests.{ne_eqb, eqb-true}
 use lib.Dec.{eqb}
 use lib.ListN.{length, drop, set, replicate}
 use lib.Seq.{sets, drop-drop}
+use Rattle.std.proofs.lemmas.Bool.{and_parts}
 use Rattle.integer.specs.laws.Tests.{cond_same}
 use Rattle.text.specs.Parts.{onto, split, before}
-use Rattle.integer.specs.laws.Within.{both}
 use Rattle.job.specs.inner.FieldScan.{field_at, tagged_from, tagged_at}
 use Rattle.job.specs.Text.{number_of, numbers_of, is_tag, record_of, line_of}
 use Rattle.std.specs.Prelude.{Option as Found, None, Some}
@@ -232,7 +232,7 @@ tagged-cut tag h g (past {b = b} n m p) = tagged-past b tag p
 tag-alone : (tag : ℕ) (f : List ℕ) → is_tag tag f ≡ true → length f ≡ 1
 unfolding is_tag
 tag-alone tag [] h = absurd (false≢true h)
-tag-alone tag (b ∷ bs) h = ap suc (eqb-true (length bs) 0 (both (eqb b tag) (eqb (length bs) 0) h).1)
+tag-alone tag (b ∷ bs) h = ap suc (eqb-true (length bs) 0 (and_parts (eqb b tag) (eqb (length bs) 0) h).1)
 
 line-tab : (tag c : ℕ) (line f l : List ℕ) (ls : List (List ℕ)) → split 9 line ≡ f ∷ split 9 l →
     line_in tag c (line ∷ ls) ≡ cond (is_tag tag f) (numbers_in c (l ∷ ls)) none

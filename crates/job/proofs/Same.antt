@@ -11,8 +11,9 @@ use native.Mathlib.Nat.{zero-mul}
 use lib.ListN.{length, get_or, drop, set, replicate, length-drop, length-append, get_or-append}
 use lib.Seq.{sets, sets-eq, slice, take_at}
 use Rattle.text.specs.Parts.{onto, split}
+use Rattle.std.proofs.lemmas.Bool.{and_parts}
 use Rattle.integer.specs.Within.{within}
-use Rattle.integer.specs.laws.Within.{both, is_within}
+use Rattle.integer.specs.laws.Within.{is_within}
 use Rattle.readings.specs.Ranges.{parameters_in_range}
 use Rattle.job.specs.Range.{sample_in_range}
 use Rattle.job.specs.inner.LineScan.{line_at, sample_within, parameters_of, parameters_at, ending_of, ending_at}
@@ -195,8 +196,8 @@ lines_are (l ∷ part ∷ parts) = refl
 few : (n limit tolerance : ℕ) → parameters_in_range n limit tolerance ≡ true → n ≤ 8
 unfolding parameters_in_range
 few n limit tolerance e = (is_within least_channels most_channels n
-    (both (within least_channels most_channels n) _
-    (both (within least_channels most_channels n && within least_sweeps most_sweeps limit) _ e).0).0).1
+    (and_parts (within least_channels most_channels n) _
+    (and_parts (within least_channels most_channels n && within least_sweeps most_sweeps limit) _ e).0).0).1
 
 few-by : (t : Bool) (p q : Parameters) → (t ≡ true → p.n ≤ 8) → cond t (Ok p) (Err OutOfRange) ≡ Ok q → q.n ≤ 8
 few-by true p q f e = let same : p.n ≡ q.n = cc in rw same at (f refl)

@@ -13,8 +13,8 @@ use Rattle.text.specs.Decimal.{digits, number}
 use Rattle.text.specs.laws.Digits.{length_digits, value-digits}
 use Rattle.text.specs.Numeral.{leading_zero, value_from}
 use Rattle.text.specs.Parts.{split, before}
+use Rattle.std.proofs.lemmas.Bool.{and_parts}
 use Rattle.integer.specs.Within.{all_within}
-use Rattle.integer.specs.laws.Within.{both}
 use Rattle.text.specs.laws.ReadBack.{decimal-digits, some-digit, no-leading-zero, digits_value}
 use Rattle.text.specs.laws.Split.{Free, EachFree, followed, joined, followed-free, split-part, split-joined, joined-split}
 use Rattle.text.specs.laws.Within.{all-free}
@@ -39,9 +39,9 @@ number-written : (f : List ℕ) (x : ℕ) → number_of f ≡ some x → f ≡ d
 unfolding number_of
 number-written f x e =
     let c = chosen _ (some (value_from 0 f)) x e in
-    let p = both _ (not (leading_zero f)) c.0 in
-    let q = both _ (all_within 48 57 f) p.0 in
-    let r = both (ltb 0 (length f)) (leb (length f) 7) q.0 in
+    let p = and_parts _ (not (leading_zero f)) c.0 in
+    let q = and_parts _ (all_within 48 57 f) p.0 in
+    let r = and_parts (ltb 0 (length f)) (leb (length f) 7) q.0 in
     let same : value_from 0 f ≡ x = let g = c.1 in cc in
     rw (← same) (sym (digits_value f (ltb-true 0 (length f) r.0) q.1 (not-true _ p.1)))
 
@@ -123,8 +123,8 @@ module _ (tag : ℕ) (h : 10 < tag) where
 tag-alone : (tag : ℕ) (f : List ℕ) → is_tag tag f ≡ true → f ≡ tag ∷ []
 unfolding is_tag
 tag-alone tag [] e = absurd (false≢true e)
-tag-alone tag (b ∷ []) e = rw (eqb-true b tag (both (eqb b tag) true e).0)
-tag-alone tag (b ∷ c ∷ cs) e = absurd (omega (arith, eqb-true (suc (length cs)) 0 (both (eqb b tag) (eqb (suc (length cs)) 0) e).1))
+tag-alone tag (b ∷ []) e = rw (eqb-true b tag (and_parts (eqb b tag) true e).0)
+tag-alone tag (b ∷ c ∷ cs) e = absurd (omega (arith, eqb-true (suc (length cs)) 0 (and_parts (eqb b tag) (eqb (suc (length cs)) 0) e).1))
 
 -- The text that a line's numbers are read from is the line of these numbers.
 pub record Line (tag m : ℕ) (text xs : List ℕ) : Type 0 where

@@ -11,8 +11,8 @@ use lib.Dec.{eqb, ltb}
 use lib.IntN.{pos}
 use lib.ListN.{length, get_or, drop, length-append, length-drop, get_or-append}
 use lib.Seq.{drop-append-le, drop_at, get_or_at, take_all, take-append-le}
+use Rattle.std.proofs.lemmas.Bool.{and_parts}
 use Rattle.text.specs.Parts.{split}
-use Rattle.integer.specs.laws.Within.{both}
 use Rattle.text.specs.laws.Split.{joined, joined-split}
 use Rattle.text.specs.Line.{number_line}
 use Rattle.text.specs.Lines.{lines}
@@ -87,7 +87,7 @@ nothing-joined [] e = refl
 nothing-joined ([] ∷ []) e = refl
 nothing-joined ([] ∷ part ∷ rest) e = absurd (omega (arith, eqb-true (suc (length rest)) 0 e))
 nothing-joined ((b ∷ bs) ∷ rest) e =
-    let z = both (eqb (suc (length bs)) 0) (eqb (length rest) 0) e in
+    let z = and_parts (eqb (suc (length bs)) 0) (eqb (length rest) 0) e in
     absurd (omega (arith, eqb-true (suc (length bs)) 0 z.0))
 
 one : (xs : List ℕ) (k : ℕ) → length xs ≡ 1 → get_or xs 0 0 ≡ k → xs ≡ k ∷ []
@@ -146,7 +146,7 @@ module _ (j' : Job) where
     judged-whole none (some xs) s e go h q =
         let a = passed (ltb (length j.dilutions) 2) _ 3 (next_line j) q in
         let b = taken (eqb (get_or xs 0 0) (length j.dilutions) && nothing (part ∷ parts)) (accepted j) 4 (next_line j) a in
-        let c = both (eqb (get_or xs 0 0) (length j.dilutions)) (nothing (part ∷ parts)) b.0 in
+        let c = and_parts (eqb (get_or xs 0 0) (length j.dilutions)) (nothing (part ∷ parts)) b.0 in
         let same : j ≡ j' = let d = b.1 in cc in
         rw (← same) (last_written j line part parts xs (e xs refl) (eqb-true _ _ c.0) c.1)
     judged-whole none none s e go h q = refused-not 1 (next_line j) q

@@ -9,8 +9,9 @@ use borrow.Author.Tests.{le-leb, leb-true, lt-leb}
 use lib.Dec.{leb}
 use lib.ListN.{drop, get_or, length, take}
 use lib.Seq.{drop-cons, drop-length}
+use Rattle.std.proofs.lemmas.Bool.{and_parts}
 use Rattle.integer.specs.Within.{within}
-use Rattle.integer.specs.laws.Within.{both, is_within}
+use Rattle.integer.specs.laws.Within.{is_within}
 use Rattle.limits.specs.Limits.{most_jobs}
 use Rattle.season_report.specs.Limits.{SeasonLimits}
 use Rattle.season_report.specs.Season.{empty_season, season_after_under, season_from_under}
@@ -62,7 +63,7 @@ module _ (bytes ends : List ℕ) where
     pub end-between : i < length ends → (start ≤ get_or ends i 0) × (get_or ends i 0 ≤ length bytes)
     end-between h =
         is_within start (length bytes) (get_or ends i 0)
-        (both (within start (length bytes) (get_or ends i 0)) _ (sym (next-end start (length bytes) ends i h) ∙ left.ordered)).0
+        (and_parts (within start (length bytes) (get_or ends i 0)) _ (sym (next-end start (length bytes) ends i h) ∙ left.ordered)).0
 
     pub one-taken : i < length ends → (z : Season) → z ≡ season_after_under most_jobs s (take (get_or ends i 0 - start) (drop start bytes)) →
         SeasonLimits z → TextsLeft bytes ends z (get_or ends i 0) (i + 1)
@@ -71,7 +72,7 @@ module _ (bytes ends : List ℕ) where
         let d = drop-cons ends i 0 h in
         record {
           few = omega arith;
-          ordered = (both (within start (length bytes) (get_or ends i 0)) _ (sym (next-end start (length bytes) ends i h) ∙ left.ordered)).1;
+          ordered = (and_parts (within start (length bytes) (get_or ends i 0)) _ (sym (next-end start (length bytes) ends i h) ∙ left.ordered)).1;
           same = rw (e, add-one i) (rw d at left.same);
           held = l;
         }

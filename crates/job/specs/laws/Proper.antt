@@ -1,8 +1,9 @@
 -- The ranges of a proper job, part by part, and its readings.
 use Rattle.std.specs.Prelude.{◌≤◌, ◌≡◌, true, length}
 use Rattle.std.proofs.Common.{◌∙◌, mul_comm}
+use Rattle.std.proofs.lemmas.Bool.{and_parts}
 use Rattle.integer.specs.Within.{within, all_within}
-use Rattle.integer.specs.laws.Within.{all-at, both, is_within}
+use Rattle.integer.specs.laws.Within.{all-at, is_within}
 use Rattle.limits.specs.Limits.{least_dilution, most_dilution, most_count}
 use Rattle.readings.specs.Ranges.{Readings, parameters_in_range}
 use Rattle.readings.specs.Refusal.{samples_refusal}
@@ -15,15 +16,15 @@ module _ (j : Job) (p : Proper j) where
       × (all_within 0 65535 j.counts ≡ true)
   unfolding in_range
   ranges =
-      let b = both _ _ p.ranges in
-      let s = both _ _ b.1 in
+      let b = and_parts _ _ p.ranges in
+      let s = and_parts _ _ b.1 in
       (b.0, s.0, s.1)
 
   parameters : (within 2 8 j.n ≡ true) × (within 1 16 j.limit ≡ true) × (within 0 1048576 j.tolerance ≡ true)
   unfolding parameters_in_range
   parameters =
-      let b = both _ _ ranges.0 in
-      let d = both _ _ b.0 in
+      let b = and_parts _ _ ranges.0 in
+      let d = and_parts _ _ b.0 in
       (d.0, d.1, b.1)
 
   -- its samples are such as are taken wherever samples are handed over

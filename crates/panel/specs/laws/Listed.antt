@@ -8,11 +8,11 @@ use Prim.Native.Nat.{ℕ, zero, suc, ◌+◌, ◌*◌, ◌/◌, ◌%◌, ◌<◌
 use Rattle.std.proofs.Math.Decide.{dec_lt}
 use Rattle.std.proofs.Math.Arith.{digits_lt}
 use Rattle.std.specs.Float.Ieee.Bits.{is_true}
+use Rattle.std.proofs.lemmas.Bool.{and_parts}
 use Rattle.integer.specs.Tabulate.{tabulate}
 use Rattle.integer.specs.laws.Tabulate.{tabulate-ext}
 use Rattle.ledger.specs.Refusal.{equal}
 use Rattle.ledger.specs.laws.Accepted.{equal_of, equal-same}
-use Rattle.integer.specs.laws.Within.{both}
 use Rattle.panel.specs.Listed.{ComesBefore, by-a11, by-a12, by-a22, InOrder, Listed, The-panels, panel_within, panel_occurrences, same_panel}
 use Rattle.panel.specs.Panels.{count_of, entry_at, panels, width}
 use Rattle.panel.specs.Position.{panel_after}
@@ -26,8 +26,8 @@ use Rattle.panel.specs.laws.Places.{small, small-within}
 pub same-equal : (x y : Panel) → same_panel x y ≡ true → x ≡ y
 unfolding same_panel
 same-equal x y e =
-    let p = both (equal x.a11 y.a11) _ e in
-    let q = both (equal x.a12 y.a12) _ p.1 in
+    let p = and_parts (equal x.a11 y.a11) _ e in
+    let q = and_parts (equal x.a12 y.a12) _ p.1 in
     λ t. record { a11 = same x.a11 y.a11 p.0 t; a12 = same x.a12 y.a12 q.0 t; a22 = same x.a22 y.a22 q.1 t }
   where
     same : (u v : ℤ) → equal u v ≡ true → u ≡ v

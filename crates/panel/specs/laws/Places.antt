@@ -7,9 +7,9 @@ use Rattle.std.proofs.Math.Nat.{div-div-eq-div-mul, pow-zero}
 use native.Mathlib.Omega.{arith}
 use borrow.Author.Tests.{le-leb, leb-true}
 use Rattle.std.proofs.Math.Arith.{digits_div, digits_lt, digits_mod, mod-mul}
+use Rattle.std.proofs.lemmas.Bool.{and_parts}
 use Rattle.integer.specs.Tabulate.{tabulate}
 use Rattle.integer.specs.laws.Tabulate.{get_d_tabulate, length-tabulate, tabulate-ext}
-use Rattle.integer.specs.laws.Within.{both}
 use Rattle.panel.specs.Listed.{panel_within}
 use Rattle.panel.specs.Panels.{count_of, entry_at, panels, whole_numbers, width}
 use Rattle.panel.specs.Position.{The-positions, panel_after, panel_at, place_of_entry, position_of}
@@ -74,8 +74,8 @@ module _ (b : ℕ) where
   pub small : (x : Panel) → panel_within b x ≡ true → SmallPanel b x
   unfolding panel_within
   small x e =
-      let p = both (leb (nat_abs x.a11) b) _ e in
-      let q = both (leb (nat_abs x.a12) b) _ p.1 in
+      let p = and_parts (leb (nat_abs x.a11) b) _ e in
+      let q = and_parts (leb (nat_abs x.a12) b) _ p.1 in
       record { a11 = leb-true _ b p.0; a12 = leb-true _ b q.0; a22 = leb-true _ b q.1 }
 
   pub small-within : (x : Panel) → SmallPanel b x → panel_within b x ≡ true

@@ -1,22 +1,12 @@
--- Laws of lists of values: two one after the other, the values of a function of them, and the values of a function of two indices, row after row.
+-- Laws of lists of values: the values of a function of them, and the values of a function of two indices, row after row.
 use Rattle.std.specs.Prelude.{◌≡◌}
 use Rattle.std.proofs.Math.Path.{refl, sym, ap, ap₂}
-use Rattle.std.proofs.Common.{◌∙◌, add_comm, suc-add, suc-mul, zero-add, zero-mul, add-one}
+use Rattle.std.proofs.Common.{◌∙◌, add_comm, suc-mul, zero-mul, add-one}
 use mathlib.Core.List.{List, ◌∷◌, ◌++◌, map, flat_map}
 use Prim.Native.Nat.{ℕ, zero, suc, ◌+◌, ◌*◌, ◌/◌, ◌%◌, ◌<◌}
 use Rattle.std.proofs.Math.Nat.{add-div_left, add-mod_left, div-eq_of_lt, mod-eq_of_lt}
 use Rattle.integer.specs.Tabulate.{tabulate}
-use Rattle.integer.specs.laws.Tabulate.{tabulate-ext}
-
-module _ {A : Type 0} where
-  pub tabulate-append : (m n : ℕ) (f : ℕ → A) → tabulate (m + n) f ≡ tabulate m f ++ tabulate n (λ i. f (m + i))
-  unfolding tabulate
-  tabulate-append zero n f = rw (zero-add n) (tabulate-ext n f (λ i. f (0 + i)) (λ i h. ap f (sym (zero-add i))))
-  tabulate-append (suc m) n f =
-      ap (λ k. tabulate k f) (suc-add m n)
-      ∙ ap (λ l. f zero ∷ l)
-      (tabulate-append m n (λ i. f (suc i))
-      ∙ ap (λ l. tabulate m (λ i. f (suc i)) ++ l) (tabulate-ext n (λ i. f (suc (m + i))) (λ i. f (suc m + i)) (λ i h. ap f (sym (suc-add m i)))))
+use Rattle.integer.specs.laws.Tabulate.{tabulate-append, tabulate-ext}
 
 module _ {A B : Type 0} where
   pub map-tabulate : (g : A → B) (m : ℕ) (f : ℕ → A) → map g (tabulate m f) ≡ tabulate m (λ i. g (f i))

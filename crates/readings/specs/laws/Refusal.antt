@@ -8,8 +8,9 @@ use borrow.Author.Tests.{eq-eqb}
 use Rattle.limits.specs.Unless.{unless}
 use Rattle.limits.specs.laws.Unless.{passed}
 use Rattle.limits.specs.Limits.{least_channels, least_samples, least_dilution, most_channels, most_count, most_dilution, most_samples}
+use Rattle.std.proofs.lemmas.Bool.{and_parts}
 use Rattle.integer.specs.Within.{all_within, within}
-use Rattle.integer.specs.laws.Within.{all-at, both, is_within}
+use Rattle.integer.specs.laws.Within.{all-at, is_within}
 use Rattle.readings.specs.Ranges.{Readings, job_within, parameters_in_range, samples_within, values_within}
 use Rattle.readings.specs.Refusal.{are_counted, are_so_many, job_refusal, number_refusal, samples_refusal}
 
@@ -67,7 +68,7 @@ module _ (n : ℕ) (dilutions counts : List ℕ) where
     samples-taken = all-passed (values_within n dilutions counts) e
 
     values : (within least_channels most_channels n ≡ true) × (samples_within dilutions counts ≡ true)
-    values = both (within least_channels most_channels n) (samples_within dilutions counts) samples-taken.ranges
+    values = and_parts (within least_channels most_channels n) (samples_within dilutions counts) samples-taken.ranges
 
     pub two-channels : least_channels ≤ n
     two-channels = (is_within least_channels most_channels n values.0).0
@@ -77,7 +78,7 @@ module _ (n : ℕ) (dilutions counts : List ℕ) where
 
     pub are-readings : Readings n dilutions counts
     are-readings =
-        let in-range = both (all_within least_dilution most_dilution dilutions) (all_within 0 most_count counts) values.1 in
+        let in-range = and_parts (all_within least_dilution most_dilution dilutions) (all_within 0 most_count counts) values.1 in
         record {
           channels = (is_within least_channels most_channels n values.0).1;
           number = (is_within least_samples most_samples (length dilutions) samples-taken.number).1;

@@ -7,8 +7,9 @@ use Rattle.text.specs.Decimal.{digits}
 use Rattle.text.specs.laws.Digits.{one-digit, more-digits}
 use Rattle.text.specs.inner.Numeral.{is_digit}
 use Rattle.text.specs.Numeral.{leading_zero, value_from}
+use Rattle.std.proofs.lemmas.Bool.{and_parts}
 use Rattle.integer.specs.Within.{within, all_within}
-use Rattle.integer.specs.laws.Within.{both, is_within, all_append}
+use Rattle.integer.specs.laws.Within.{is_within, all_append}
 
 -- ---- what is written
 
@@ -63,7 +64,7 @@ digits_from : (v : ℕ) (f : List ℕ) → 1 ≤ v → all_within 48 57 f ≡ tr
 unfolding all_within value_from
 digits_from v [] h d = sym (append-nil (digits v))
 digits_from v (b ∷ bs) h d =
-    let p = both (is_digit b) (all_within 48 57 bs) d in
+    let p = and_parts (is_digit b) (all_within 48 57 bs) d in
     let range = is_within 48 57 b p.0 in
     let w = v * 10 + (b - 48) in
     let ten : 10 ≤ w = omega arith in
@@ -85,9 +86,9 @@ not-zero b c cs z e = omega (arith, ltb-false 0 (suc (length cs)) (simp (eq-eqb 
 pub digits_value : (f : List ℕ) → 0 < length f → all_within 48 57 f ≡ true → leading_zero f ≡ false → digits (value_from 0 f) ≡ f
 unfolding all_within value_from
 digits_value [] h d z = absurd (omega arith)
-digits_value (b ∷ []) h d z = first-digit b (both (is_digit b) true d).0
+digits_value (b ∷ []) h d z = first-digit b (and_parts (is_digit b) true d).0
 digits_value (b ∷ c ∷ cs) h d z =
-    let p = both (is_digit b) (all_within 48 57 (c ∷ cs)) d in
+    let p = and_parts (is_digit b) (all_within 48 57 (c ∷ cs)) d in
     let range = is_within 48 57 b p.0 in
     let other = not-zero b c cs z in
     digits_from (0 * 10 + (b - 48)) (c ∷ cs) (omega arith) p.1 ∙ rw (first-digit b p.0)
