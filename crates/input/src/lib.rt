@@ -1,13 +1,15 @@
 // Reads an input into a buffer that its caller has, so that a program needs no memory for what it reads; and opens the files that arguments name.
 #![tactic(auto)]
 
-ghost use Rattle.std.specs.Prelude.{◌≡◌, ◌≢◌, ◌<◌, ◌≤◌, ◌↔◌, IfErr, IfOk, IfSome, IsTrue, length, take};
+ghost use Rattle.std.specs.Prelude.{ℕ, ◌≡◌, ◌≢◌, ◌<◌, ◌≤◌, ◌↔◌, IfErr, IfOk, IfSome, IsTrue, length, take};
 ghost use Rattle.std.specs.IoError.{error_kind};
 ghost use Rattle.std.specs.Io.KnownBytes.{Consumes};
+ghost use Rattle.limits.specs.Limits.{most_bytes};
 
+use limits::MOST_BYTES;
 use std::fs::{File, Files};
 use std::io;
-use std::io::{ErrorKind, Read};
+use std::io::{ErrorKind, Input, Read};
 use std::rt::Env;
 use std::str::from_utf8;
 
@@ -63,6 +65,34 @@ pub fn input_left<R: Read>(input: &mut R) -> io::Result<bool>
 {
     let mut byte = [0u8; 1];
     Ok(input.read(&mut byte)? == 1)
+}
+
+// Puts at the front of the buffer what `answer` makes of the input, of which it gets at most 16,384 bytes, and answers how long that is.
+pub fn answer_input<R: Read, F: FnOnce(&[u8], &mut [u8; 2048]) -> usize>(
+    input: &mut R,
+    out: &mut [u8; 2048],
+    answer: F,
+) -> io::Result<usize>
+    requires { F.IsAlwaysCallable answer }
+    ensures { IfOk result (λ n. (text : _) × (before : _) × (after : _) × F.post answer text before n after × (before.now ≡ out.old) ×
+        (after.now ≡ out.new) × IfSome (R.remaining input.old) (λ xs. text.now ≡ take most_bytes xs)) }
+{
+    let mut text = [0u8; MOST_BYTES];
+    let n = read_full(input, &mut text)?;
+    Ok(answer(&text[..n], out))
+}
+
+// The same of standard input, and prints it.
+pub fn print_answer<R: Input + Print, F: FnOnce(&[u8], &mut [u8; 2048]) -> usize>(
+    rt: &R,
+    answer: F,
+) -> io::Result<()>
+    requires called { F.IsAlwaysCallable answer }
+    requires fits { (text : _) (out : _) (n : ℕ) (after : _) → length out.now ≡ 2048 → F.post answer text out n after → n ≤ 2048 }
+{
+    let mut out = [0u8; 2048];
+    let length = answer_input(&mut rt.reader(), &mut out, answer)?;
+    rt.write_all(&out[..length])
 }
 
 // Opens the file that argument i names. There is none where the argument is missing, empty, too long or no UTF-8, or can't be opened. It has no

@@ -5,6 +5,7 @@ pub mod field;
 pub mod first;
 pub mod last;
 pub mod ranges;
+pub mod reply;
 pub mod sample;
 mod samples;
 
@@ -50,6 +51,15 @@ impl Model for Job {
 pub struct RefusedLine {
     pub refusal: Refusal,
     pub line: usize,
+}
+
+// What is refused at no line, as a buffer that is too short, has line 0.
+impl From<Refusal> for RefusedLine {
+    ghost from_gives = { λ refusal refused. refused ≡ record { refusal = refusal; line = 0 } };
+
+    fn from(refusal: Refusal) -> RefusedLine {
+        RefusedLine { refusal, line: 0 }
+    }
 }
 
 pub fn read(text: &[u8]) -> Result<Job, RefusedLine>

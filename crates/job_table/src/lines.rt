@@ -10,10 +10,11 @@ ghost use Rattle.job_table.specs.Table.{PutsTable, table_text};
 ghost use Rattle.limits.specs.Limits.{most_samples};
 
 use crate::rows::rows_of;
+use job::reply::put_reply;
 use job::{Job, RefusedLine};
 use refusal::Refusal;
 use scatter::table::Table;
-use text::line::{numbers_length, put_line, put_refusal};
+use text::line::{numbers_length, put_line};
 use text::rows::{put_rows, rows_length};
 
 // The numbers of a table's text: those of its first line, and rows, of which the first n are the table's.
@@ -61,10 +62,7 @@ fn table_job(job: Job, buf: &mut [u8]) -> Result<usize, RefusedLine>
     let table = crate::table_of(job);
     let lines = Lines::of(job.n, job.k, table);
     if buf.len() < lines.length() {
-        return Err(RefusedLine {
-            refusal: Refusal::ShortBuffer,
-            line: 0,
-        });
+        return Err(Refusal::ShortBuffer.into());
     }
     Ok(lines.put(buf))
 }
@@ -91,8 +89,6 @@ pub(crate) fn table_text(text: &[u8], buf: &mut [u8]) -> Result<usize, RefusedLi
 pub fn answer(text: &[u8], out: &mut [u8; 2048]) -> usize
     ensures { Put (printed_of table_text text.now) 0 out.old out.new result }
 {
-    match table_text(text, out) {
-        Ok(length) => length,
-        Err(refused) => put_refusal(out, refused.refusal, refused.line),
-    }
+    let reply = table_text(text, out);
+    put_reply(reply, out)
 }

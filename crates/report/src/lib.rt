@@ -11,6 +11,7 @@ ghost use Rattle.text.specs.Put.{Put};
 ghost use Rattle.report.specs.Done.{Ran, Reportable, ReportsRun, TableReportable, TableRunnable, run_of_table};
 ghost use Rattle.report.specs.Report.{report_of, run_for};
 
+use job::reply::put_reply;
 use job::{Job, RefusedLine};
 use lines::Lines;
 use record::Run;
@@ -80,10 +81,8 @@ fn report_job(job: Job, buf: &mut [u8]) -> Result<usize, RefusedLine>
     ensures { Answers report_of (accepted job) buf.old buf.new result }
 {
     let table = job_table::table_of(job);
-    report_table(job.n, job.k, job.limit, job.tolerance, table, buf).map_err(|refusal| RefusedLine {
-        refusal,
-        line: 0,
-    })
+    let length = report_table(job.n, job.k, job.limit, job.tolerance, table, buf)?;
+    Ok(length)
 }
 
 pub fn report(text: &[u8], buf: &mut [u8]) -> Result<usize, RefusedLine>
@@ -97,8 +96,6 @@ pub fn report(text: &[u8], buf: &mut [u8]) -> Result<usize, RefusedLine>
 pub fn answer(text: &[u8], out: &mut [u8; 2048]) -> usize
     ensures { Put (printed_of report_of text.now) 0 out.old out.new result }
 {
-    match report(text, out) {
-        Ok(length) => length,
-        Err(refused) => text::line::put_refusal(out, refused.refusal, refused.line),
-    }
+    let reply = report(text, out);
+    put_reply(reply, out)
 }

@@ -71,10 +71,8 @@ fn printed(text: &[u8], size: usize, out: &mut [u8]) -> usize
     requires { (size ≤ length out.old) × (44 ≤ length out.old) }
     ensures { result ≤ length out.old }
 {
-    match report::report(text, &mut out[..size]) {
-        Ok(length) => length,
-        Err(refused) => text::line::put_refusal(out, refused.refusal, refused.line),
-    }
+    let reply = report::report(text, &mut out[..size]);
+    job::reply::put_reply(reply, out)
 }
 
 fn print_job(rt: &impl Print, text: &[u8], size: usize) -> io::Result<()>

@@ -1,5 +1,5 @@
 -- Laws of a job text answered by another text: a buffer that is long enough, one that is too short, a refused job, and what is printed.
-use Rattle.std.specs.Prelude.{ℕ, ◌≤◌, ◌<◌, Bool, List, ◌++◌, Result, Ok, Err}
+use Rattle.std.specs.Prelude.{ℕ, ◌≤◌, ◌<◌, Bool, List, ◌++◌, Result, Ok, Err, MatchResult}
 use Rattle.std.proofs.Math.Path.{◌≡◌, refl, sym}
 use Rattle.std.proofs.Common.{◌∙◌, zero-add, arith}
 use Rattle.std.proofs.Math.Bool.{true, false, cond}
@@ -108,3 +108,13 @@ module _ (f : Job → List ℕ) where
           (exit ≡ entry) × (printed_of f text ≡ line_x (number_of refusal.refusal) refusal.line)
       unfolding printed_of
       refused-printed refusal h e = refused-by (job_of text) refusal (known text) h (answers (Err refusal) e)
+
+-- what is printed of a reply: the text that was left in the buffer, or the line of the refusal
+pub reply_printed : (f : Job → List ℕ) (text entry mid exit : List ℕ) (answer : Result ℕ RefusedLine) (n : ℕ) → 2048 ≤ length entry →
+    Replies f text entry mid answer →
+    MatchResult answer (λ written. (n ≡ written) × (exit ≡ mid)) (λ refused. Put (line_x (number_of refused.refusal) refused.line) 0 mid exit n) →
+    Put (printed_of f text) 0 entry exit n
+reply_printed f text entry mid exit (Ok written) n room r told = rw (told.0, told.1) (written-printed f entry mid text (Ok written) r written refl)
+reply_printed f text entry mid exit (Err e) n room r told =
+    let d = refused-printed f entry mid text (Err e) r e room refl in
+    rw d.1 (rw d.0 at told)

@@ -1,16 +1,14 @@
 -- `report::report_job` meets its contract: the report of the job's table is the job's.
 use Prim.Native.Nat.{ℕ}
-use mathlib.Core.Path.{◌≡◌, ap}
+use mathlib.Core.Path.{◌≡◌}
 use mathlib.Core.List.{List}
-use borrow.Author.Rules.{rules}
-use Rattle.std.specs.Prelude.{Result, Ok, Err, MatchResult}
-use Rattle.std.specs.Result.{IsErrAnd}
+use Rattle.std.specs.Prelude.{Result}
+use Rattle.std.proofs.lemmas.Result.{err_from_is_err_and}
 use Rattle.job.specs.Job.{accepted}
 use Rattle.job.specs.Reply.{Answers}
 use Rattle.job.specs.laws.Replying.{as_reply, written-answers}
 use Rattle.job.specs.Held.{Held, job_in}
 use Rattle.job.specs.declared.Job.TheInside.{Inside}
-use Rattle.job.specs.declared.RefusedLine.{RefusedLine}
 use Rattle.job.specs.laws.Held.{samples-held}
 use Rattle.job_table.specs.JobTable.{table_for}
 use Rattle.refusal.specs.declared.Refusal.{Refusal}
@@ -36,18 +34,16 @@ module _ (a : Inside) (h : Held a) (t : Table) (e : t ≡ table_for (job_in a)) 
 pub report_table-requires : goal.report_table-requires
 report_table-requires c = reportable _ c.job.invariant _ (rw (← c.job.view_is) at c.table_of-table.ensures)
 
--- the writer's answer, with line 0 at its refusal
-abbrev Mapped : Result ℕ Refusal → Result ℕ RefusedLine → Type 0
-Mapped w r = MatchResult w (λ x. r ≡ Ok x) (λ e. IsErrAnd r (λ d. d ≡ record { refusal = e; line = 0 }))
-
-mapped : (w : Result ℕ Refusal) (r : Result ℕ RefusedLine) → Mapped w r → r ≡ as_reply w
+-- the writer's refusal, with line 0
+pub returns-in_err-length : goal.returns-in_err-length
 unfolding as_reply
-mapped (Ok x) r h = h
-mapped (Err e) (Ok x) h = absurd h
-mapped (Err e) (Err d) h = ap Err h
+returns-in_err-length c =
+    let p = err_from_is_err_and c.from_residual.result c.from_residual.ensures.1 in
+    rw (p.1, p.2, ← c.job.view_is)
+    (answers _ c.job.invariant _ (rw (← c.job.view_is) at c.table_of-table.ensures) (rw c.in_err-length.was at c.report_table.ensures))
 
 pub returns : goal.returns
+unfolding as_reply
 returns c =
-    let told : Mapped c.report_table.result c.map_err.result = search rules in
-    rw (mapped _ _ told, ← c.job.view_is)
-    (answers _ c.job.invariant _ (rw (← c.job.view_is) at c.table_of-table.ensures) c.report_table.ensures)
+    rw (← c.job.view_is)
+    (answers _ c.job.invariant _ (rw (← c.job.view_is) at c.table_of-table.ensures) (rw c.in_ok-length.was at c.report_table.ensures))

@@ -25,7 +25,8 @@ pub returns-then-buf-length : goal.returns-then-buf-length
 returns-then-buf-length c =
     let l = c.of-lines.ensures in
     let s = rw (text-is _ c.job.invariant _ c.job.view_is _ _ _ _ c.table_of-table.ensures l.0 l.1 l.2) at c.length.ensures in
-    too_short table_text c.args.job (omega (arith, s.exact, s.bounded)) _ (omega (arith, s.exact, c.if-buf-length.true))
+    rw c.into.ensures
+    (too_short table_text c.args.job (omega (arith, s.exact, s.bounded)) _ (omega (arith, s.exact, c.if-buf-length.true)))
 
 pub put-requires : goal.put-requires
 put-requires c = omega (arith, c.length.ensures.exact, c.if-buf-length.false)
