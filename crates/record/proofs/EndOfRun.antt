@@ -1,5 +1,5 @@
 -- A call refused and a call accepted, as the methods of the state end them.
-use Rattle.std.specs.Prelude.{◌≡◌, refl, Bool, true, false, cond, ℕ, eqb, List, ℤ, Result, Ok, Err, is_ok}
+use Rattle.std.specs.Prelude.{◌≡◌, refl, Bool, true, false, cond, ℕ, eqb, Result, Ok, Err, is_ok}
 use Rattle.std.proofs.Common.{sym, ap, ◌∙◌, eq-eqb, eqb-true, true≢false}
 use Rattle.refusal.specs.Refusal.{judged, numbered}
 use Rattle.refusal.specs.declared.Refusal.{Refusal}
@@ -7,7 +7,7 @@ use Rattle.ledger.specs.Call.{Call}
 use Rattle.ledger.specs.Refusal.{refusal_of}
 use Rattle.turn.specs.Size.{Small}
 use Rattle.record.specs.laws.Turning.{matrix-small}
-use Rattle.record.specs.Worked.{Ready, work_at}
+use Rattle.record.specs.Worked.{Ready}
 use Rattle.record.specs.declared.query.Answer.{Answer}
 use Rattle.record.specs.declared.query.Answer.TheVariants.{Refused}
 use Rattle.record.specs.laws.After.{after_kept}
@@ -69,19 +69,10 @@ module _ (r : Solver) (call : Call) (k : KeptSolver r) (number : ℕ) (e : numbe
 -- the rows of a kept matrix are small enough for the queries
 pub kept_small : (r : Solver) → KeptSolver r → Small (rows_of r.a)
 unfolding work_of
-kept_small r k = matrix-small r.n (work_of r) k.work k.turns
+kept_small r k = matrix-small (work_of r) k.work k.turns
 
--- rows that a state is unpacked to: they are its work, and may be turned
-module _ (r : Solver) (a v : List (List ℤ)) (matrix : a ≡ rows_of r.a) (axes : v ≡ rows_of r.v) where
-  pub at-work : work_at a v r.m ≡ work_of r
-  unfolding work_of
-  at-work i = record { a = matrix i; v = axes i; m = r.m }
-
-  pub kept-ready : KeptSolver r → Ready r.n a v r.m
-  kept-ready k =
-      record {
-        kept = rw at-work k.work;
-        few = k.turns;
-        matrix = rw matrix (shaped-rows r.a);
-        axes = rw axes (shaped-rows r.v);
-      }
+-- a kept state may be turned
+pub kept-ready : (r : Solver) → KeptSolver r → Ready (work_of r)
+unfolding work_of
+kept-ready r k =
+    record { size = k.size; kept = k.work; few = k.turns; matrix = shaped-rows r.a; axes = shaped-rows r.v }

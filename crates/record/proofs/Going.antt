@@ -1,5 +1,5 @@
--- The sweeps of a run on rows: the record that holds them, with whatever e and counts of refused calls, and what a sweep makes of it.
-use mathlib.Core.Path.{◌≡◌, sym, ap, ◌∙◌}
+-- The sweeps of a run at work: the record that holds the work, with whatever e and counts of refused calls, and what a sweep makes of it.
+use mathlib.Core.Path.{◌≡◌, refl, sym, ap, ◌∙◌}
 use mathlib.Core.Bool.{Bool, true, false}
 use mathlib.Core.List.{List, [], ◌∷◌}
 use mathlib.Core.Logic.{◌≢◌}
@@ -28,9 +28,10 @@ use Rattle.record.specs.Solver.{accepted_of_under, after_of, after_of_under, ans
 use Rattle.record.specs.Record.{answer_to}
 use Rattle.record.specs.declared.Record.{Record}
 use Rattle.record.specs.declared.solver.Solver.{Solver}
-use Rattle.record.specs.laws.Turning.{works-grow, works-least}
-use Rattle.record.specs.Work.{Work, work_pair, work_pairs}
-use Rattle.record.specs.Worked.{Ready, work_at}
+use Rattle.record.specs.declared.work.Work.{Work}
+use Rattle.record.specs.laws.Turning.{works-grow, works-least, works-same-n}
+use Rattle.record.specs.Work.{work_pair, work_pairs}
+use Rattle.record.specs.Worked.{Ready}
 use Rattle.record.proofs.Sweeping.{pair-shaped}
 use Rattle.record.specs.Loose.{loose_of}
 use Rattle.record.proofs.Search.{same-loose}
@@ -44,13 +45,13 @@ rows-flat : (a : List (List ℤ)) → Shaped a → rows_of (flat_of (at a)) ≡ 
 unfolding rows_of entries_of
 rows-flat a s = square-cong (λ i j h l. kept-flat_of (at a) i j h l) ∙ sym (square-of a s)
 
-works-shaped : (n : ℕ) (w : Work) (pairs : List Pair) → Shaped w.a → Shaped w.v →
-    Shaped (work_pairs n w pairs).a × Shaped (work_pairs n w pairs).v
+works-shaped : (w : Work) (pairs : List Pair) → Shaped w.matrix → Shaped w.axes →
+    Shaped (work_pairs w pairs).matrix × Shaped (work_pairs w pairs).axes
 unfolding work_pairs
-works-shaped n w [] a v = (a, v)
-works-shaped n w (pair ∷ pairs) a v =
-    let s = pair-shaped n w pair a v in
-    works-shaped n (work_pair n w pair) pairs s.0 s.1
+works-shaped w [] a v = (a, v)
+works-shaped w (pair ∷ pairs) a v =
+    let s = pair-shaped w pair a v in
+    works-shaped (work_pair w pair) pairs s.0 s.1
 
 no_more : (made m : ℕ) → m ≤ made → eqb (made - m) 0 ≡ eqb made m
 no_more made m h = by (ℕ_discrete made m)
@@ -59,71 +60,81 @@ no_more made m h = by (ℕ_discrete made m)
     by (yes e) = rw (eq-eqb made m e, eq-eqb (made - m) 0 (omega arith))
     by (no d) = rw (ne_eqb made m d, ne_eqb (made - m) 0 (omega arith))
 
--- rows a and v of n channels after m turns
-module _ (shift n m : ℕ) (a v : List (List ℤ)) (h : Holds shift n m a v) where
+-- work that a kept state holds
+module _ (shift : ℕ) (w : Work) (h : Holds shift w) where
   abbrev r : Solver
-  r = solver_of shift n m a v
+  r = solver_of shift w
 
-  work-held : work_of r ≡ work_at a v m
+  work-held : work_of r ≡ w
   unfolding work_of
-  work-held i = record { a = rows-flat a h.matrix i; v = rows-flat v h.axes i; m = m }
+  work-held i = record { n = w.n; matrix = rows-flat w.matrix h.matrix i; axes = rows-flat w.axes h.axes i; m = w.m }
 
-  pub held-ready : Ready n a v m
+  pub held-ready : Ready w
   held-ready =
-      record { kept = rw work-held at h.keeps.work; few = h.keeps.turns; matrix = h.matrix; axes = h.axes }
+      record { size = h.keeps.size; kept = rw work-held at h.keeps.work; few = h.keeps.turns; matrix = h.matrix; axes = h.axes }
 
-  held-loose : (t : ℕ) → refusal_of n m (loose_pair t) ≡ 0 → no_pair (loose_of (at a) t (cyclic n)) ≡ no_pair (answer_of r (loose_pair t))
+  held-loose : (t : ℕ) → refusal_of w.n w.m (loose_pair t) ≡ 0 →
+      no_pair (loose_of (at w.matrix) t (cyclic w.n)) ≡ no_pair (answer_of r (loose_pair t))
   unfolding answer_of value_of
   held-loose t e =
       rw (
-        eq-eqb (refusal_of n m (loose_pair t)) 0 e,
-        same-loose n _ (at a) t (cyclic n) (cyclic-pairs n)
-            (λ i j g l. kept-flat_of (at a) i j (omega (arith, g, h.keeps.size)) (omega (arith, l, h.keeps.size))),
+        eq-eqb (refusal_of w.n w.m (loose_pair t)) 0 e,
+        same-loose w.n _ (at w.matrix) t (cyclic w.n) (cyclic-pairs w.n)
+            (λ i j g l. kept-flat_of (at w.matrix) i j (omega (arith, g, h.keeps.size)) (omega (arith, l, h.keeps.size))),
       )
 
-  module _ (e : refusal_of n m sweep ≡ 0) (made : ℕ) (a' v' : List (List ℤ)) (w : work_at a' v' made ≡ work_pairs n (work_at a v m) (cyclic n)) where
-    swept-leaves : after_of r sweep ≡ solver_of shift n made a' v'
-    unfolding after_of_under accepted_of_under swept_of worked_of
-    swept-leaves = rw (eq-eqb (refusal_of n m sweep) 0 e, work-held, ← w)
+  module _ (e : refusal_of w.n w.m sweep ≡ 0) (w' : Work) (s : w' ≡ work_pairs w (cyclic w.n)) where
+    swept-size : w'.n ≡ w.n
+    swept-size = rw s (works-same-n w (cyclic w.n))
 
-    swept-holds : Holds shift n made a' v'
+    swept-leaves : after_of r sweep ≡ solver_of shift w'
+    unfolding after_of_under accepted_of_under swept_of worked_of
+    swept-leaves = rw (eq-eqb (refusal_of w.n w.m sweep) 0 e, work-held, ← s, swept-size)
+
+    swept-holds : Holds shift w'
     swept-holds =
-        let shaped = rw (← w) at (works-shaped n (work_at a v m) (cyclic n) h.matrix h.axes) in
+        let shaped = rw (← s) at (works-shaped w (cyclic w.n) h.matrix h.axes) in
         record { keeps = rw swept-leaves at (after_kept r sweep h.keeps); matrix = shaped.0; axes = shaped.1 }
 
-    swept-idle : no_turn (answer_of r sweep) ≡ eqb made m
+    swept-idle : no_turn (answer_of r sweep) ≡ eqb w'.m w.m
     unfolding answer_of value_of swept_of worked_of no_turn
-    swept-idle = rw (eq-eqb (refusal_of n m sweep) 0 e, work-held, ← w) (no_more made m (rw (← w) at (works-least n (work_at a v m) (cyclic n))))
+    swept-idle =
+        rw (eq-eqb (refusal_of w.n w.m sweep) 0 e, work-held, ← s) (no_more w'.m w.m (rw (← s) at (works-least w (cyclic w.n))))
 
-    swept-more : 1 ≤ n → made ≤ m + n * (n - 1) / 2
-    swept-more some = omega (arith, rw (← w) at (works-grow n (work_at a v m) (cyclic n)), cyclic-length n some)
+    swept-more : 1 ≤ w.n → w'.m ≤ w.m + w.n * (w.n - 1) / 2
+    swept-more some = omega (arith, rw (← s) at (works-grow w (cyclic w.n)), cyclic-length w.n some)
 
 -- a run of n channels with a limit and a tolerance t: from here on it is z
-pub record Going (shift : ℕ) (refused : List ℕ) (n limit t : ℕ) (z : Run) (a v : List (List ℤ)) (m sweeps : ℕ) (idle : Bool) : Type 0 where
-  pub is : z ≡ run_from (limit - sweeps) sweeps idle t (held_of shift refused n m a v)
+pub record Going (shift : ℕ) (refused : List ℕ) (n limit t : ℕ) (z : Run) (w : Work) (sweeps : ℕ) (idle : Bool) : Type 0 where
+  pub is : z ≡ run_from (limit - sweeps) sweeps idle t (held_of shift refused w)
+  pub size : w.n ≡ n
   pub within : sweeps ≤ limit
-  pub few : m ≤ sweeps * (n * (n - 1) / 2)
-  pub holds : Holds shift n m a v
+  pub few : w.m ≤ sweeps * (n * (n - 1) / 2)
+  pub holds : Holds shift w
 
-pub begun : (shift : ℕ) (refused : List ℕ) (n limit t : ℕ) (a v : List (List ℤ)) → Holds shift n 0 a v →
-    Going shift refused n limit t (run_from limit 0 false t (held_of shift refused n 0 a v)) a v 0 0 false
-begun shift refused n limit t a v h = record { is = rw sub-zero; within = omega arith; few = omega arith; holds = h }
+pub begun : (shift : ℕ) (refused : List ℕ) (limit t : ℕ) (w : Work) → w.m ≡ 0 → Holds shift w →
+    Going shift refused w.n limit t (run_from limit 0 false t (held_of shift refused w)) w 0 false
+begun shift refused limit t w unturned h =
+    record { is = rw sub-zero; size = refl; within = omega arith; few = omega (arith, unturned); holds = h }
 
 -- on what a run is given no call of it is refused
 module _ (shift : ℕ) (refused : List ℕ) (n limit t : ℕ) (some : 1 ≤ n) (sixteen : limit ≤ most_sweeps) (tolerance : t ≤ tolerance_limit) where
-  module _ (m sweeps : ℕ) (z : Run) (a v : List (List ℤ)) (idle : Bool) (g : Going shift refused n limit t z a v m sweeps idle) where
+  module _ (sweeps : ℕ) (z : Run) (w : Work) (idle : Bool) (g : Going shift refused n limit t z w sweeps idle) where
     abbrev now : Record
-    now = held_of shift refused n m a v
+    now = held_of shift refused w
+
+    channels : 1 ≤ w.n
+    channels = rw g.size some
 
     -- a sweep's turns remain before the limit is reached
-    pub remains : sweeps ≢ limit → m + n * (n - 1) / 2 ≤ turn_limit
-    remains l = turns-suffice n m sweeps g.holds.keeps.size (omega (arith, g.within)) g.few
+    pub remains : sweeps ≢ limit → w.m + w.n * (w.n - 1) / 2 ≤ turn_limit
+    remains l = turns-suffice w.n w.m sweeps g.holds.keeps.size (omega (arith, g.within)) (rw g.size g.few)
 
     -- the first test: settled tells whether no pair is loose
-    module _ (settled : Bool) (s : settled ≡ no_pair (loose_of (at a) t (cyclic n))) where
+    module _ (settled : Bool) (s : settled ≡ no_pair (loose_of (at w.matrix) t (cyclic w.n))) where
       told : settled ≡ no_pair (answer_to now (own (loose_pair t)))
       told =
-          s ∙ held-loose shift n m a v g.holds t (loose-pair-taken n m some t tolerance) ∙ ap no_pair (sym (own-answers now (loose_pair t)))
+          s ∙ held-loose shift w g.holds t (loose-pair-taken w.n w.m channels t tolerance) ∙ ap no_pair (sym (own-answers now (loose_pair t)))
 
       pub settles : settled ≡ true → stop Settled sweeps now ≡ z
       settles h = sym (g.is ∙ run_settled (limit - sweeps) sweeps t idle now (sym told ∙ h))
@@ -138,19 +149,20 @@ module _ (shift : ℕ) (refused : List ℕ) (n limit t : ℕ) (some : 1 ≤ n) (
         pub is-spent : idle ≡ false → sweeps ≡ limit → stop Spent sweeps now ≡ z
         is-spent i l = sym (g.is ∙ run-spent (limit - sweeps) sweeps t idle now loose i (omega arith))
 
-        pub sweeps-on : idle ≡ false → sweeps ≢ limit → (made : ℕ) (a' v' : List (List ℤ)) →
-            work_at a' v' made ≡ work_pairs n (work_at a v m) (cyclic n) → Going shift refused n limit t z a' v' made (sweeps + 1) (eqb made m)
-        sweeps-on i l made a' v' w =
+        pub sweeps-on : idle ≡ false → sweeps ≢ limit → (w' : Work) → w' ≡ work_pairs w (cyclic w.n) →
+            Going shift refused n limit t z w' (sweeps + 1) (eqb w'.m w.m)
+        sweeps-on i l w' q =
             let goes = run-sweeps (limit - sweeps) sweeps t idle now loose i (limit - (sweeps + 1)) (omega (arith, g.within)) in
-            let taken = sweep-taken n m some Cyclic (remains l) in
+            let taken = sweep-taken w.n w.m channels Cyclic (remains l) in
             record {
               is = g.is ∙ goes ∙ rw (
                 own-leaves now sweep taken,
                 own-answers now sweep,
-                swept-leaves shift n m a v g.holds taken made a' v' w,
-                swept-idle shift n m a v g.holds taken made a' v' w,
+                swept-leaves shift w g.holds taken w' q,
+                swept-idle shift w g.holds taken w' q,
               );
+              size = swept-size shift w g.holds taken w' q ∙ g.size;
               within = omega (arith, g.within);
-              few = omega (arith, g.few, swept-more shift n m a v g.holds taken made a' v' w some);
-              holds = swept-holds shift n m a v g.holds taken made a' v' w;
+              few = omega (arith, g.few, rw g.size at (swept-more shift w g.holds taken w' q channels));
+              holds = swept-holds shift w g.holds taken w' q;
             }

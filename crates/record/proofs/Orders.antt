@@ -1,5 +1,5 @@
 -- The pairs of a sweep in either order, as its loops meet them: row after row, column after column.
-use mathlib.Core.Path.{◌≡◌, refl, ap}
+use mathlib.Core.Path.{◌≡◌, refl, ap, subst}
 use mathlib.Core.Bool.{Bool, true, false, cond}
 use mathlib.Core.List.{List, [], ◌∷◌, ◌++◌}
 use Prim.Native.Nat.{ℕ, suc, ◌+◌, ◌-◌, ◌*◌, ◌/◌, ◌%◌, ◌≤◌, ◌<◌}
@@ -19,7 +19,8 @@ use Rattle.ledger.specs.declared.Order.TheVariants.{Cyclic, Tournament}
 use Rattle.ledger.specs.laws.Order.{all_left, none_left, pair-next, row-begins, row_ends}
 use Rattle.record.specs.inner.Orders.{Within, columns_in, first_in, half, lines_after, pair_in, pairs_left_in, round_in, rows_in}
 use Rattle.record.specs.inner.Orders.{rows_left_in, work_place}
-use Rattle.record.specs.Work.{Work, work_pair}
+use Rattle.record.specs.Work.{work_pair}
+use Rattle.record.specs.declared.work.Work.{Work}
 use Rattle.record.proofs.Sweeping.{Sweeping, one_more}
 
 among-++ : (n : ℕ) (xs ys : List Pair) → among n (xs ++ ys) ≡ among n xs ++ among n ys
@@ -109,20 +110,23 @@ pair-ordered Tournament n row column w =
     round-ordered (half n) row column (omega (arith, w.high)) (omega (arith, w.high, w.row_within)) w.column-within
 
 -- one place more
-module _ (order : Order) (n row column : ℕ) (within : Within order n row column) (w₀ w w' : Work) (pairs₀ : List Pair) where
+module _ (order : Order) (n row column : ℕ) (within : Within order n row column) (w₀ w w' : Work) (pairs₀ : List Pair) (size : w.n ≡ n) where
   abbrev pair : Pair
   pair = pair_in order n row column
 
   abbrev rest : List Pair
   rest = pairs_left_in order n row (column + 1)
 
-  by_place : (b : Bool) → ltb pair.q n ≡ b → Sweeping n w₀ pairs₀ w (cond b (pair ∷ rest) rest) → w' ≡ cond b (work_pair n w pair) w →
-      Sweeping n w₀ pairs₀ w' rest
-  by_place true e s same = one_more n w₀ w pairs₀ pair rest w' s same (pair-ordered order n row column within) (ltb-true _ _ e) within.high
+  by_place : (b : Bool) → ltb pair.q n ≡ b → Sweeping w₀ pairs₀ w (cond b (pair ∷ rest) rest) → w' ≡ cond b (work_pair w pair) w →
+      Sweeping w₀ pairs₀ w' rest
+  by_place true e s same =
+      one_more w₀ w pairs₀ pair rest w' s same (pair-ordered order n row column within) (rw size (ltb-true _ _ e)) (rw size within.high)
   by_place false e s same = rw same s
 
-  pub one_place : Sweeping n w₀ pairs₀ w (pairs_left_in order n row column) → w' ≡ work_place n w pair → Sweeping n w₀ pairs₀ w' rest
+  pub one_place : Sweeping w₀ pairs₀ w (pairs_left_in order n row column) → w' ≡ work_place w (pair_in order w.n row column) →
+      Sweeping w₀ pairs₀ w' rest
   unfolding work_place
   one_place s same =
       by_place (ltb pair.q n) refl
-      (rw (pair-next-in n within.some within.high row order column within.row_within within.column-within) at s) same
+      (rw (pair-next-in n within.some within.high row order column within.row_within within.column-within) at s)
+      (subst (λ k. w' ≡ cond (ltb (pair_in order k row column).q k) (work_pair w (pair_in order k row column)) w) size same)

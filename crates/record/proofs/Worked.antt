@@ -1,18 +1,19 @@
 -- A pair at work: what a choice makes of it.
 use mathlib.Core.Path.{◌≡◌}
-use Prim.Native.Nat.{ℕ, ◌≤◌}
+use Prim.Native.Nat.{◌≤◌}
 use Rattle.ledger.specs.Pairs.{Pair}
 use Rattle.choice.specs.laws.Smallest.{chosen-rule}
 use Rattle.std.specs.Prelude.{Some, None}
 use Rattle.choice.specs.declared.Turn.{Turn}
-use Rattle.record.specs.Work.{Work, chosen, work_by, work_pair}
+use Rattle.record.specs.Work.{chosen, work_by, work_pair}
+use Rattle.record.specs.declared.work.Work.{Work}
 
-module _ (n : ℕ) (w : Work) (pair : Pair) where
-  pub not-turned : chosen w pair ≡ None → work_pair n w pair ≡ w
+module _ (w : Work) (pair : Pair) where
+  pub not-turned : chosen w pair ≡ None → work_pair w pair ≡ w
   unfolding work_pair work_by
   not-turned e = rw e
 
-  pub turned_by : (turn : Turn) → chosen w pair ≡ Some turn → work_pair n w pair ≡ work_by n w pair (Some turn)
+  pub turned_by : (turn : Turn) → chosen w pair ≡ Some turn → work_pair w pair ≡ work_by w pair (Some turn)
   unfolding work_pair
   turned_by turn e = rw e
 

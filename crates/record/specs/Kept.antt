@@ -11,7 +11,7 @@ pub record KeptSolver (s : Solver) : Type 0 where
   pub size : s.n ≤ 8
   pub channels : s.n ≢ 1
   pub turns : s.m ≤ turn_limit
-  pub work : KeptWork s.n (work_of s)
+  pub work : KeptWork (work_of s)
   pub matrix-length : length s.a ≡ 64
   pub axes-length : length s.v ≡ 64
 

@@ -13,13 +13,14 @@ use Rattle.readings.specs.Samples.{samples}
 use Rattle.scatter.specs.Table.{scatter, shift, shift_under, entries_under}
 use Rattle.turn.specs.InUse.{in_use}
 use Rattle.turn.specs.Turn.{at}
-use Rattle.record.specs.Work.{Work, chosen, work_pair, work_pairs}
+use Rattle.record.specs.Work.{chosen, work_pair, work_pairs}
 use Rattle.record.specs.Loose.{loose_of}
 use Rattle.record.specs.declared.query.Answer.{Answer}
 use Rattle.record.specs.declared.query.Answer.TheVariants.{Loaded, SamplesLoaded, Turned, Swept, TournamentSwept, Axis, Refused}
 use Rattle.integer.specs.Matrix.{diagonal, matrix_of}
 use Rattle.record.specs.Flat.{kept_entry, entries_of, rows_of, flat_of}
 use Rattle.record.specs.declared.solver.Solver.{Solver}
+use Rattle.record.specs.declared.work.Work.{Work}
 use Rattle.refusal.specs.Refusal.{numbered}
 
 -- 'A fresh record holds no matrix'
@@ -39,18 +40,18 @@ loaded_solver n numbers shift =
 
 -- the matrix and axes at work, and back
 unfoldable pub work_of : Solver → Work
-work_of s = record { a = rows_of s.a; v = rows_of s.v; m = s.m }
+work_of s = record { n = s.n; matrix = rows_of s.a; axes = rows_of s.v; m = s.m }
 
 unfoldable pub worked_of : Solver → Work → Solver
-worked_of s w = record { n = s.n; m = w.m; e = s.e; a = flat_of (at w.a); v = flat_of (at w.v) }
+worked_of s w = record { n = s.n; m = w.m; e = s.e; a = flat_of (at w.matrix); v = flat_of (at w.axes) }
 
 -- Turn p, q: choose, then turn if one was chosen
 unfoldable pub turned_of : Solver → ℕ → ℕ → Solver
-turned_of s p q = worked_of s (work_pair s.n (work_of s) (record { p = p - 1; q = q - 1 }))
+turned_of s p q = worked_of s (work_pair (work_of s) (record { p = p - 1; q = q - 1 }))
 
 -- Sweep: the pairs in their order, each chosen on the matrix as it then stands
 unfoldable pub swept_of : Solver → Order → Solver
-swept_of s order = worked_of s (work_pairs s.n (work_of s) (pairs_in order s.n))
+swept_of s order = worked_of s (work_pairs (work_of s) (pairs_in order s.n))
 
 -- 'loads their table': its entries and its e, under a limit of the entries
 unfoldable pub samples_solver : ℕ → ℕ → List ℕ → List ℕ → Solver

@@ -27,6 +27,7 @@ mod rows;
 pub mod run;
 pub mod solver;
 pub mod sweep;
+mod work;
 
 pub use query::Answer;
 pub use run::{Outcome, Run};

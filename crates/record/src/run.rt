@@ -1,13 +1,14 @@
-// The sweeps of a run, on the rows of a record: how they end.
+// The sweeps of a run, and how they end.
 ghost use Rattle.std.specs.Prelude.{◌≡◌, ◌≤◌};
 ghost use Rattle.ledger.specs.Pairs.{cyclic};
 ghost use Rattle.record.specs.Loose.{loose_of};
 ghost use Rattle.record.specs.Run.{no_pair};
-ghost use Rattle.record.specs.inner.Running.{RowsRun, RowsRunnable};
+ghost use Rattle.record.specs.inner.Running.{WorkRan, WorkRunnable};
 ghost use Rattle.turn.specs.Turn.{at};
 
 use crate::query::Answer;
-use crate::{Record, query, sweep};
+use crate::work::Work;
+use crate::{Record, query};
 use ledger::Order;
 
 // The bench that a run's calls on its own record name.
@@ -29,7 +30,7 @@ pub struct Run {
     pub last: Record,
 }
 
-// The same of the state that holds the matrix, or of rows, of which it tells m.
+// The same of the state that holds the matrix; and of its rows at work, which are lent and so tell themselves what is left.
 #[derive(Clone, Copy)]
 pub struct Ended<S> {
     pub outcome: Outcome,
@@ -37,47 +38,42 @@ pub struct Ended<S> {
     pub last: S,
 }
 
-// Whether a loose-pair call answers none.
-fn is_settled(matrix: &[[i64; 8]; 8], n: usize, tolerance: u64) -> bool
-    requires { n ≤ 8 }
-    ensures { result ≡ no_pair (loose_of (at matrix.now) tolerance (cyclic n)) }
-{
-    matches!(query::loose_pair_of(matrix, n, tolerance), Answer::NoPair)
-}
+impl Work {
+    // Whether a loose-pair call answers none.
+    fn is_settled(&self, tolerance: u64) -> bool
+        requires { self.now.n ≤ 8 }
+        ensures { result ≡ no_pair (loose_of (at self.now.matrix) tolerance (cyclic self.now.n)) }
+    {
+        matches!(query::loose_pair_of(&self.matrix, self.n, tolerance), Answer::NoPair)
+    }
 
-// Sweeps until no pair is loose, a sweep makes no turn, or the limit is reached. Sixteen sweeps make at most 448 turns, so that none is refused.
-pub(crate) fn run_rows(
-    matrix: &mut [[i64; 8]; 8],
-    axes: &mut [[i64; 8]; 8],
-    n: usize,
-    limit: u64,
-    tolerance: u64,
-) -> Ended<u64>
-    requires { RowsRunnable n limit tolerance matrix.old axes.old }
-    ensures { RowsRun n limit tolerance matrix.old axes.old matrix.new axes.new result }
-{
-    let mut m = 0;
-    let mut sweeps = 0;
-    let mut idle = false;
-    // No plainer: a `for` over the sweeps would need an `unreachable!` behind it, since its last round is left by the limit.
-    let outcome = loop {
-        if is_settled(matrix, n, tolerance) {
-            break Outcome::Settled;
+    // Sweeps until no pair is loose, a sweep makes no turn, or the limit is reached. Sixteen sweeps make at most 448 turns, so that none is refused.
+    pub(crate) fn run(&mut self, limit: u64, tolerance: u64) -> Ended<()>
+        requires { WorkRunnable self.old limit tolerance }
+        ensures { WorkRan self.old limit tolerance result self.new }
+    {
+        let mut sweeps = 0;
+        let mut idle = false;
+        // No plainer: a `for` over the sweeps would need an `unreachable!` behind it, since its last round is left by the limit.
+        let outcome = loop {
+            if self.is_settled(tolerance) {
+                break Outcome::Settled;
+            }
+            if idle {
+                break Outcome::Still;
+            }
+            if sweeps == limit {
+                break Outcome::Spent;
+            }
+            sweeps += 1;
+            let m = self.m;
+            self.sweep_in(Order::Cyclic);
+            idle = self.m == m;
+        };
+        Ended {
+            outcome,
+            sweeps,
+            last: (),
         }
-        if idle {
-            break Outcome::Still;
-        }
-        if sweeps == limit {
-            break Outcome::Spent;
-        }
-        sweeps += 1;
-        let made = sweep::work_pairs(matrix, axes, n, m, Order::Cyclic);
-        idle = made == m;
-        m = made;
-    };
-    Ended {
-        outcome,
-        sweeps,
-        last: m,
     }
 }

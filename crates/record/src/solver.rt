@@ -3,14 +3,14 @@ ghost use Rattle.ledger.specs.Call.{axis, load, load_samples, loose_pair, sweep_
 ghost use Rattle.ledger.specs.Refusal.{refusal_of};
 ghost use Rattle.record.specs.declared.query.Answer.TheVariants.{Refused};
 ghost use Rattle.record.specs.Kept.{KeptSolver};
-ghost use Rattle.record.specs.Solver.{answer_of, axis_of, worked_of};
-ghost use Rattle.record.specs.Worked.{work_at};
+ghost use Rattle.record.specs.Solver.{answer_of, axis_of, work_of, worked_of};
 ghost use Rattle.record.specs.inner.Solved.{Solved, SolverLoaded, SolverRan, SolverRunnable, Unloaded};
 ghost use Rattle.std.specs.Prelude.{◌≡◌};
 
 use crate::query::Answer;
 use crate::run::Ended;
-use crate::{AxisAnswer, Step, load, query, rows, run, sweep};
+use crate::work::Work;
+use crate::{AxisAnswer, Step, load, query, rows, sweep};
 use ledger::Order;
 use readings::Samples;
 use refusal::Refusal;
@@ -115,12 +115,11 @@ impl Solver {
         if let Err(refusal) = sweep::check_turn(self.n, self.m, p, q) {
             return self.refuse(refusal);
         }
-        let mut matrix = rows::unpacked(&self.a);
-        let mut axes = rows::unpacked(&self.v);
-        let made = sweep::work_pair(&mut matrix, &mut axes, self.n, self.m, p - 1, q - 1);
+        let mut work = self.work();
+        work.pair(p - 1, q - 1);
         Step {
-            answer: Answer::Turned(self.m < made),
-            next: self.with_rows(matrix, axes, made),
+            answer: Answer::Turned(self.m < work.m),
+            next: self.with_work(&work),
         }
     }
 
@@ -132,12 +131,11 @@ impl Solver {
         if let Err(refusal) = sweep::check_sweep(self.n, self.m) {
             return self.refuse(refusal);
         }
-        let mut matrix = rows::unpacked(&self.a);
-        let mut axes = rows::unpacked(&self.v);
-        let made = sweep::work_pairs(&mut matrix, &mut axes, self.n, self.m, order);
+        let mut work = self.work();
+        work.sweep_in(order);
         Step {
-            answer: sweep::swept(order, made - self.m),
-            next: self.with_rows(matrix, axes, made),
+            answer: sweep::swept(order, work.m - self.m),
+            next: self.with_work(&work),
         }
     }
 
@@ -177,14 +175,12 @@ impl Solver {
         requires { SolverRunnable self limit tolerance }
         ensures { SolverRan self limit tolerance result }
     {
-        let mut matrix = rows::unpacked(&self.a);
-        let mut axes = rows::unpacked(&self.v);
-        let ended = run::run_rows(&mut matrix, &mut axes, self.n, limit, tolerance);
-        let outcome = ended.outcome;
+        let mut work = self.work();
+        let ended = work.run(limit, tolerance);
         Ended {
-            outcome,
+            outcome: ended.outcome,
             sweeps: ended.sweeps,
-            last: self.with_rows(matrix, axes, ended.last),
+            last: self.with_work(&work),
         }
     }
 
@@ -198,18 +194,28 @@ impl Solver {
         }
     }
 
-    // The state with the matrix and axes of some turns, and m after them.
-    fn with_rows(self, matrix: [[i64; 8]; 8], axes: [[i64; 8]; 8], made: u64) -> Self
-        ensures { result ≡ worked_of self (work_at matrix axes made) }
+    // The matrix and axes in rows, to be worked on.
+    fn work(&self) -> Work
+        ensures { result ≡ work_of self.now }
     {
-        let a = rows::packed(matrix);
-        let v = rows::packed(axes);
+        Work {
+            n: self.n,
+            matrix: rows::unpacked(&self.a),
+            axes: rows::unpacked(&self.v),
+            m: self.m,
+        }
+    }
+
+    // The state with the matrix and axes of some turns, and m after them.
+    fn with_work(self, work: &Work) -> Self
+        ensures { result ≡ worked_of self work.now }
+    {
         Solver {
             n: self.n,
-            m: made,
+            m: work.m,
             e: self.e,
-            a,
-            v,
+            a: rows::packed(work.matrix),
+            v: rows::packed(work.axes),
         }
     }
 }

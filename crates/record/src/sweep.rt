@@ -1,25 +1,17 @@
-// Turns and sweeps on lent rows, the matrix and the axes: their refusals, the order of a sweep's pairs, and the pairs chosen and turned.
-ghost use Rattle.std.specs.Prelude.{◌≡◌, ◌<◌, ◌≤◌, ◌+◌, ◌-◌, ◌*◌, ◌/◌};
+// Turns and sweeps: their refusals, what a sweep answers, and the order of its pairs.
+ghost use Rattle.std.specs.Prelude.{◌≡◌, ◌<◌, ◌≤◌};
 ghost use Rattle.ledger.specs.Call.{turn, sweep};
-ghost use Rattle.ledger.specs.Order.{pairs_in};
 ghost use Rattle.ledger.specs.declared.Order.TheVariants.{Tournament};
 ghost use Rattle.limits.specs.Limits.{turn_limit};
 ghost use Rattle.ledger.specs.Refusal.{refusal_of};
 ghost use Rattle.refusal.specs.Refusal.{judged};
-ghost use Rattle.turn.specs.Size.{Small};
-ghost use Rattle.turn.specs.Turn.{at};
-ghost use Rattle.choice.specs.Choice.{choose};
-ghost use Rattle.record.specs.Worked.{Ready, work_at};
-ghost use Rattle.record.specs.Work.{work_pair, work_pairs};
-ghost use Rattle.record.specs.inner.Orders.{Within, columns_in, first_in, pair_in, rows_in, work_place};
+ghost use Rattle.record.specs.inner.Orders.{columns_in, first_in, pair_in, rows_in};
 ghost use Rattle.record.specs.Solver.{swept_in};
 
 use crate::Record;
 use crate::query::Answer;
-use choice::Turn;
 use ledger::Order;
 use refusal::Refusal;
-use turn::pair::Rotation;
 
 pub(crate) fn check_turn(n: usize, m: u64, p: usize, q: usize) -> Result<(), Refusal>
     ensures { result ≡ judged (refusal_of n m (turn p q)) (record {}) }
@@ -60,37 +52,6 @@ pub(crate) fn swept(order: Order, made: u64) -> Answer
     }
 }
 
-// The choice for the pair p < q, in rows and columns from 0.
-fn choice_at(a: &[[i64; 8]; 8], p: usize, q: usize) -> Option<Turn>
-    requires { (p < 8) × (q < 8) × Small a.now }
-    ensures { result ≡ choose (at a.now p p) (at a.now q q) (at a.now p q) }
-{
-    choice::choose_turn(a[p][p], a[q][q], a[p][q])
-}
-
-// The pair p < q chosen, and turned if a turn was chosen, in lent rows. The answer is m after it.
-pub(crate) fn work_pair(
-    matrix: &mut [[i64; 8]; 8],
-    axes: &mut [[i64; 8]; 8],
-    n: usize,
-    m: u64,
-    p: usize,
-    q: usize,
-) -> u64
-    requires { (p < q) × (q < n) × (n ≤ 8) × Ready n matrix.old axes.old m }
-    ensures { work_at matrix.new axes.new result ≡ work_pair n (work_at matrix.old axes.old m)
-        (record { p = p; q = q }) }
-{
-    let Some(turn) = choice_at(matrix, p, q) else {
-        return m;
-    };
-    let r = Rotation::of(turn.l, turn.minus);
-    turn::turn_axes(axes, n, r, p, q);
-    let turned = turn::turn_matrix(*matrix, n, r, p, q);
-    *matrix = turned;
-    m + 1
-}
-
 // A pair p < q, in rows and columns from 0.
 #[derive(Clone, Copy)]
 pub struct Place {
@@ -122,7 +83,7 @@ const ROUNDS: [[usize; 8]; 16] = [
 // the loop's proof knows of a row and a column.
 
 // How many rows a sweep has: those of the matrix, or rounds.
-fn rows_of(order: Order, n: usize) -> usize
+pub(crate) fn rows_of(order: Order, n: usize) -> usize
     requires { (1 ≤ n) × (n ≤ 8) }
     ensures { result ≡ rows_in order n }
 {
@@ -133,7 +94,7 @@ fn rows_of(order: Order, n: usize) -> usize
 }
 
 // In which column a row begins.
-fn first_of(order: Order, row: usize) -> usize
+pub(crate) fn first_of(order: Order, row: usize) -> usize
     requires { row < 8 }
     ensures { result ≡ first_in order row }
 {
@@ -144,7 +105,7 @@ fn first_of(order: Order, row: usize) -> usize
 }
 
 // Before which column it ends.
-fn columns_of(order: Order, n: usize) -> usize
+pub(crate) fn columns_of(order: Order, n: usize) -> usize
     requires { n ≤ 8 }
     ensures { result ≡ columns_in order n }
 {
@@ -167,7 +128,7 @@ fn round_of(n: usize, row: usize, column: usize) -> Place
 }
 
 // The pair in a row and a column.
-fn place_of(order: Order, n: usize, row: usize, column: usize) -> Place
+pub(crate) fn place_of(order: Order, n: usize, row: usize, column: usize) -> Place
     requires { (1 ≤ n) × (n ≤ 8) × (row < rows_in order n) × (column < columns_in order n) }
     ensures { (result.p ≡ (pair_in order n row column).p) × (result.q ≡ (pair_in order n row column).q) }
 {
@@ -175,50 +136,4 @@ fn place_of(order: Order, n: usize, row: usize, column: usize) -> Place
         Order::Cyclic => Place { p: row, q: column },
         Order::Tournament => round_of(n, row, column),
     }
-}
-
-// The pair in a row and a column worked, or skipped where it names a number above n. The answer is m after it.
-fn work_place(
-    matrix: &mut [[i64; 8]; 8],
-    axes: &mut [[i64; 8]; 8],
-    n: usize,
-    m: u64,
-    order: Order,
-    row: usize,
-    column: usize,
-) -> u64
-    requires { Within order n row column × Ready n matrix.old axes.old m }
-    ensures { work_at matrix.new axes.new result ≡ work_place n (work_at matrix.old axes.old m)
-        (pair_in order n row column) }
-{
-    let place = place_of(order, n, row, column);
-    let p = place.p;
-    let q = place.q;
-    if n <= q {
-        return m;
-    }
-    work_pair(matrix, axes, n, m, p, q)
-}
-
-// The pairs of a sweep over n channels, in lent rows, each chosen on the matrix as it then stands. The answer is m after them.
-pub(crate) fn work_pairs(
-    matrix: &mut [[i64; 8]; 8],
-    axes: &mut [[i64; 8]; 8],
-    n: usize,
-    m: u64,
-    order: Order,
-) -> u64
-    requires { (1 ≤ n) × (n ≤ 8) × (m + n * (n - 1) / 2 ≤ turn_limit) × Ready n matrix.old axes.old m }
-    ensures { work_at matrix.new axes.new result ≡ work_pairs n (work_at matrix.old axes.old m)
-        (pairs_in order n) }
-{
-    let rows = rows_of(order, n);
-    let columns = columns_of(order, n);
-    let mut made = m;
-    for row in 0..rows {
-        for column in first_of(order, row)..columns {
-            made = work_place(matrix, axes, n, made, order, row, column);
-        }
-    }
-    made
 }

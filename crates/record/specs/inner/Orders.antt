@@ -5,7 +5,8 @@ use Rattle.ledger.specs.Tournament.{Lines, among, first_lines, moved, round, all
 use Rattle.ledger.specs.declared.Order.{Order}
 use Rattle.ledger.specs.declared.Order.TheVariants.{Cyclic, Tournament}
 use Rattle.ledger.specs.laws.Order.{pairs_left, rows_left}
-use Rattle.record.specs.Work.{Work, work_pair}
+use Rattle.record.specs.Work.{work_pair}
+use Rattle.record.specs.declared.work.Work.{Work}
 
 -- the lines after some rounds, and the pairs of the round that they make, of `count` columns
 unfoldable pub lines_after : ℕ → Lines → Lines
@@ -58,5 +59,5 @@ pub record Within (order : Order) (n row column : ℕ) : Type 0 where
   pub column-within : column < columns_in order n
 
 -- a pair worked, or skipped where it names a number above n
-unfoldable pub work_place : ℕ → Work → Pair → Work
-work_place n w pair = cond (ltb pair.q n) (work_pair n w pair) w
+unfoldable pub work_place : Work → Pair → Work
+work_place w pair = cond (ltb pair.q w.n) (work_pair w pair) w

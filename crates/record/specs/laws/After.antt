@@ -24,14 +24,15 @@ use Rattle.turn.specs.Turn.{at}
 use Rattle.record.specs.KeptWork.{KeptWork}
 use Rattle.turn.specs.InUse.{in_use}
 use Rattle.turn.specs.laws.InUse.{Use, inside, outside, use-of, at-square, in_use-inside, in_use-outside}
-use Rattle.record.specs.laws.Turning.{work-keeps, work-grows, works-keep, works-grow}
-use Rattle.record.specs.Work.{Work, work_pair, work_pairs}
+use Rattle.record.specs.laws.Turning.{same-n, work-grows, work-keeps, works-grow, works-keep, works-same-n}
+use Rattle.record.specs.Work.{work_pair, work_pairs}
 use Rattle.record.specs.Flat.{entries_of, flat_of, kept_entry, rows_of}
 use Rattle.record.specs.Kept.{KeptSolver}
 use Rattle.record.specs.laws.Fill.{length-flat}
 use Rattle.record.specs.laws.Loading.{at-flat, load_kept, loads-kept}
 use Rattle.record.specs.Solver.{accepted_of_under, after_of, after_of_under, samples_solver, swept_of, turned_of, unloaded, work_of, worked_of}
 use Rattle.record.specs.declared.solver.Solver.{Solver}
+use Rattle.record.specs.declared.work.Work.{Work}
 
 -- what is 0 outside is itself in use
 itself-in-use : (n : ℕ) (x : Matrix) → ((i j : ℕ) → (ltb i n && ltb j n) ≡ false → x i j ≡ pos 0) → x ≡ in_use n x
@@ -50,22 +51,28 @@ flat_back n a b zero-outside i j =
     itself : at a ≡ in_use n (at a)
     itself = itself-in-use n (at a) zero-outside
 
-pub worked_kept : (r : Solver) (w : Work) → r.n ≤ 8 → KeptWork r.n w → KeptWork r.n (work_of (worked_of r w))
+pub worked_kept : (r : Solver) (w : Work) → w.n ≡ r.n → r.n ≤ 8 → KeptWork w → KeptWork (work_of (worked_of r w))
 unfolding work_of worked_of
-worked_kept r w b k =
+worked_kept r w same b k =
     record {
       symmetric = λ i j. matrix i j ∙ k.symmetric i j ∙ sym (matrix j i);
-      outside = λ i j e. matrix i j ∙ k.outside i j e;
-      axes-outside = λ i j e. axes i j ∙ k.axes-outside i j e;
-      norm = rw (squares-cong r.n (λ i j h l. matrix i j)) k.norm;
-      columns = λ j. rw (sumℕ-cong r.n (λ i h. ap sq (axes i j))) (k.columns j);
+      outside = λ i j e. matrix i j ∙ outside i j e;
+      axes-outside = λ i j e. axes i j ∙ axes-outside i j e;
+      norm = rw (squares-cong r.n (λ i j h l. matrix i j)) (rw same at k.norm);
+      columns = λ j. rw (sumℕ-cong r.n (λ i h. ap sq (axes i j))) (rw same at (k.columns j));
     }
   where
-    matrix : (i j : ℕ) → at (rows_of (flat_of (at w.a))) i j ≡ at w.a i j
-    matrix = flat_back r.n w.a b k.outside
+    outside : (i j : ℕ) → (ltb i r.n && ltb j r.n) ≡ false → at w.matrix i j ≡ pos 0
+    outside i j e = k.outside i j (rw same e)
 
-    axes : (i j : ℕ) → at (rows_of (flat_of (at w.v))) i j ≡ at w.v i j
-    axes = flat_back r.n w.v b k.axes-outside
+    axes-outside : (i j : ℕ) → (ltb i r.n && ltb j r.n) ≡ false → at w.axes i j ≡ pos 0
+    axes-outside i j e = k.axes-outside i j (rw same e)
+
+    matrix : (i j : ℕ) → at (rows_of (flat_of (at w.matrix))) i j ≡ at w.matrix i j
+    matrix = flat_back r.n w.matrix b outside
+
+    axes : (i j : ℕ) → at (rows_of (flat_of (at w.axes))) i j ≡ at w.axes i j
+    axes = flat_back r.n w.axes b axes-outside
 
 turned-kept : (r : Solver) (p q : ℕ) → KeptSolver r → refusal_of r.n r.m (turn p q) ≡ 0 → KeptSolver (turned_of r p q)
 unfolding turned_of worked_of work_of
@@ -75,10 +82,10 @@ turned-kept r p q k e =
     record {
       size = k.size;
       channels = k.channels;
-      turns = omega (arith, t.left, work-grows r.n (work_of r) pair);
+      turns = omega (arith, t.left, work-grows (work_of r) pair);
       work =
-          worked_kept r (work_pair r.n (work_of r) pair) k.size
-          (work-keeps r.n (work_of r) pair k.size k.work (omega (arith, t.first, t.ordered))
+          worked_kept r (work_pair (work_of r) pair) (same-n (work_of r) pair) k.size
+          (work-keeps (work_of r) pair k.size k.work (omega (arith, t.first, t.ordered))
           (omega (arith, t.first, t.ordered, t.last)));
       matrix-length = length-flat _;
       axes-length = length-flat _;
@@ -95,11 +102,11 @@ swept_kept r order k e =
       size = k.size;
       channels = k.channels;
       turns =
-          le_trans (works-grow r.n (work_of r) (pairs_in order r.n))
+          le_trans (works-grow (work_of r) (pairs_in order r.n))
           (sweep-fits order r.m r.n k.size (sweep-accepted r.n r.m order e));
       work =
-          worked_kept r (work_pairs r.n (work_of r) (pairs_in order r.n)) k.size
-          (works-keep r.n (work_of r) (pairs_in order r.n) k.size k.work (once-in order r.n k.size).ordered);
+          worked_kept r (work_pairs (work_of r) (pairs_in order r.n)) (works-same-n (work_of r) (pairs_in order r.n)) k.size
+          (works-keep (work_of r) (pairs_in order r.n) k.size k.work (once-in order r.n k.size).ordered);
       matrix-length = length-flat _;
       axes-length = length-flat _;
     }

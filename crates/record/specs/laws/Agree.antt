@@ -20,25 +20,26 @@ use Rattle.turn.specs.Rotation.{rotation_of}
 use Rattle.turn.specs.Turn.{at, turn_matrix, turn_axes}
 use Rattle.record.specs.KeptWork.{KeptWork}
 use Rattle.turn.specs.laws.InUse.{at-array, in_use-inside}
-use Rattle.record.specs.laws.Turning.{work-keeps}
-use Rattle.record.specs.Work.{Work, chosen, work_by, work_pair, work_pairs}
+use Rattle.record.specs.laws.Turning.{same-n, work-keeps, works-same-n}
+use Rattle.record.specs.Work.{chosen, work_by, work_pair, work_pairs}
 use Rattle.choice.specs.declared.Turn.{Turn}
 use Rattle.record.specs.laws.Fill.{at-rows_of, kept-flat_of}
 use Rattle.record.specs.Flat.{kept_entry}
 use Rattle.record.specs.Kept.{KeptSolver}
 use Rattle.record.specs.Solver.{accepted_of_under, after_of_under, loaded_solver, samples_solver, swept_of, turned_of, work_of, worked_of}
 use Rattle.record.specs.declared.solver.Solver.{Solver}
+use Rattle.record.specs.declared.work.Work.{Work}
 
 -- work and a ledger's state, below n
-pub record AgreeWork (n e : ℕ) (w : Work) (s : State) : Type 0 where
-  pub size : s.n ≡ n
+pub record AgreeWork (e : ℕ) (w : Work) (s : State) : Type 0 where
+  pub size : s.n ≡ w.n
   pub shift : s.e ≡ e
   pub turns : w.m ≡ s.m
-  pub matrix : Same n (at w.a) s.B
-  pub axes : Same n (at w.v) s.axes
+  pub matrix : Same w.n (at w.matrix) s.B
+  pub axes : Same w.n (at w.axes) s.axes
 
-module _ (n e : ℕ) (w : Work) (s : State) (pair : Pair) (b : n ≤ 8) (k : KeptWork n w) (a : AgreeWork n e w s) (o : Ordered n pair) where
-  by-choice : (choice : Option Turn) → AgreeWork n e (work_by n w pair choice) (take s pair choice)
+module _ (e : ℕ) (w : Work) (s : State) (pair : Pair) (b : w.n ≤ 8) (k : KeptWork w) (a : AgreeWork e w s) (o : Ordered w.n pair) where
+  by-choice : (choice : Option Turn) → AgreeWork e (work_by w pair choice) (take s pair choice)
   unfolding work_by take turn_matrix turn_axes
   by-choice None = a
   by-choice (Some picked) =
@@ -46,25 +47,25 @@ module _ (n e : ℕ) (w : Work) (s : State) (pair : Pair) (b : n ≤ 8) (k : Kep
         size = a.size;
         shift = a.shift;
         turns = ap suc a.turns;
-        matrix = λ i j h g. at-array n _ (at w.a) b k.outside i j ∙ in_use-inside n _ i j h g
-            ∙ turned_same n pair.p pair.q o.ordered o.within (at w.a) s.B a.matrix (rotation_of picked.l picked.minus) i j h g;
-        axes = λ i j h g. at-array n _ (at w.v) b k.axes-outside i j ∙ in_use-inside n _ i j h g
-            ∙ turned_axes-same n pair.p pair.q o.ordered o.within (at w.v) s.axes a.axes (rotation_of picked.l picked.minus) i j h g;
+        matrix = λ i j h g. at-array w.n _ (at w.matrix) b k.outside i j ∙ in_use-inside w.n _ i j h g
+            ∙ turned_same w.n pair.p pair.q o.ordered o.within (at w.matrix) s.B a.matrix (rotation_of picked.l picked.minus) i j h g;
+        axes = λ i j h g. at-array w.n _ (at w.axes) b k.axes-outside i j ∙ in_use-inside w.n _ i j h g
+            ∙ turned_axes-same w.n pair.p pair.q o.ordered o.within (at w.axes) s.axes a.axes (rotation_of picked.l picked.minus) i j h g;
       }
 
-  agree-pair : AgreeWork n e (work_pair n w pair) (turn_pair s pair)
+  agree-pair : AgreeWork e (work_pair w pair) (turn_pair s pair)
   unfolding work_pair turn_pair chosen
   agree-pair =
-      rw (choose-same n pair.p pair.q o.ordered o.within (at w.a) s.B a.matrix) (by-choice _)
+      rw (choose-same w.n pair.p pair.q o.ordered o.within (at w.matrix) s.B a.matrix) (by-choice _)
 
-agree-pairs : (n e : ℕ) (w : Work) (s : State) (pairs : List Pair) → n ≤ 8 → KeptWork n w → AgreeWork n e w s → Each n pairs →
-    AgreeWork n e (work_pairs n w pairs) (turn_pairs s pairs)
+agree-pairs : (e : ℕ) (w : Work) (s : State) (pairs : List Pair) → w.n ≤ 8 → KeptWork w → AgreeWork e w s → Each w.n pairs →
+    AgreeWork e (work_pairs w pairs) (turn_pairs s pairs)
 unfolding work_pairs turn_pairs Each
-agree-pairs n e w s [] b k a each = a
-agree-pairs n e w s (pair ∷ pairs) b k a each =
-    agree-pairs n e (work_pair n w pair) (turn_pair s pair) pairs b
-    (work-keeps n w pair b k each.0.ordered each.0.within)
-    (agree-pair n e w s pair b k a each.0) each.1
+agree-pairs e w s [] b k a each = a
+agree-pairs e w s (pair ∷ pairs) b k a each =
+    agree-pairs e (work_pair w pair) (turn_pair s pair) pairs (rw same-n b)
+    (work-keeps w pair b k each.0.ordered each.0.within)
+    (agree-pair e w s pair b k a each.0) (rw same-n each.1)
 
 -- 'The kept matrix and axes are the record's a and v; they equal B and V'
 pub record Agree (r : Solver) (s : State) : Type 0 where
@@ -79,7 +80,7 @@ Agrees r empty = r.n ≡ 0
 Agrees r (loaded s) = Agree r s
 
 -- from the record to its work, and back
-at-work : (r : Solver) (s : State) → r.n ≤ 8 → Agree r s → AgreeWork r.n r.e (work_of r) s
+at-work : (r : Solver) (s : State) → r.n ≤ 8 → Agree r s → AgreeWork r.e (work_of r) s
 unfolding work_of
 at-work r s b a =
     record {
@@ -90,16 +91,16 @@ at-work r s b a =
       axes = λ i j h g. at-rows_of r.v i j (omega arith) (omega arith) ∙ a.axes i j (rw a.size at h) (rw a.size at g);
     }
 
-from-work : (r : Solver) (w : Work) (s : State) → r.n ≤ 8 → AgreeWork r.n r.e w s → Agree (worked_of r w) s
+from-work : (r : Solver) (w : Work) (s : State) → w.n ≡ r.n → r.n ≤ 8 → AgreeWork r.e w s → Agree (worked_of r w) s
 unfolding worked_of
-from-work r w s b a =
+from-work r w s same b a =
     record {
-      size = sym a.size;
+      size = sym (a.size ∙ same);
       turns = a.turns;
       shift = sym a.shift;
-      matrix = λ i j h g. kept-flat_of (at w.a) i j (omega (arith, a.size)) (omega (arith, a.size))
+      matrix = λ i j h g. kept-flat_of (at w.matrix) i j (omega (arith, a.size, same)) (omega (arith, a.size, same))
           ∙ a.matrix i j (rw a.size at h) (rw a.size at g);
-      axes = λ i j h g. kept-flat_of (at w.v) i j (omega (arith, a.size)) (omega (arith, a.size))
+      axes = λ i j h g. kept-flat_of (at w.axes) i j (omega (arith, a.size, same)) (omega (arith, a.size, same))
           ∙ a.axes i j (rw a.size at h) (rw a.size at g);
     }
 
@@ -136,21 +137,21 @@ ten-is-not-zero z = omega arith
 
 agree-accepted : (limit : ℕ) (r : Solver) (g : Ledger) (call : Call) → KeptSolver r → Agrees r g → refusal_of r.n r.m call ≡ 0 →
     Agrees (accepted_of_under limit r call) (accepted_under limit g call)
-unfolding Agrees accepted_of_under accepted_under refusal_under turned_of swept_of samples_solver L.plain_state L.samples_state
+unfolding Agrees accepted_of_under accepted_under refusal_under turned_of swept_of samples_solver work_of L.plain_state L.samples_state
 agree-accepted limit r g (load n numbers) k a e = agree-loaded n numbers _ 0 (load-accepted r.n r.m n numbers e).high
 agree-accepted limit r g (load_samples n dilutions counts) k a e =
     agree-loaded n _ _ _ (are-readings n dilutions counts (samples-accepted r.n r.m n dilutions counts e)).channels
 agree-accepted limit r empty (turn p q) k a e = absurd (ten-is-not-zero (rw a at e))
 agree-accepted limit r (loaded s) (turn p q) k a e =
     let t = turn-accepted r.n r.m p q e in
-    from-work r _ _ k.size
-    (agree-pair r.n r.e (work_of r) s (record { p = p - 1; q = q - 1 }) k.size k.work (at-work r s k.size a)
+    from-work r _ _ (same-n (work_of r) _) k.size
+    (agree-pair r.e (work_of r) s (record { p = p - 1; q = q - 1 }) k.size k.work (at-work r s k.size a)
     (record { ordered = omega (arith, t.first, t.ordered); within = omega (arith, t.first, t.ordered, t.last) }))
 agree-accepted limit r empty (sweep_in order) k a e = absurd (ten-is-not-zero (rw a at e))
 agree-accepted limit r (loaded s) (sweep_in order) k a e =
-    from-work r _ _ k.size
-    (subst (λ n. AgreeWork r.n r.e (work_pairs r.n (work_of r) (pairs_in order r.n)) (turn_pairs s (pairs_in order n))) a.size
-    (agree-pairs r.n r.e (work_of r) s (pairs_in order r.n) k.size k.work (at-work r s k.size a)
+    from-work r _ _ (works-same-n (work_of r) (pairs_in order r.n)) k.size
+    (subst (λ n. AgreeWork r.e (work_pairs (work_of r) (pairs_in order r.n)) (turn_pairs s (pairs_in order n))) a.size
+    (agree-pairs r.e (work_of r) s (pairs_in order r.n) k.size k.work (at-work r s k.size a)
     (once-in order r.n k.size).ordered))
 agree-accepted limit r g (loose_pair t) k a e = a
 agree-accepted limit r g (axis i) k a e = a

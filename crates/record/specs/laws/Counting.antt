@@ -13,10 +13,11 @@ use Rattle.record.specs.Solver.{accepted_of_under, after_of, answer_of, loaded_s
 use Rattle.record.specs.Solver.{turned_of, value_of, work_of, worked_of}
 use Rattle.readings.specs.Samples.{samples}
 use Rattle.scatter.specs.Table.{scatter, shift}
-use Rattle.record.specs.Work.{Work, work_by, work_pair}
+use Rattle.record.specs.Work.{work_by, work_pair}
 use Rattle.record.specs.laws.Accepted.{after-accepted}
 use Rattle.record.specs.laws.Turning.{works-least}
 use Rattle.record.specs.declared.solver.Solver.{Solver}
+use Rattle.record.specs.declared.work.Work.{Work}
 use Rattle.record.specs.declared.query.Answer.TheVariants.{SamplesLoaded, Swept, TournamentSwept, Turned}
 
 same_count : (order : Order) (j k : ℕ) → swept_in order j ≡ swept_in order k → j ≡ k
@@ -34,18 +35,18 @@ unfolding answer_of value_of accepted_of_under swept_of worked_of work_of
 sweep-counts r order e k a =
     let told = rw (eq-eqb (refusal_of r.n r.m (sweep_in order)) 0 e) at a in
     let counted = same_count order ((swept_of r order).m - r.m) k told in
-    rw (after-accepted r (sweep_in order) e) (omega (arith, counted, works-least r.n (work_of r) (pairs_in order r.n)))
+    rw (after-accepted r (sweep_in order) e) (omega (arith, counted, works-least (work_of r) (pairs_in order r.n)))
 
 -- 1 for a turn that was made
 unfoldable pub made : Bool → ℕ
 made true = 1
 made false = 0
 
-by-choice : (n : ℕ) (w : Work) (pair : Pair) (choice : Option Turn) (b : Bool) → Turned (is_some choice) ≡ Turned b →
-    (work_by n w pair choice).m ≡ w.m + made b
+by-choice : (w : Work) (pair : Pair) (choice : Option Turn) (b : Bool) → Turned (is_some choice) ≡ Turned b →
+    (work_by w pair choice).m ≡ w.m + made b
 unfolding work_by made
-by-choice n w pair None b h = let e : false ≡ b = cc in rw (← e) (omega arith)
-by-choice n w pair (Some picked) b h = let e : true ≡ b = cc in rw (← e) (omega arith)
+by-choice w pair None b h = let e : false ≡ b = cc in rw (← e) (omega arith)
+by-choice w pair (Some picked) b h = let e : true ≡ b = cc in rw (← e) (omega arith)
 
 -- a turn call that is not refused
 pub turn-counts : (r : Solver) (p q : ℕ) → refusal_of r.n r.m (turn p q) ≡ 0 → (b : Bool) → answer_of r (turn p q) ≡ Turned b →
@@ -53,7 +54,7 @@ pub turn-counts : (r : Solver) (p q : ℕ) → refusal_of r.n r.m (turn p q) ≡
 unfolding answer_of value_of accepted_of_under turned_of worked_of work_pair work_of
 turn-counts r p q e b a =
     let told = rw (eq-eqb (refusal_of r.n r.m (turn p q)) 0 e) at a in
-    rw (after-accepted r (turn p q) e) (by-choice r.n (work_of r) (record { p = p - 1; q = q - 1 }) _ b told)
+    rw (after-accepted r (turn p q) e) (by-choice (work_of r) (record { p = p - 1; q = q - 1 }) _ b told)
 
 -- a load of samples that is not refused answers the e that the record then has
 pub samples-shift : (r : Solver) (n : ℕ) (dilutions counts : List ℕ) → refusal_of r.n r.m (load_samples n dilutions counts) ≡ 0 → (e : ℕ) →

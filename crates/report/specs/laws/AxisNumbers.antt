@@ -113,4 +113,4 @@ module _ (r : Record) (i : ℕ) (h : i < r.solver.n) where
       small : (j : ℕ) → j < r.solver.n → nat_abs (kept_entry r.solver.a i j) ≤ widest
       small j l =
           rw (← at-rows_of r.solver.a i j (omega (arith, h, k.solver.size)) (omega (arith, l, k.solver.size)))
-          ((matrix-small r.solver.n (work_of r.solver) k.solver.work (le_trans k.solver.turns (lit≤ tt))).small i j)
+          ((matrix-small (work_of r.solver) k.solver.work (le_trans k.solver.turns (lit≤ tt))).small i j)

@@ -110,7 +110,7 @@ module _ (n t : ℕ) (low : 1 ≤ n) (high : n ≤ 8) (h : t ≤ tolerance_limit
       counted = rw s.channels (cyclic-length n low)
 
       grown : (accepted_of r.solver sweep).m ≤ suc sweeps * (n * (n - 1) / 2)
-      grown = omega (arith, works-grow r.solver.n (work_of r.solver) (cyclic r.solver.n), counted, s.turns)
+      grown = omega (arith, works-grow (work_of r.solver) (cyclic r.solver.n), counted, s.turns)
 
   -- what the calls from here on do
   record Rounds (sweeps : ℕ) (r : Record) (z : Run) : Type 0 where

@@ -4,9 +4,10 @@ use Rattle.ledger.specs.Order.{pairs_in}
 use Rattle.ledger.specs.declared.Order.TheVariants.{Cyclic}
 use Rattle.ledger.specs.laws.Accepted.{sweep-accepted, sweep-held}
 use Rattle.ledger.specs.laws.Orders.{refused-alike}
-use Rattle.record.proofs.EndOfRun.{accepted, at-work, kept-ready, passed, refuses}
+use Rattle.record.proofs.EndOfRun.{accepted, kept-ready, passed, refuses}
 use Rattle.record.specs.Solver.{accepted_of_under, swept_in, swept_of, value_of, work_of, worked_of}
-use Rattle.record.specs.Work.{Work, work_pairs}
+use Rattle.record.specs.Work.{work_pairs}
+use Rattle.record.specs.declared.work.Work.{Work}
 use Rattle.record.specs.laws.Turning.{works-least}
 use Rattle.record.proofs.solver.Solver.sweep_in.Goals as goal
 
@@ -14,31 +15,27 @@ pub returns-in-Err : goal.returns-in-Err
 returns-in-Err c =
     refuses c.args.self (sweep_in c.args.order) c.requires _ (sym (refused-alike c.args.order _ _)) _ _ c.in-Err.ensures c.refuse.ensures
 
-pub work_pairs-made-requires : goal.work_pairs-made-requires
-work_pairs-made-requires c =
-    let r = c.args.self in
-    let taken = passed _ c.in_default.ensures in (
-      sweep-held r.n r.m Cyclic taken,
-      c.requires.size,
-      sweep-accepted r.n r.m Cyclic taken,
-      kept-ready r _ _ c.unpacked-matrix.ensures c.unpacked-axes.ensures c.requires,
-    )
-
-pub overflow_sub-made : goal.overflow_sub-made
+pub sweep_in-requires : goal.sweep_in-requires
 unfolding work_of
-overflow_sub-made c =
+sweep_in-requires c =
+    let r = c.args.self in
+    let taken = passed _ c.in_default.ensures in
+    rw c.work-work.ensures (sweep-held r.n r.m Cyclic taken, sweep-accepted r.n r.m Cyclic taken, kept-ready r c.requires)
+
+pub overflow_sub-work : goal.overflow_sub-work
+unfolding work_of
+overflow_sub-work c =
     let r = c.args.self in
     let pairs = pairs_in c.args.order r.n in
-    rw (← (c.work_pairs-made.ensures ∙ ap (λ w. work_pairs r.n w pairs) (at-work r _ _ c.unpacked-matrix.ensures c.unpacked-axes.ensures))) at
-    (works-least r.n (work_of r) pairs)
+    rw (← (c.sweep_in.ensures ∙ ap (λ (w : Work). work_pairs w (pairs_in c.args.order w.n)) c.work-work.ensures)) at
+    (works-least (work_of r) pairs)
 
 pub returns : goal.returns
-unfolding value_of accepted_of_under swept_of worked_of
+unfolding value_of accepted_of_under swept_of worked_of work_of
 returns c =
     let r = c.args.self in
     let order = c.args.order in
-    let swept = c.work_pairs-made.ensures ∙ ap (λ w. work_pairs r.n w (pairs_in order r.n))
-    (at-work r _ _ c.unpacked-matrix.ensures c.unpacked-axes.ensures) in
+    let swept = c.sweep_in.ensures ∙ ap (λ (w : Work). work_pairs w (pairs_in order w.n)) c.work-work.ensures in
     accepted r (sweep_in order) c.requires _ (sym (refused-alike order _ _)) _ _ c.in_default.ensures
     (c.swept.ensures ∙ ap (λ (w : Work). swept_in order (w.m - r.m)) swept)
-    (c.with_rows.ensures ∙ ap (worked_of r) swept)
+    (c.with_work.ensures ∙ ap (worked_of r) swept)

@@ -2,9 +2,10 @@ use Rattle.std.proofs.Common.{◌-◌, refl, ap, ◌∙◌, arith, ltb}
 use Rattle.ledger.specs.Call.{turn}
 use Rattle.ledger.specs.Pairs.{Pair}
 use Rattle.ledger.specs.laws.Accepted.{turn-accepted}
-use Rattle.record.proofs.EndOfRun.{accepted, at-work, kept-ready, passed, refuses}
+use Rattle.record.proofs.EndOfRun.{accepted, kept-ready, passed, refuses}
 use Rattle.record.specs.Solver.{accepted_of_under, turned_of, value_of, work_of, worked_of}
-use Rattle.record.specs.Work.{Work, work_pair}
+use Rattle.record.specs.Work.{work_pair}
+use Rattle.record.specs.declared.work.Work.{Work}
 use Rattle.record.specs.declared.query.Answer.TheVariants.{Turned}
 use Rattle.record.specs.laws.Turning.{work-turned}
 use Rattle.record.proofs.solver.Solver.turn.Goals as goal
@@ -18,21 +19,22 @@ overflow_sub-p c = (turn-accepted _ _ _ _ (passed _ c.in_default.ensures)).first
 pub overflow_sub-q : goal.overflow_sub-q
 overflow_sub-q c = let t = turn-accepted _ _ _ _ (passed _ c.in_default.ensures) in omega (arith, t.first, t.ordered)
 
-pub work_pair-made-requires : goal.work_pair-made-requires
-work_pair-made-requires c =
-    let t = turn-accepted _ _ _ _ (passed _ c.in_default.ensures) in (
+pub pair-requires : goal.pair-requires
+unfolding work_of
+pair-requires c =
+    let t = turn-accepted _ _ _ _ (passed _ c.in_default.ensures) in
+    rw c.work-work.ensures (
       omega (arith, t.first, t.ordered),
       omega (arith, t.first, t.ordered, t.last),
-      c.requires.size,
-      kept-ready c.args.self _ _ c.unpacked-matrix.ensures c.unpacked-axes.ensures c.requires,
+      kept-ready c.args.self c.requires,
     )
 
 pub returns : goal.returns
-unfolding value_of accepted_of_under turned_of worked_of work_of
+unfolding value_of accepted_of_under turned_of work_of
 returns c =
     let r = c.args.self in
     let pair : Pair = record { p = c.args.p - 1; q = c.args.q - 1 } in
-    let turned = c.work_pair-made.ensures ∙ ap (λ w. work_pair r.n w pair) (at-work r _ _ c.unpacked-matrix.ensures c.unpacked-axes.ensures) in
+    let turned = c.pair.ensures ∙ ap (λ w. work_pair w pair) c.work-work.ensures in
     accepted r (turn c.args.p c.args.q) c.requires _ refl _ _ c.in_default.ensures
-    (ap (λ (w : Work). Turned (ltb r.m w.m)) turned ∙ ap Turned (work-turned r.n (work_of r) pair))
-    (c.with_rows.ensures ∙ ap (worked_of r) turned)
+    (ap (λ (w : Work). Turned (ltb r.m w.m)) turned ∙ ap Turned (work-turned (work_of r) pair))
+    (c.with_work.ensures ∙ ap (worked_of r) turned)

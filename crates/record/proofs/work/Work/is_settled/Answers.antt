@@ -1,8 +1,7 @@
--- `record::run::is_settled` meets its contract.
 use mathlib.Core.Path.{sym, ap, ◌∙◌}
 use Rattle.record.specs.Run.{no_pair}
 use Rattle.record.proofs.Told.{not_none}
-use Rattle.record.proofs.run.is_settled.Goals as goal
+use Rattle.record.proofs.work.Work.is_settled.Goals as goal
 
 pub returns-in-NoPair : goal.returns-in-NoPair
 unfolding no_pair
