@@ -1,7 +1,8 @@
 -- A call refused and a call accepted, as the methods of the state end them.
-use Rattle.std.specs.Prelude.{◌≡◌, refl, Bool, true, false, cond, ℕ, eqb, Result, Ok, Err, is_ok}
-use Rattle.std.proofs.Common.{sym, ap, ◌∙◌, eq-eqb, eqb-true, true≢false}
-use Rattle.refusal.specs.Refusal.{judged, numbered}
+use Rattle.std.specs.Prelude.{◌≡◌, ℕ, Result, Ok, Err}
+use Rattle.std.proofs.Common.{sym, ap, ◌∙◌, eq-eqb}
+use Rattle.refusal.specs.Refusal.{judged}
+use Rattle.refusal.specs.laws.Judged.{judged-err, judged-ok}
 use Rattle.refusal.specs.declared.Refusal.{Refusal}
 use Rattle.ledger.specs.Call.{Call}
 use Rattle.ledger.specs.Refusal.{refusal_of}
@@ -26,34 +27,16 @@ Finds number refusal = ◌≡◌ {A = Result Unit Refusal} (Err refusal) (judged
 abbrev pub Passes : ℕ → Type 0
 Passes number = ◌≡◌ {A = Result Unit Refusal} (Ok (record {})) (judged number (record {}))
 
-pub found : (number : ℕ) (refusal : Refusal) → Finds number refusal → (eqb number 0 ≡ false) × (refusal ≡ numbered number)
-unfolding judged
-found number refusal = by-test (eqb number 0) refl
-  where
-    by-test : (t : Bool) → eqb number 0 ≡ t → ◌≡◌ {A = Result Unit Refusal} (Err refusal) (cond t (Ok (record {})) (Err (numbered number))) →
-        (eqb number 0 ≡ false) × (refusal ≡ numbered number)
-    by-test true z e = absurd (true≢false (sym (ap is_ok e)))
-    by-test false z e = (z, cc)
-
-pub passed : (number : ℕ) → Passes number → number ≡ 0
-unfolding judged
-passed number = by-test (eqb number 0) refl
-  where
-    by-test : (t : Bool) → eqb number 0 ≡ t → ◌≡◌ {A = Result Unit Refusal} (Ok (record {})) (cond t (Ok (record {})) (Err (numbered number))) →
-        number ≡ 0
-    by-test true z e = eqb-true number 0 z
-    by-test false z e = absurd (true≢false (ap is_ok e))
-
 -- a call whose check, of its number, found a refusal, and one whose check passed
 module _ (r : Solver) (call : Call) (k : KeptSolver r) (number : ℕ) (e : number ≡ refusal_of r.n r.m call) where
   pub refuses : (refusal : Refusal) (z : Step Answer Solver) → Finds number refusal →
       (z.answer ≡ Refused refusal) × (z.next ≡ r) → Solved r call z.answer z.next
   unfolding answer_of after_of_under
   refuses refusal z f h =
-      let test = rw e at (found number refusal f).0 in
+      let test = rw e at (judged-err number _ refusal f).0 in
       let leaves : z.next ≡ after_of r call = h.1 ∙ rw test in
       record {
-        answers = h.0 ∙ ap Refused (rw e at (found number refusal f).1) ∙ rw test;
+        answers = h.0 ∙ ap Refused (rw e at (judged-err number _ refusal f).1) ∙ rw test;
         leaves = leaves;
         keeps = rw leaves (after_kept r call k);
       }
@@ -62,7 +45,7 @@ module _ (r : Solver) (call : Call) (k : KeptSolver r) (number : ℕ) (e : numbe
       next ≡ accepted_of r call → Solved r call answer next
   unfolding answer_of after_of_under
   accepted answer next f a h =
-      let test = eq-eqb (refusal_of r.n r.m call) 0 (sym e ∙ passed number f) in
+      let test = eq-eqb (refusal_of r.n r.m call) 0 (sym e ∙ (judged-ok number _ _ f).0) in
       let leaves : next ≡ after_of r call = h ∙ rw test in
       record { answers = a ∙ rw test; leaves = leaves; keeps = rw leaves (after_kept r call k) }
 

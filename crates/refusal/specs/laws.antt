@@ -1,2 +1,3 @@
 -- Laws.
+pub mod Judged
 pub mod Numbers

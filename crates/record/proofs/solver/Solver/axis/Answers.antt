@@ -7,7 +7,8 @@ use Rattle.ledger.specs.Refusal.{refusal_of, refusal_under}
 use Rattle.ledger.specs.laws.Accepted.{axis-accepted}
 use Rattle.ledger.specs.laws.Axis.{same-error}
 use Rattle.turn.specs.Turn.{at}
-use Rattle.record.proofs.EndOfRun.{Passes, found, kept_small, passed}
+use Rattle.record.proofs.EndOfRun.{Passes, kept_small}
+use Rattle.refusal.specs.laws.Judged.{judged-err, judged-ok}
 use Rattle.record.specs.Flat.{kept_entry}
 use Rattle.record.specs.Solver.{answer_of, axis_of, value_of}
 use Rattle.record.specs.declared.query.Answer.TheVariants.{Axis, Refused}
@@ -16,11 +17,11 @@ use Rattle.record.proofs.solver.Solver.axis.Goals as goal
 
 pub returns-in-Err : goal.returns-in-Err
 unfolding answer_of refusal_under axis_of
-returns-in-Err c = let f = found _ _ c.in-Err.ensures in (ap Refused f.1 ∙ rw f.0, rw f.0)
+returns-in-Err c = let f = judged-err _ _ _ c.in-Err.ensures in (ap Refused f.1 ∙ rw f.0, rw f.0)
 
 -- row i, counted from 0, is one of the eight
 row-of : (n i : ℕ) → n ≤ 8 → Passes (refusal_of n 0 (axis i)) → (1 ≤ i) × (i - 1 < n) × (i - 1 < 8)
-row-of n i few e = let names = axis-accepted n 0 i (passed _ e) in (
+row-of n i few e = let names = axis-accepted n 0 i (judged-ok _ _ _ e).0 in (
   names.first,
   omega (arith, names.first, names.last),
   omega
@@ -64,5 +65,5 @@ returns c =
     let error-is : c.error_of-error.result ≡ error_of r.n r.e (kept_entry r.a) r.m i =
     c.error_of-error.ensures ∙ rw c.unpacked-matrix.ensures
     (same-error r.n r.e _ _ r.m i (λ j l. at-rows_of r.a i j inside (omega (arith, l, c.requires.size)))) in
-    let test = eq-eqb (refusal_of r.n r.m (axis c.args.i)) 0 (passed _ c.in_default.ensures) in
+    let test = eq-eqb (refusal_of r.n r.m (axis c.args.i)) 0 (judged-ok _ _ _ c.in_default.ensures).0 in
     ((λ k. Axis (word f entry k) (error-is k)) ∙ rw test, c.row.ensures ∙ rw test)

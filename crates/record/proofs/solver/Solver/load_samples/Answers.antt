@@ -8,7 +8,8 @@ use Rattle.readings.specs.laws.Refusal.{are-readings, two-channels}
 use Rattle.scatter.specs.Table.{entries, scatter, shift, table_from_under, table_of, table_under}
 use Rattle.scatter.specs.declared.table.Table.{Table}
 use Rattle.scatter.specs.laws.Entries.{table-entries}
-use Rattle.record.proofs.EndOfRun.{accepted, passed, refuses}
+use Rattle.record.proofs.EndOfRun.{accepted, refuses}
+use Rattle.refusal.specs.laws.Judged.{judged-ok}
 use Rattle.record.specs.Solver.{accepted_of_under, loaded_solver, samples_solver, value_of}
 use Rattle.record.specs.declared.query.Answer.TheVariants.{SamplesLoaded}
 use Rattle.record.specs.laws.Accepted.{table_taken}
@@ -20,17 +21,17 @@ returns-in-Err c =
     c.in-Err.ensures c.refuse.ensures
 
 pub table_of_readings-table-requires : goal.table_of_readings-table-requires
-table_of_readings-table-requires c = are-readings _ _ _ (passed _ c.in_default.ensures)
+table_of_readings-table-requires c = are-readings _ _ _ (judged-ok _ _ _ c.in_default.ensures).0
 
 pub overflow_mul-n : goal.overflow_mul-n
-overflow_mul-n c = record { fits = omega (arith, places _ (are-readings _ _ _ (passed _ c.in_default.ensures)).channels) }
+overflow_mul-n c = record { fits = omega (arith, places _ (are-readings _ _ _ (judged-ok _ _ _ c.in_default.ensures).0).channels) }
 
 pub shared_ref_as_front-of_table : goal.shared_ref_as_front-of_table
-shared_ref_as_front-of_table c = places _ (are-readings _ _ _ (passed _ c.in_default.ensures)).channels
+shared_ref_as_front-of_table c = places _ (are-readings _ _ _ (judged-ok _ _ _ c.in_default.ensures).0).channels
 
 pub of_table-requires : goal.of_table-requires
 of_table-requires c =
-    let taken = passed _ c.in_default.ensures in
+    let taken = (judged-ok _ _ _ c.in_default.ensures).0 in
     rw c.table_of_readings-table.ensures
     (table_taken c.args.samples.now.n _ (two-channels _ _ _ taken) (are-readings _ _ _ taken).channels)
 

@@ -4,7 +4,8 @@ use Rattle.ledger.specs.Order.{pairs_in}
 use Rattle.ledger.specs.declared.Order.TheVariants.{Cyclic}
 use Rattle.ledger.specs.laws.Accepted.{sweep-accepted, sweep-held}
 use Rattle.ledger.specs.laws.Orders.{refused-alike}
-use Rattle.record.proofs.EndOfRun.{accepted, kept-ready, passed, refuses}
+use Rattle.record.proofs.EndOfRun.{accepted, kept-ready, refuses}
+use Rattle.refusal.specs.laws.Judged.{judged-ok}
 use Rattle.record.specs.Solver.{accepted_of_under, swept_in, swept_of, value_of, work_of, worked_of}
 use Rattle.record.specs.Work.{work_pairs}
 use Rattle.record.specs.declared.work.Work.{Work}
@@ -19,7 +20,7 @@ pub sweep_in-requires : goal.sweep_in-requires
 unfolding work_of
 sweep_in-requires c =
     let r = c.args.self in
-    let taken = passed _ c.in_default.ensures in
+    let taken = (judged-ok _ _ _ c.in_default.ensures).0 in
     rw c.work-work.ensures (sweep-held r.n r.m Cyclic taken, sweep-accepted r.n r.m Cyclic taken, kept-ready r c.requires)
 
 pub overflow_sub-work : goal.overflow_sub-work

@@ -2,7 +2,8 @@ use Rattle.std.proofs.Common.{◌-◌, refl, ap, ◌∙◌, arith, ltb}
 use Rattle.ledger.specs.Call.{turn}
 use Rattle.ledger.specs.Pairs.{Pair}
 use Rattle.ledger.specs.laws.Accepted.{turn-accepted}
-use Rattle.record.proofs.EndOfRun.{accepted, kept-ready, passed, refuses}
+use Rattle.record.proofs.EndOfRun.{accepted, kept-ready, refuses}
+use Rattle.refusal.specs.laws.Judged.{judged-ok}
 use Rattle.record.specs.Solver.{accepted_of_under, turned_of, value_of, work_of, worked_of}
 use Rattle.record.specs.Work.{work_pair}
 use Rattle.record.specs.declared.work.Work.{Work}
@@ -14,15 +15,15 @@ pub returns-in-Err : goal.returns-in-Err
 returns-in-Err c = refuses c.args.self (turn c.args.p c.args.q) c.requires _ refl _ _ c.in-Err.ensures c.refuse.ensures
 
 pub overflow_sub-p : goal.overflow_sub-p
-overflow_sub-p c = (turn-accepted _ _ _ _ (passed _ c.in_default.ensures)).first
+overflow_sub-p c = (turn-accepted _ _ _ _ (judged-ok _ _ _ c.in_default.ensures).0).first
 
 pub overflow_sub-q : goal.overflow_sub-q
-overflow_sub-q c = let t = turn-accepted _ _ _ _ (passed _ c.in_default.ensures) in omega (arith, t.first, t.ordered)
+overflow_sub-q c = let t = turn-accepted _ _ _ _ (judged-ok _ _ _ c.in_default.ensures).0 in omega (arith, t.first, t.ordered)
 
 pub pair-requires : goal.pair-requires
 unfolding work_of
 pair-requires c =
-    let t = turn-accepted _ _ _ _ (passed _ c.in_default.ensures) in
+    let t = turn-accepted _ _ _ _ (judged-ok _ _ _ c.in_default.ensures).0 in
     rw c.work-work.ensures (
       omega (arith, t.first, t.ordered),
       omega (arith, t.first, t.ordered, t.last),
