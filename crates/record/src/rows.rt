@@ -25,8 +25,8 @@ pub(crate) fn unpacked(a: &[i64; 64]) -> [[i64; 8]; 8]
 }
 
 // Tried: row by row by `copy_from_slice`, whose goals do not reduce.
-pub(crate) fn packed(b: [[i64; 8]; 8]) -> [i64; 64]
-    ensures { result ≡ flat_of (at b) }
+pub(crate) fn packed(b: &[[i64; 8]; 8]) -> [i64; 64]
+    ensures { result ≡ flat_of (at b.now) }
 {
     let mut a = [0i64; 64];
     for i in 0..8 {

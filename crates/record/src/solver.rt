@@ -74,8 +74,8 @@ impl Solver {
             n,
             m: 0,
             e,
-            a: rows::packed(matrix),
-            v: rows::packed(axes),
+            a: rows::packed(&matrix),
+            v: rows::packed(&axes),
         }
     }
 
@@ -214,8 +214,8 @@ impl Solver {
             n: self.n,
             m: work.m,
             e: self.e,
-            a: rows::packed(work.matrix),
-            v: rows::packed(work.axes),
+            a: rows::packed(&work.matrix),
+            v: rows::packed(&work.axes),
         }
     }
 }

@@ -11,8 +11,8 @@ loop-i-init c = flat-none 8 _
 pub loop-j-preserved : goal.loop-j-preserved
 unfolding at
 loop-j-preserved c =
-    let f : SFits w64 (get_or (get_or c.args.b c.loop-i.i []) c.loop-j.j (pos 0)) = search rules in
-    λ e. rw (c.loop-j.invariant e, to_z-of_z f) (flat-one 8 (at c.args.b) c.loop-i.i c.loop-j.j (omega arith) (omega arith))
+    let f : SFits w64 (get_or (get_or c.args.b.now c.loop-i.i []) c.loop-j.j (pos 0)) = search rules in
+    λ e. rw (c.loop-j.invariant e, to_z-of_z f) (flat-one 8 (at c.args.b.now) c.loop-i.i c.loop-j.j (omega arith) (omega arith))
 
 pub loop-i-preserved : goal.loop-i-preserved
 loop-i-preserved c =
