@@ -57,6 +57,7 @@ pub struct AxisAnswer {
 pub type AxisStep = Step<AxisAnswer>;
 
 // One refused call more; the count stops at its limit.
+#[tactic(auto, unfolding(crate::specs::Record::counted))]
 fn one_more(refused: u32) -> u32
     ensures { result ≡ counted refused }
 {
@@ -84,6 +85,7 @@ fn is_bench(bench: usize) -> bool
 }
 
 // The counts that a call of a bench leaves: 'A refused call raises its own bench's count and no other.'
+#[tactic(auto, unfolding(crate::specs::inner::Named::counts_left))]
 fn counts_after(counts: [u32; 4], bench: usize, answer: Answer) -> [u32; 4]
     requires { is_bench bench ≡ true }
     ensures { result ≡ counts_left counts bench answer }
@@ -117,6 +119,7 @@ impl Record {
     pub const REFUSED_LIMIT: u32 = limits::REFUSED_LIMIT;
 
     // A fresh record holds no matrix, and for each bench a count of 0 refused calls.
+    #[tactic(auto, unfolding(crate::specs::Record::fresh))]
     pub fn new() -> Self
         ensures { Fresh result }
     {
@@ -127,6 +130,7 @@ impl Record {
     }
 
     // How many calls of bench 1, 2, 3 and 4 were refused.
+    #[tactic(auto, unfolding(crate::specs::Record::refused_by))]
     pub fn refused_calls(self) -> [u32; 4]
         ensures { GivesCounts self result }
     {

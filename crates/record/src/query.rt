@@ -29,6 +29,7 @@ pub enum Answer {
 }
 
 // Whether a call was refused.
+#[tactic(auto, unfolding(crate::specs::Record::is_refused))]
 pub(crate) fn is_refused(answer: Answer) -> bool
     ensures { result ≡ is_refused answer }
 {
@@ -60,6 +61,7 @@ pub(crate) fn check_axis(n: usize, i: usize) -> Result<(), Refusal>
 }
 
 // |a_ij|, i and j from 0.
+#[tactic(auto, unfolding(turn::specs::Turn::at))]
 fn entry_size(a: &[[i64; 8]; 8], i: usize, j: usize) -> u64
     requires { (i < 8) × (j < 8) }
     ensures { result ≡ nat_abs (at a.now i j) }
@@ -96,6 +98,7 @@ fn off_diagonal(a: &[[i64; 8]; 8], i: usize, j: usize) -> u64
 }
 
 // What the error of an axis gains where the table was rounded.
+#[tactic(auto, unfolding(ledger::specs::Axis::table_error))]
 fn table_error(e: u32, n: usize) -> u64
     requires { n ≤ 8 }
     ensures { result ≡ table_error e n }

@@ -44,7 +44,10 @@ impl Work {
         requires { self.now.n ≤ 8 }
         ensures { result ≡ no_pair (loose_of (at self.now.matrix) tolerance (cyclic self.now.n)) }
     {
-        matches!(query::loose_pair_of(&self.matrix, self.n, tolerance), Answer::NoPair)
+        matches!(
+            query::loose_pair_of(&self.matrix, self.n, tolerance),
+            Answer::NoPair
+        )
     }
 
     // Sweeps until no pair is loose, a sweep makes no turn, or the limit is reached. Sixteen sweeps make at most 448 turns, so that none is refused.

@@ -195,6 +195,7 @@ impl Solver {
     }
 
     // The matrix and axes in rows, to be worked on.
+    #[tactic(auto, unfolding(crate::specs::Solver::work_of))]
     fn work(&self) -> Work
         ensures { result ≡ work_of self.now }
     {
@@ -207,6 +208,7 @@ impl Solver {
     }
 
     // The state with the matrix and axes of some turns, and m after them.
+    #[tactic(auto, unfolding(crate::specs::Solver::worked_of))]
     fn with_work(self, work: &Work) -> Self
         ensures { result ≡ worked_of self work.now }
     {

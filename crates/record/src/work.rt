@@ -45,6 +45,7 @@ impl Work {
     }
 
     // The pair in a row and a column of a sweep worked, or skipped where it names a number above n.
+    #[tactic(auto, unfolding(crate::specs::inner::Orders::work_place))]
     fn place(&mut self, order: Order, row: usize, column: usize)
         requires { Within order self.old.n row column × Ready self.old }
         ensures { self.new ≡ work_place self.old (pair_in order self.old.n row column) }
