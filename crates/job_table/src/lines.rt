@@ -3,7 +3,6 @@ ghost use Rattle.std.specs.Prelude.{◌≡◌, ◌∷◌, [], ◌≤◌, length,
 ghost use Rattle.job.specs.Job.{accepted};
 ghost use Rattle.job.specs.Reply.{Answers, Replies, printed_of};
 ghost use Rattle.text.specs.Put.{Put, Sized};
-ghost use Rattle.text.specs.Rows.{Wide};
 ghost use Rattle.job_table.specs.inner.Done.{text_of_rows};
 ghost use Rattle.job_table.specs.inner.Rows.{table_rows};
 ghost use Rattle.job_table.specs.Table.{PutsTable, table_text};
@@ -24,7 +23,6 @@ struct Lines {
     n: usize,
     rows: [[i64; 11]; 8],
     ghost few: { n ≤ 8 },
-    ghost wide: { Wide rows },
 }
 
 impl Lines {

@@ -4,17 +4,16 @@ use mathlib.Core.Path.{◌≡◌, ap}
 use mathlib.Core.Bool.{cond}
 use mathlib.Core.List.{List, [], ◌∷◌, ◌++◌}
 use native.Mathlib.Omega.{arith}
-use borrow.Author.Tests.{le-ltb, lt-ltb}
+use borrow.Author.Tests.{lt-ltb}
 use lib.Dec.{ltb}
 use lib.IntN.{ℤ, pos}
-use lib.ListN.{get_or, length, replicate}
-use native.Mathlib.Decide.{dec_lt}
+use lib.ListN.{get_or, replicate}
 use Rattle.ledger.specs.Call.{axis}
 use Rattle.report.specs.inner.AxisNumbers.{axes_numbers, axis_numbers}
 use Rattle.report.specs.AxisNumbers.{axis_values}
 use Rattle.report.specs.AxisOrder.{axis_at}
 use Rattle.report.specs.inner.AxisOrder.{entry_in, ordered_rows}
-use Rattle.report.specs.laws.AxisNumbers.{axes-row, axis-answer, length-numbers, two-before}
+use Rattle.report.specs.laws.AxisNumbers.{axes-row, axis-answer, two-before}
 use Rattle.report.specs.laws.AxisOrder.{same-axis}
 use Rattle.report.proofs.AxisOrder.{axis-found}
 use Rattle.turn.specs.laws.Eight.{get_d-eight}
@@ -24,7 +23,7 @@ use Rattle.record.specs.declared.Record.{Record}
 use Rattle.record.specs.declared.run.Run.{Run}
 use Rattle.text.specs.Line.{number_line}
 use Rattle.text.specs.laws.Lines.{lines_same}
-use Rattle.text.specs.Rows.{Wide, row_line}
+use Rattle.text.specs.Rows.{row_line}
 use Rattle.report.specs.inner.Text.{text_of}
 use Rattle.report.specs.Report.{diagonal_of, head_of, line_a, line_r, run_report}
 
@@ -55,18 +54,6 @@ module _ (r : Record) where
         listed-axis h p,
       )
       (axes-row r i within (omega (arith, within)))
-
-  pub ordered-wide : n ≤ 8 → Wide (ordered_rows n (axes_numbers r))
-  unfolding ordered_rows
-  ordered-wide h = record { wide = λ p l. by p l (dec_lt p n) }
-    where
-      by : (p : ℕ) → p < 8 → Dec (p < n) → length (get_or (ordered_rows n (axes_numbers r)) p []) ≡ 11
-      by p l (yes k) = rw (row_is h p k) (length-numbers r (suc (axis_at n (diagonal_of r) p)))
-      by p l (no k) =
-          rw (
-            get_d-eight (λ k. cond (ltb k n) (get_or (axes_numbers r) (axis_at n (entry_in (axes_numbers r)) k) []) (replicate 11 (pos 0))) p [] l,
-            le-ltb p n (omega arith),
-          )
 
   line_same : (p : ℕ) → p < n → n ≤ 8 → row_line 65 (n + 3) (ordered_rows n (axes_numbers r)) p ≡ line_a r (suc (axis_at n (diagonal_of r) p))
   unfolding axis_numbers line_a

@@ -1,7 +1,6 @@
 // The report's lines: how long they are together, and the writer.
 ghost use Rattle.std.specs.Prelude.{◌≤◌, length};
 ghost use Rattle.text.specs.Put.{Put, Sized};
-ghost use Rattle.text.specs.Rows.{Wide};
 ghost use Rattle.report.specs.inner.Text.{text_of};
 
 use record::Outcome;
@@ -17,7 +16,6 @@ pub(crate) struct Lines {
     pub(crate) axes: [[i64; 11]; 8],
     pub(crate) n: usize,
     ghost few: { n ≤ 8 },
-    ghost wide: { Wide axes },
 }
 
 impl Lines {

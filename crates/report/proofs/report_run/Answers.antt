@@ -12,19 +12,15 @@ use Rattle.record.specs.declared.run.Run.{Run}
 use Rattle.report.specs.inner.AxisNumbers.{axes_numbers}
 use Rattle.report.specs.inner.AxisOrder.{ordered_rows}
 use Rattle.text.specs.laws.Written.{short, written}
-use Rattle.text.specs.Rows.{Wide}
 use Rattle.report.specs.inner.Text.{text_of}
 use Rattle.report.specs.Done.{Reportable}
 use Rattle.report.specs.Report.{head_of, run_report}
-use Rattle.report.proofs.Same.{ordered-wide, text_same}
+use Rattle.report.proofs.Same.{text_same}
 use Rattle.report.proofs.report_run.Goals as goal
 
 -- the numbers of a run that is over, as they are asked for
 module _ (z : Run) (k : ℕ) (h : Reportable z k) {n : ℕ} (n-is : n ≡ z.last.solver.n) {axes listed : List (List ℤ)}
     (numbered : axes ≡ axes_numbers z.last) (ordered : listed ≡ ordered_rows n axes) where
-  wide : Wide listed
-  wide = rw (ordered, numbered, n-is) (ordered-wide z.last h.keeps.solver.size)
-
   module _ {e m : ℕ} {shift : ℤ} (e-is : e ≡ z.last.solver.e) (shift-is : shift ≡ pos e) (m-is : m ≡ z.last.solver.m) (few : e < 2 ^ 32) where
     abbrev head : List ℤ
     head = to_z w64 n ∷ to_z w64 k ∷ to_z w64 (of_z w64 shift) ∷ to_z w64 z.sweeps ∷ to_z w64 m ∷ []
@@ -52,11 +48,7 @@ pub ordered-requires : goal.ordered-requires
 ordered-requires c = omega (arith, c.requires.keeps.solver.size)
 
 pub invariant_of-lines : goal.invariant_of-lines
-invariant_of-lines c =
-    record {
-      few = omega (arith, c.requires.keeps.solver.size);
-      wide = wide c.args.run c.args.k c.requires c.channels-n.ensures c.axes_numbers-axes.ensures c.ordered.ensures;
-    }
+invariant_of-lines c = record { few = omega (arith, c.requires.keeps.solver.size) }
 
 pub returns-then-buf-length : goal.returns-then-buf-length
 returns-then-buf-length c =

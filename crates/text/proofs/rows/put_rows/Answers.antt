@@ -14,7 +14,7 @@ put_line-at-requires c =
     let i = c.loop-row.row-index in
     let row = get_or-take c.args.n c.args.rows.now i [] (omega arith) in
     let room = line-within (row_line c.args.tag c.args.width c.args.rows.now) c.args.n i (omega arith) in
-    rw row (omega (arith, room, c.loop-row.invariant.answer, part-size c.loop-row.invariant, c.requires.3))
+    rw row (omega (arith, room, c.loop-row.invariant.answer, part-size c.loop-row.invariant, c.requires.2))
 
 pub loop-row-preserved : goal.loop-row-preserved
 loop-row-preserved c =

@@ -13,7 +13,7 @@ unfolding text_of_rows
 put_rows-requires c =
     let sized = rw length-append at c.requires in
     let few = c.args.self.now.few in
-    (few, omega arith, c.args.self.now.wide, omega (arith, part-size c.put_line-at.ensures))
+    (few, omega arith, omega (arith, part-size c.put_line-at.ensures))
 
 pub returns : goal.returns
 unfolding text_of_rows

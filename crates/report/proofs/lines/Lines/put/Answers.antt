@@ -16,7 +16,6 @@ put_rows-requires c =
     let first = rw c.word_of-word.ensures at c.put_word_line-at.ensures in (
       lines.few,
       omega (arith, lines.few),
-      lines.wide,
       omega (arith, text-size lines.head lines.outcome lines.axes lines.n, part-size first),
     )
 
