@@ -1,5 +1,5 @@
 -- The line that a call's answer prints.
-use Rattle.std.specs.Prelude.{ℕ, true, false, List, [], ◌∷◌, ◌++◌, map, length, take, drop, replicate}
+use Rattle.std.specs.Prelude.{ℕ, true, false, List, [], ◌∷◌, map, take}
 use Rattle.ledger.specs.Bench.{NamedCall}
 use Rattle.record.specs.Record.{answer_to, record_after, row_to}
 use Rattle.record.specs.declared.Record.{Record}
@@ -8,7 +8,6 @@ use Rattle.refusal.specs.Refusal.{number_of}
 use Rattle.record.specs.declared.query.Answer.{Answer}
 use Rattle.record.specs.declared.query.Answer.TheVariants.{Loaded, SamplesLoaded, Turned, Swept, TournamentSwept, Pair, NoPair, Axis, Refused}
 use Rattle.text.specs.Line.{line}
-use Rattle.call_text.specs.declared.answer.Printed.{Printed}
 use Rattle.call_text.specs.declared.answer.Told.{Told}
 
 -- `L`; `M` and e; `T` and 1 or 0; `W` or `O` and the number of turns; `Q` p q, or `Q` none; `A` a_ii r_i and the n numbers of row i; of a refused
@@ -35,7 +34,3 @@ told_of r c =
 
 unfoldable pub answer_line : Record → NamedCall → List ℕ
 answer_line r c = shown (told_of r c)
-
--- a line in an array, 0 after it
-unfoldable pub line_printed : List ℕ → Printed
-line_printed text = record { bytes = text ++ drop (length text) (replicate 256 0); len = length text }

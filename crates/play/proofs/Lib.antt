@@ -2,3 +2,4 @@ mod Reading
 mod LentCalls
 mod Stepping
 mod Passing
+mod Input

@@ -1,25 +1,19 @@
 -- The passes over a text of calls, a step at a time: whether the rest fits, and what is written.
-use Prim.Native.Nat.{ℕ, ◌+◌, ◌-◌, ◌≤◌, ◌<◌}
-use mathlib.Core.Path.{◌≡◌, refl, sym, ◌∙◌}
-use mathlib.Core.Bool.{Bool, true, false}
-use mathlib.Core.List.{List, [], ◌++◌, append_assoc}
-use native.Mathlib.Omega.{arith}
+use Rattle.std.proofs.Common.{ℕ, ◌+◌, ◌-◌, ◌≤◌, ◌<◌, ◌≡◌, refl, sym, ◌∙◌, Bool, true, false, List, [], ◌++◌, Option, Some, None, Result}
+use Rattle.std.proofs.Common.{arith, leb, length, length-append}
 use borrow.Author.Tests.{le-leb, lt-leb, leb-true, leb-false}
-use lib.Dec.{leb}
-use lib.ListN.{length, take, length-append}
-use lib.Seq.{length-take-le}
-use Rattle.std.proofs.Common.{Err, None, Ok, Some}
-use Rattle.refusal.specs.Refusal.{numbered}
-use Rattle.record.specs.declared.Record.{Record}
+use Rattle.refusal.specs.declared.Refusal.{Refusal}
+use Rattle.refusal.specs.Refusal.{judged}
 use Rattle.text.specs.Put.{Put, fitted, part, with_part}
-use Rattle.text.specs.laws.Put.{front_length, part-size, put-nothing, put-part}
-use Rattle.record.specs.Record.{fresh}
-use Rattle.play.specs.Buffer.{PlaysAll, played_into, output_of}
+use Rattle.text.specs.Written.{Writes, lent_after, written_of}
+use Rattle.text.specs.laws.Put.{part-size, put-nothing, put-part}
+use Rattle.text.specs.laws.Written.{room-tells, short-last}
+use Rattle.play.specs.Buffer.{PlaysAll, output_of, played_into}
 use Rattle.play.specs.Steps.{Reached, Steps, begun, start_cursor}
-use Rattle.play.specs.laws.Steps.{Before, from_start, prints, prints-more, prints-last, printed_by, rest}
-use Rattle.play.specs.Text.{played}
+use Rattle.play.specs.Text.{played, text_played}
 use Rattle.play.specs.declared.cursor.Cursor.{Cursor}
 use Rattle.play.specs.declared.step.Stepped.{Stepped}
+use Rattle.play.specs.laws.Steps.{from_start, prints, prints-last, prints-more, reached-before, reaches, rest}
 
 -- a test of a sum, by its first part
 less : (a b c : ℕ) → a ≤ c → leb (a + b) c ≡ leb b (c - a)
@@ -29,79 +23,61 @@ less a b c h = by (leb b (c - a)) refl
     by true e = let l = leb-true b (c - a) e in le-leb (a + b) c (omega arith)
     by false e = let l = leb-false b (c - a) e in lt-leb (a + b) c (omega arith)
 
-pub started : (text : List ℕ) {r : Record} {here : Cursor} → r ≡ fresh → here ≡ start_cursor → Reached text r here
-started text e h = rw (e, h) begun
+module _ {S : Type 0} (plays : S → List ℕ → Option (List ℕ × S)) where
+  pub starts : (text : List ℕ) (s : S) {here : Cursor} → here ≡ start_cursor → text_played plays false s text ≡ rest plays text false s here
+  starts text s h = rw h (from_start plays text false s)
 
-pub starts : (text : List ℕ) {r : Record} {here : Cursor} → r ≡ fresh → here ≡ start_cursor → played false text ≡ rest text false r here
-starts text e h = rw (e, h) (from_start text false)
+  -- what the lines before the cursor print is written, and the line there is to be played on what they left
+  pub record Wrote (start : S) (text : List ℕ) (s : S) (here : Cursor) (entry buf : List ℕ) (end : ℕ) : Type 0 where
+    pub before : List ℕ
+    pub reached : Reached plays start text s here before
+    pub puts : Put before 0 entry buf end
 
--- what the lines before the cursor print is written, and the line there is to be played on the record that they left
-pub record Wrote (text : List ℕ) (r : Record) (here : Cursor) (entry buf : List ℕ) (end : ℕ) : Type 0 where
-  pub reached : Reached text r here
-  pub lines : Before text false r here
-  pub puts : Put lines.before 0 entry buf end
+  pub wrote_nothing : (start : S) (text : List ℕ) {here : Cursor} (entry : List ℕ) → here ≡ start_cursor → Wrote start text start here entry entry 0
+  wrote_nothing start text entry h = rw h record { before = []; reached = begun; puts = put-nothing 0 _ (omega arith) }
 
-pub wrote_nothing : (text : List ℕ) {r : Record} {here : Cursor} (entry : List ℕ) → r ≡ fresh → here ≡ start_cursor → Wrote text r here entry entry 0
-wrote_nothing text entry e h = record {
-  reached = started text e h;
-  lines = record { before = []; is = starts text e h };
-  puts = put-nothing 0 _ (omega arith);
-}
+module _ {S : Type 0} {plays : S → List ℕ → Option (List ℕ × S)} {text : List ℕ} {here : Cursor} {s : S} {n : ℕ} {z : Stepped n} {after : S}
+    (t : Steps plays text false here s z after) where
+  at_least : length z.page ≤ length (rest plays text false s here)
+  at_least = rw (prints t, length-append) (omega arith)
 
-module _ (text : List ℕ) (here : Cursor) (r : Record) (z : Stepped) (after : Record) (s : Steps text false here r z after)
-    (full : length z.line.bytes ≡ 256) where
-  size : length (printed_by z) ≡ z.line.len
-  unfolding printed_by
-  size = length-take-le z.line.len z.line.bytes (omega (arith, s.short))
-
-  at_least : z.line.len ≤ length (rest text false r here)
-  at_least = rw (prints text false here r z after s, length-append, size) (omega arith)
-
-  module _ (most left : ℕ) (q : leb (length (played false text)) most ≡ leb (length (rest text false r here)) left) where
-    pub fits_not : left < z.line.len → false ≡ leb (length (played false text)) most
+  module _ (all most left : ℕ) (q : leb all most ≡ leb (length (rest plays text false s here)) left) where
+    pub fits_not : left < length z.page → false ≡ leb all most
     fits_not h = sym (q ∙ lt-leb _ left (omega (arith, at_least)))
 
-    module _ (h : z.line.len ≤ left) where
-      pub fits_all : z.next ≡ None → true ≡ leb (length (played false text)) most
-      fits_all last = sym (q ∙ rw (prints-last text false here r z after s last, size) (le-leb _ left h))
+    module _ (h : length z.page ≤ left) where
+      pub fits_all : z.next ≡ None → true ≡ leb all most
+      fits_all last = sym (q ∙ rw (prints-last t last) (le-leb _ left h))
 
-      pub fits_on : (on : Cursor) → z.next ≡ Some on →
-          leb (length (played false text)) most ≡ leb (length (rest text false after on)) (left - z.line.len)
-      fits_on on more = q ∙ rw (prints-more text false here r z after s on more, length-append, size) (less z.line.len _ left h)
+      pub fits_on : (on : Cursor) → z.next ≡ Some on → leb all most ≡ leb (length (rest plays text false after on)) (left - length z.page)
+      fits_on on more = q ∙ rw (prints-more t on more, length-append) (less (length z.page) _ left h)
 
-  module _ {entry buf : List ℕ} {end : ℕ} (b : Wrote text r here entry buf end) where
-    pub room : length (played false text) ≤ length entry → length (take z.line.len z.line.bytes) ≤ length (part (length buf) end buf)
-    unfolding printed_by
+  module _ {start : S} {entry buf : List ℕ} {end : ℕ} (b : Wrote plays start text s here entry buf end) where
+    whole : text_played plays false start text ≡ b.before ++ rest plays text false s here
+    whole = reached-before plays start text false b.reached
+
+    pub room : length (text_played plays false start text) ≤ length entry → length z.page ≤ length (part (length buf) end buf)
     room h =
-        let whole : length (played false text) ≡ length b.lines.before + length (rest text false r here) = rw (b.lines.is, length-append) in
-        rw size (omega (arith, b.puts.answer, at_least, part-size b.puts))
+        let all : length (text_played plays false start text) ≡ length b.before + length (rest plays text false s here) = rw (whole, length-append) in
+        omega (arith, b.puts.answer, at_least, part-size b.puts)
 
     -- the buffer and the place after the line is written
-    module _ {out : List ℕ} {n : ℕ} (p : Put (take z.line.len z.line.bytes) 0 (part (length buf) end buf) out n) where
-      pub written_last : z.next ≡ None → Put (played false text) 0 entry (with_part (length buf) end buf out) (end + n)
-      unfolding printed_by
-      written_last last = rw (b.lines.is, prints-last text false here r z after s last) (put-part b.puts p)
+    module _ {out : List ℕ} {k : ℕ} (p : Put z.page 0 (part (length buf) end buf) out k) where
+      pub written_last : z.next ≡ None → Put (text_played plays false start text) 0 entry (with_part (length buf) end buf out) (end + k)
+      written_last last = rw (whole, prints-last t last) (put-part b.puts p)
 
-      pub written-more : (on : Cursor) → z.next ≡ Some on → Wrote text after on entry (with_part (length buf) end buf out) (end + n)
-      unfolding printed_by
-      written-more on more = record {
-        reached = s.reaches on more;
-        lines = record {
-          before = b.lines.before ++ printed_by z;
-          is = b.lines.is ∙ rw (prints-more text false here r z after s on more, append_assoc);
-        };
-        puts = put-part b.puts p;
-      }
+      pub written-more : (on : Cursor) → z.next ≡ Some on → Wrote plays start text after on entry (with_part (length buf) end buf out) (end + k)
+      written-more on more = record { before = b.before ++ z.page; reached = reaches t b.reached on more; puts = put-part b.puts p }
 
--- The buffer at exit, by whether what the text prints fits: t.
-module _ (text entry : List ℕ) (t : Bool) (q : t ≡ leb (length (played false text)) (length entry)) where
-  pub too_short : t ≡ false → PlaysAll text entry entry (Err (numbered 12))
-  unfolding output_of played_into fitted
-  too_short e = record { answer = rw (← q, e); buffer = rw (← q, e) }
-
-  pub all-written : t ≡ true → {exit : List ℕ} {r : ℕ} → Put (played false text) 0 entry exit r → PlaysAll text entry exit (Ok r)
-  unfolding output_of played_into fitted
-  all-written e p = record { answer = rw (← q, e, front_length p); buffer = rw (← q, e) p.leaves }
-
-  pub all-fits : t ≡ true → length (played false text) ≤ length entry
-  all-fits e = leb-true _ _ (sym q ∙ e)
+-- a fresh record's, in a lent buffer
+pub plays_all : (text entry exit : List ℕ) (r : Result ℕ Refusal) → Writes 0 (played false text) entry exit r → PlaysAll text entry exit r
+unfolding written_of judged lent_after output_of played_into fitted
+plays_all text entry exit r w = by (leb (length (played false text)) (length entry)) refl
+  where
+    by : (t : Bool) → leb (length (played false text)) (length entry) ≡ t → PlaysAll text entry exit r
+    by true e =
+        let told = room-tells 0 (played false text) entry w refl (leb-true _ _ e) in
+        record { answer = told.0 ∙ rw e refl; buffer = told.1 ∙ rw e refl }
+    by false e =
+        let short = short-last 0 (length (played false text)) (length entry) refl (leb-false _ _ e) in
+        record { answer = w.answer ∙ rw (short, e) refl; buffer = w.buffer ∙ rw (short, e) refl }

@@ -1,44 +1,36 @@
--- The line at a cursor, by what stands there.
-use Prim.Native.Nat.{ℕ, ◌+◌, ◌-◌, ◌≤◌, ◌<◌}
-use mathlib.Core.Path.{◌≡◌, refl, sym, ◌∙◌}
-use mathlib.Core.Bool.{Bool, true, false, cond, not}
-use mathlib.Core.List.{List, [], ◌∷◌, ◌++◌, map, map-append}
-use Rattle.std.proofs.Common.{None, Some}
+-- The call of a line, by the request that is read and the numbers and readings that it leaves.
+use Prim.Native.Nat.{ℕ, ◌-◌, ◌≤◌}
+use mathlib.Core.Path.{◌≡◌, refl, sym, ap, ◌∙◌}
+use mathlib.Core.List.{List, ◌++◌, map, map-append}
+use Rattle.std.proofs.Common.{None, Option, Some}
 use native.Mathlib.Omega.{arith}
-use borrow.Author.Tests.{ne_eqb}
 use lib.IntN.{ℤ}
-use lib.ListN.{length, take, drop, drop_of_length-le, length-drop, length-map, take-append-drop}
+use lib.ListN.{length, take, drop, length-drop, length-map, take-append-drop}
 use lib.Seq.{drop-append-le, length-take-le, take-append-le}
-use Rattle.text.specs.Parts.{split}
+use Rattle.ledger.specs.Bench.{NamedCall, by}
 use Rattle.ledger.specs.Call.{load_samples}
-use Rattle.ledger.specs.Bench.{by}
-use Rattle.call_text.specs.Calls.{call_of, call_within, number_limit, reading}
+use Rattle.record.specs.declared.AxisAnswer.{AxisAnswer}
+use Rattle.record.specs.declared.Record.{Record}
+use Rattle.call_text.specs.Answers.{answer_line, shown, told_of}
+use Rattle.call_text.specs.Calls.{call_of, number_limit, reading}
 use Rattle.call_text.specs.Requests.{Asks, Placed, call_asked, part, request_call}
 use Rattle.call_text.specs.declared.request.Request.{Request}
 use Rattle.call_text.specs.declared.request.Request.TheVariants.{Load, LoadSamples, Turn, Sweep, LoosePair, Axis, TournamentSweep}
-use Rattle.call_text.specs.inner.Parts.{front}
-use Rattle.call_text.proofs.Splitting.{parts_after, parts-end, parts_more, split-front, take-front}
-use Rattle.play.specs.Steps.{first_call, lines_from, past_line}
-use Rattle.play.specs.declared.cursor.Cursor.{Cursor}
-use Rattle.play.specs.declared.cursor.NextLine.{NextLine}
-use Rattle.play.specs.declared.cursor.NextLine.TheVariants.{Ended, Unknown, Call}
-use Rattle.play.specs.inner.Lines.{Reads, line_at, next_line, request_of}
-
--- no call
-no_call : (text : List ℕ) (left : Bool) (here : Cursor) (numbers : List ℤ) (readings : List ℕ) (z : NextLine) → request_of z ≡ None →
-    z ≡ next_line left here (lines_from text here) → None ≡ first_call (lines_from text here) → Reads text left here numbers readings z
-unfolding call_asked
-no_call text left here numbers readings z n q c = record { is = q; calls = rw n c; in-numbers = rw n tt; in-readings = rw n tt }
+use Rattle.play.specs.Receiver.{PlaysLine, printed_by}
+use Rattle.play.specs.Steps.{left_by}
+use Rattle.play.specs.Text.{record_answers, record_plays}
+use Rattle.play.specs.inner.Calls.{Answers, answer_for}
+use Rattle.play.specs.inner.Lines.{told_with}
 
 -- the readings of samples, as they are at the same places as their numbers
 module _ (numbers : List ℤ) (entry : List ℕ) (end : ℕ) (all : end ≤ length numbers) where
-  abbrev readings : List ℕ
-  readings = map reading (take end numbers) ++ drop end entry
+  abbrev in_place : List ℕ
+  in_place = map reading (take end numbers) ++ drop end entry
 
   taken : length (map reading (take end numbers)) ≡ end
   taken = length-map (take end numbers) reading ∙ length-take-le end numbers all
 
-  read-part : (from to : ℕ) → from ≤ to → to ≤ end → part from to readings ≡ part from to (map reading numbers)
+  read-part : (from to : ℕ) → from ≤ to → to ≤ end → part from to in_place ≡ part from to (map reading numbers)
   read-part from to h k =
       let f : from ≤ length (map reading (take end numbers)) = rw taken (omega arith) in
       let t : to - from ≤ length (drop from (map reading (take end numbers))) = rw (length-drop, taken) (omega arith) in
@@ -79,69 +71,27 @@ read_other (LoosePair bench t) numbers readings h = record { same = refl }
 read_other (Axis bench i) numbers readings h = record { same = refl }
 read_other (TournamentSweep bench) numbers readings h = record { same = refl }
 
-module _ (text : List ℕ) (left : Bool) (here : Cursor) where
-  pub at-end : length text ≤ here.at → (t : Bool) → left ≡ t → (numbers : List ℤ) (readings : List ℕ) →
-      Reads text left here numbers readings (cond t Unknown Ended)
-  unfolding lines_from split next_line first_call request_of
-  at-end h t e numbers readings =
-      no_call text left here numbers readings (cond t Unknown Ended) (none-asked t) (sym (rw (drop_of_length-le text h, e) (by t)))
-      (sym (rw (drop_of_length-le text h)))
-    where
-      none-asked : (t : Bool) → request_of (cond t Unknown Ended) ≡ None
-      none-asked true = refl
-      none-asked false = refl
+module _ (r : Record) (line : List ℕ) where
+  plays-by : (o : Option NamedCall) → call_of line ≡ o → {z : Option (List ℕ)} {next : Record} → PlaysLine (record_answers r o) r z next →
+      PlaysLine (record_plays r line) r z next
+  unfolding record_plays
+  plays-by o e p = rw e p
 
-      by : (t : Bool) → cond (not t) Ended Unknown ≡ cond t Unknown Ended
-      by true = refl
-      by false = refl
+  module _ {entry numbers : List ℤ} (s : length entry ≡ number_limit) where
+    -- a line that is no call
+    pub no-call : Asks line entry numbers None → {z : Option (List ℕ)} → z ≡ None → PlaysLine (record_plays r line) r z r
+    unfolding call_of call_asked record_answers printed_by left_by
+    no-call k e =
+        let c : call_of line ≡ None = rw (← s) (sym k.calls) in
+        plays-by None c (record { is = e; leaves = refl })
 
-  module _ (h : here.at < length text) (end : ℕ) (e : end ≡ here.at + length (front 10 (drop here.at text))) where
-    parts : lines_from text here ≡ front 10 (drop here.at text) ∷ parts_after 10 text end
-    unfolding lines_from
-    parts = split-front 10 text here.at ∙ rw (← e) refl
-
-    size : length (front 10 (drop here.at text)) ≡ end - here.at
-    size = omega arith
-
-    pub open-line : length text ≤ end → (numbers : List ℤ) (readings : List ℕ) → Reads text left here numbers readings Unknown
-    unfolding next_line first_call request_of
-    open-line g numbers readings =
-        let n : length (front 10 (drop here.at text)) ≡ 0 → ⊥ = λ z. omega arith in
-        let p : lines_from text here ≡ front 10 (drop here.at text) ∷ [] = parts ∙ rw (parts-end 10 text end g) in
-        no_call text left here numbers readings Unknown refl (sym (rw p (simp (ne_eqb _ _ n)))) (sym (rw p))
-
-    module _ (g : end < length text) where
-      abbrev line : List ℕ
-      line = take (end - here.at) (drop here.at text)
-
-      whole : lines_from text here ≡ line ∷ front 10 (drop (end + 1) text) ∷ parts_after 10 text (end + 1 + length (front 10 (drop (end + 1) text)))
-      whole =
-          let f : front 10 (drop here.at text) ≡ line = sym (rw (← size) (take-front 10 (drop here.at text))) in
-          parts ∙ rw (parts_more 10 text end g, split-front 10 text (end + 1)) (rw f refl)
-
-      long : length line ≡ end - here.at
-      long =
-          let f : front 10 (drop here.at text) ≡ line = sym (rw (← size) (take-front 10 (drop here.at text))) in
-          rw (← f) size
-
-      -- a line that is no call
-      pub no-call-line : (entry numbers : List ℤ) → length entry ≡ number_limit → Asks line entry numbers None → (readings : List ℕ) →
-          Reads text left here numbers readings Unknown
-      unfolding next_line first_call call_of line_at request_of call_asked
-      no-call-line entry numbers s k readings =
-          let c : call_within (length entry) line ≡ call_within number_limit line = rw s in
-          no_call text left here numbers readings Unknown refl (sym (rw whole (rw (← c, ← k.is)))) (rw whole (k.calls ∙ rw c))
-
-      -- a call
-      pub a-line : (entry numbers : List ℤ) → length entry ≡ number_limit → (request : Request) → Asks line entry numbers (Some request) →
-          (readings : List ℕ) → Read request numbers readings → length readings ≡ length numbers → (next : Cursor) →
-          next ≡ past_line here (end - here.at) → Reads text left here numbers readings (Call request next)
-      unfolding next_line first_call call_of line_at request_of call_asked
-      a-line entry numbers s request k readings r l next q =
-          let c : call_within (length entry) line ≡ call_within number_limit line = rw s in
-          record {
-            is = rw (whole, long, q) (rw (← c, ← k.is));
-            calls = rw (whole, r.same) (k.calls ∙ rw c);
-            in-numbers = k.placed;
-            in-readings = rw l k.placed;
-          }
+    -- a call, with the readings that its request needs
+    pub a-call : {request : Request} → Asks line entry numbers (Some request) → {readings : List ℕ} → Read request numbers readings →
+        {y : AxisAnswer} {next : Record} → Answers r (request_call request numbers readings) y next → {page : List ℕ} →
+        page ≡ shown (told_with y next) → PlaysLine (record_plays r line) r (Some page) next
+    unfolding call_of call_asked record_answers printed_by left_by answer_line told_of told_with answer_for
+    a-call {request} k {readings} d {y} {next} a {page} e =
+        let call = request_call request numbers readings in
+        let c : call_of line ≡ Some call = rw (← s, d.same) (sym k.calls) in
+        let t : page ≡ answer_line r call = rw (← a.leaves) (rw a.is at e) in
+        plays-by (Some call) c (record { is = ap Some t; leaves = a.leaves })

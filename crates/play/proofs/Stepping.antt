@@ -1,136 +1,107 @@
--- What a step comes to, from the line that was read and what it prints.
-use Prim.Native.Nat.{ℕ}
-use mathlib.Core.Path.{◌≡◌, refl, sym, ap, ◌∙◌}
-use mathlib.Core.Bool.{Bool, true, false, cond, not, ◌&&◌}
-use mathlib.Core.List.{List, [], ◌∷◌}
-use native.Mathlib.Omega.{arith}
-use Rattle.std.proofs.Common.{None, Option, Some}
-use Rattle.std.proofs.lemmas.Option.{same_Some}
-use lib.Dec.{eqb}
-use lib.IntN.{ℤ}
-use lib.ListN.{length}
-use Rattle.ledger.specs.Bench.{NamedCall}
-use Rattle.record.specs.Record.{record_after}
-use Rattle.record.specs.declared.AxisAnswer.{AxisAnswer}
-use Rattle.record.specs.declared.Record.{Record}
-use Rattle.call_text.specs.Answers.{answer_line, shown, told_of}
-use Rattle.call_text.specs.Calls.{call_of}
-use Rattle.call_text.specs.Requests.{asked_for, call_asked, request_call}
-use Rattle.call_text.specs.declared.answer.Printed.{Printed}
-use Rattle.call_text.specs.declared.request.Request.{Request}
-use Rattle.call_text.specs.inner.Answers.{Prints}
-use Rattle.play.specs.Steps.{Reached, Steps, after_call, first_call, gone, lines_from, past_line, stepped, stepped_by, stopped_at}
-use Rattle.play.specs.laws.Steps.{line-within}
+-- What a step comes to, by what stands at its cursor.
+use Rattle.std.proofs.Common.{ℕ, ◌+◌, ◌-◌, ◌≤◌, ◌<◌, ◌≡◌, refl, sym, ap, ◌∙◌, Bool, true, false, cond, not, List, [], ◌∷◌, Option, Some, None, arith}
+use Rattle.std.proofs.Common.{length, take, drop, drop_of_length-le}
+use borrow.Author.Tests.{ne_eqb}
+use Rattle.text.specs.Parts.{split}
+use Rattle.call_text.specs.inner.Parts.{front}
+use Rattle.call_text.proofs.Splitting.{parts_after, parts-end, parts_more, split-front, take-front}
+use Rattle.play.specs.Receiver.{PlaysLine, printed_by}
+use Rattle.play.specs.Steps.{Steps, Within, after_line, left_by, lines_from, past_line, stepped, stepped_by, stopped_at}
 use Rattle.play.specs.Text.{unknown_line}
 use Rattle.play.specs.declared.cursor.Cursor.{Cursor}
-use Rattle.play.specs.declared.cursor.NextLine.TheVariants.{Ended, Unknown, Call}
-use Rattle.play.specs.inner.Calls.{Answers, answer_for}
-use Rattle.play.specs.inner.Lines.{Reads, line_at, next_line, request_of, told_with}
+use Rattle.play.specs.declared.step.Stepped.{Stepped}
 
-module _ (left : Bool) (r : Record) (here : Cursor) where
-  -- no line, and a line that is no call
-  ended : (parts : List (List ℕ)) → Ended ≡ next_line left here parts → stopped_at [] ≡ stepped left r here parts
-  unfolding next_line line_at stepped
-  ended [] e = refl
-  ended (part ∷ []) e = by (eqb (length part) 0 && not left) e
-    where
-      by : (t : Bool) → Ended ≡ cond t Ended Unknown → stopped_at [] ≡ cond t (stopped_at []) (stopped_at (unknown_line here.line))
-      by true e = refl
-      by false e = absurd (let z : ◌≡◌ {A = ℕ} 0 1 = cc in omega arith)
-  ended (line ∷ part ∷ parts) e = by (asked_for (call_of line)) e
-    where
-      by : (o : Option Request) → Ended ≡ line_at here (length line) o → stopped_at [] ≡ stepped_by r here (length line) (call_of line)
-      by None e = absurd (let z : ◌≡◌ {A = ℕ} 0 1 = cc in omega arith)
-      by (Some request) e = absurd (let z : ◌≡◌ {A = ℕ} 0 1 = cc in omega arith)
+module _ {S : Type 0} (plays : S → List ℕ → Option (List ℕ × S)) (text : List ℕ) (left : Bool) (here : Cursor) (s : S) (n : ℕ) where
+  -- the text's end, or a line that is no call
+  record Stops (u : List ℕ) : Type 0 where
+    is : stopped_at n u ≡ stepped n plays left s here (lines_from text here)
+    stays : s ≡ after_line plays s (lines_from text here)
 
-  unknown : (parts : List (List ℕ)) → Unknown ≡ next_line left here parts → stopped_at (unknown_line here.line) ≡ stepped left r here parts
-  unfolding next_line line_at stepped stepped_by asked_for
-  unknown [] e = absurd (let z : ◌≡◌ {A = ℕ} 0 1 = cc in omega arith)
-  unknown (part ∷ []) e = by (eqb (length part) 0 && not left) e
-    where
-      by : (t : Bool) → Unknown ≡ cond t Ended Unknown →
-          stopped_at (unknown_line here.line) ≡ cond t (stopped_at []) (stopped_at (unknown_line here.line))
-      by true e = absurd (let z : ◌≡◌ {A = ℕ} 0 1 = cc in omega arith)
-      by false e = refl
-  unknown (line ∷ part ∷ parts) e = by (call_of line) e
-    where
-      by : (o : Option NamedCall) → Unknown ≡ line_at here (length line) (asked_for o) →
-          stopped_at (unknown_line here.line) ≡ stepped_by r here (length line) o
-      by None e = refl
-      by (Some call) e = absurd (let z : ◌≡◌ {A = ℕ} 0 1 = cc in omega arith)
-
-  -- a call: where it stands
-  pub record Stands (parts : List (List ℕ)) (next : Cursor) : Type 0 where
-    pub line : List ℕ
-    pub part : List ℕ
-    pub others : List (List ℕ)
-    pub call : NamedCall
-    pub at : parts ≡ line ∷ part ∷ others
-    pub is : call_of line ≡ Some call
-    pub goes : next ≡ past_line here (length line)
-
-  stands : (parts : List (List ℕ)) (request : Request) (next : Cursor) → Call request next ≡ next_line left here parts → Stands parts next
-  unfolding next_line line_at asked_for
-  stands [] request next e = absurd (let z : ◌≡◌ {A = ℕ} 0 1 = cc in omega arith)
-  stands (part ∷ []) request next e = absurd (by (eqb (length part) 0 && not left) e)
-    where
-      by : (t : Bool) → Call request next ≡ cond t Ended Unknown → ⊥
-      by true e = let z : ◌≡◌ {A = ℕ} 0 1 = cc in omega arith
-      by false e = let z : ◌≡◌ {A = ℕ} 0 1 = cc in omega arith
-  stands (line ∷ part ∷ parts) request next e = by (call_of line) refl e
-    where
-      by : (o : Option NamedCall) → call_of line ≡ o → Call request next ≡ line_at here (length line) (asked_for o) →
-          Stands (line ∷ part ∷ parts) next
-      by None q e = absurd (let z : ◌≡◌ {A = ℕ} 0 1 = cc in omega arith)
-      by (Some call) q e = record { line = line; part = part; others = parts; call = call; at = refl; is = q; goes = cc }
-
-module _ {text : List ℕ} {left : Bool} {here : Cursor} {r : Record} {p : Printed} where
-  stopped : (u : List ℕ) → stopped_at u ≡ stepped left r here (lines_from text here) → None ≡ first_call (lines_from text here) → Prints u p →
-      Steps text left here r (record { next = None; line = p }) r
-  unfolding stopped_at after_call
-  stopped u e n h = record {
-    is = rw h.is e;
-    leaves = rw (← n);
-    short = h.short;
-    moves = λ on q. absurd (let z : ◌≡◌ {A = ℕ} 0 1 = cc in omega arith);
-    reaches = λ on q. absurd (let z : ◌≡◌ {A = ℕ} 0 1 = cc in omega arith);
-  }
-
-  -- the line at the cursor is a call
-  called : (line part : List ℕ) (parts : List (List ℕ)) (call : NamedCall) → lines_from text here ≡ line ∷ part ∷ parts → call_of line ≡ Some call →
-      (on : Cursor) → on ≡ past_line here (length line) → Reached text r here → (next : Record) → next ≡ record_after r call →
-      Prints (answer_line r call) p → Steps text left here r (record { next = Some on; line = p }) next
-  unfolding stepped stepped_by first_call after_call past_line
-  called line part parts call q c on g reached next l h =
-      let w = line-within text here line part parts q in
+  stops : {u : List ℕ} {z : Stepped n} → Stops u → z ≡ stopped_at n u → Steps plays text left here s z s
+  unfolding stopped_at
+  stops {u} {z} t e =
+      let m : z.next ≡ None = ap (λ (y : Stepped n). y.next) e in
       record {
-        is = rw (q, c, g, h.is);
-        leaves = rw (q, c, l);
-        short = h.short;
-        moves = λ to e. let k : to ≡ on = sym (same_Some _ _ e) in rw (k, g) (omega arith, omega arith);
-        reaches = λ to e. let k : to ≡ on = sym (same_Some _ _ e) in rw (k, g, l) (gone line part parts call reached q c);
+        is = e ∙ t.is;
+        leaves = t.stays;
+        moves = λ on q. absurd (let w : ◌≡◌ {A = ℕ} 0 1 = cc (m, q) in omega arith);
       }
 
-  module _ {numbers : List ℤ} {readings : List ℕ} where
-    pub steps-ended : Reads text left here numbers readings Ended → Prints [] p → Steps text left here r (record { next = None; line = p }) r
-    unfolding request_of call_asked
-    steps-ended d h = stopped [] (ended left r here (lines_from text here) d.is) d.calls h
+  pub steps-end : length text ≤ here.at → {z : Stepped n} → z ≡ stopped_at n (cond left (unknown_line here.line) []) →
+      Steps plays text left here s z s
+  unfolding lines_from split stepped after_line
+  steps-end h = stops (record { is = rw (drop_of_length-le text h) (by left); stays = rw (drop_of_length-le text h) })
+    where
+      by : (t : Bool) → stopped_at n (cond t (unknown_line here.line) []) ≡ cond (not t) (stopped_at n []) (stopped_at n (unknown_line here.line))
+      by true = refl
+      by false = refl
 
-    pub steps-unknown : Reads text left here numbers readings Unknown → Prints (unknown_line here.line) p →
-        Steps text left here r (record { next = None; line = p }) r
-    unfolding request_of call_asked
-    steps-unknown d h = stopped (unknown_line here.line) (unknown left r here (lines_from text here) d.is) d.calls h
+  module _ (h : here.at < length text) (end : ℕ) (e : end ≡ here.at + length (front 10 (drop here.at text))) where
+    parts : lines_from text here ≡ front 10 (drop here.at text) ∷ parts_after 10 text end
+    unfolding lines_from
+    parts = split-front 10 text here.at ∙ rw (← e) refl
 
-    pub steps-call : Reached text r here → (request : Request) (on : Cursor) → Reads text left here numbers readings (Call request on) →
-        (y : AxisAnswer) (next : Record) → Answers r (request_call request numbers readings) y next → Prints (shown (told_with y next)) p →
-        Steps text left here r (record { next = Some on; line = p }) next
-    unfolding request_of call_asked first_call answer_line told_of told_with answer_for
-    steps-call reached request on d y next a h =
-        let w = stands left r here (lines_from text here) request on d.is in
-        let c : request_call request numbers readings ≡ w.call = same_Some _ _ (d.calls ∙ ap first_call w.at ∙ w.is) in
-        let l = rw c at a.leaves in
-        called w.line w.part w.others w.call w.at w.is on w.goes reached next l (answered r w.call y next (rw c at a.is) l h)
-      where
-        answered : (r : Record) (call : NamedCall) (y : AxisAnswer) (next : Record) → y ≡ answer_for r call → next ≡ record_after r call →
-            Prints (shown (told_with y next)) p → Prints (answer_line r call) p
-        answered r call y next q l h = rw (← l) (rw q at h)
+    -- a line that no line feed ends
+    pub steps-open : length text ≤ end → {z : Stepped n} → z ≡ stopped_at n (unknown_line here.line) → Steps plays text left here s z s
+    unfolding stepped after_line
+    steps-open g =
+        let n : length (front 10 (drop here.at text)) ≡ 0 → ⊥ = λ z. omega arith in
+        let p : lines_from text here ≡ front 10 (drop here.at text) ∷ [] = parts ∙ rw (parts-end 10 text end g) in
+        stops (record { is = sym (rw p (simp (ne_eqb _ _ n))); stays = rw p })
+
+    module _ (g : end < length text) where
+      abbrev line : List ℕ
+      line = take (end - here.at) (drop here.at text)
+
+      first : front 10 (drop here.at text) ≡ line
+      first =
+          let l : end - here.at ≡ length (front 10 (drop here.at text)) = omega arith in
+          sym (rw l (take-front 10 (drop here.at text)))
+
+      whole : lines_from text here ≡ line ∷ front 10 (drop (end + 1) text) ∷ parts_after 10 text (end + 1 + length (front 10 (drop (end + 1) text)))
+      whole = parts ∙ rw (parts_more 10 text end g, split-front 10 text (end + 1)) (rw first refl)
+
+      long : length line ≡ end - here.at
+      long = rw (← first) (omega arith)
+
+      abbrev on : Cursor
+      on = record { at = end + 1; line = here.line + 1 }
+
+      there : on ≡ past_line here (length line)
+      unfolding past_line
+      there =
+          let k : end + 1 ≡ here.at + length line + 1 = omega (arith, long, e) in
+          λ i. record { at = k i; line = here.line + 1 }
+
+      -- a line that is no call
+      pub steps-unknown : {next : S} → PlaysLine (plays s line) s None next → {z : Stepped n} → z ≡ stopped_at n (unknown_line here.line) →
+          Steps plays text left here s z next
+      unfolding stepped after_line stepped_by left_by printed_by
+      steps-unknown {next} p {z} q = by (plays s line) p (rw whole refl) (rw whole refl)
+        where
+          by : (o : Option (List ℕ × S)) → PlaysLine o s None next →
+              stepped n plays left s here (lines_from text here) ≡ stepped_by n here (length line) o →
+              after_line plays s (lines_from text here) ≡ left_by s o → Steps plays text left here s z next
+          by None p i l = rw p.leaves (stops (record { is = sym i; stays = sym l }) q)
+          by (Some done) p i l = let x = p.is in absurd (let w : ◌≡◌ {A = ℕ} 0 1 = cc in omega arith)
+
+      -- a call
+      pub steps-call : {page : List ℕ} {next : S} → PlaysLine (plays s line) s (Some page) next → Within text here →
+          Steps plays text left here s {n = n} (record { next = Some on; page = page }) next
+      unfolding stepped after_line stepped_by left_by printed_by
+      steps-call {page} {next} p w = by (plays s line) p (rw whole refl) (rw whole refl)
+        where
+          by : (o : Option (List ℕ × S)) → PlaysLine o s (Some page) next →
+              stepped n plays left s here (lines_from text here) ≡ stepped_by n here (length line) o →
+              after_line plays s (lines_from text here) ≡ left_by s o →
+              Steps plays text left here s {n = n} (record { next = Some on; page = page }) next
+          by None p i l = let x = p.is in absurd (let w : ◌≡◌ {A = ℕ} 0 1 = cc in omega arith)
+          by (Some done) p i l =
+              let x : page ≡ done.0 = let y = p.is in cc in
+              record {
+                is = rw x ((λ j. record { next = Some (there j); page = done.0 }) ∙ sym i);
+                leaves = p.leaves ∙ sym l;
+                moves = λ to m.
+                    let k : to ≡ on = let y = m in cc in
+                    rw k (omega arith, record { place = omega arith; number = omega (arith, w.number) });
+              }

@@ -1,5 +1,6 @@
 pub mod Text
 pub mod Steps
+pub mod Receiver
 pub mod Buffer
 pub mod inner
 pub mod laws

@@ -1,23 +1,24 @@
 // The two passes over a text of calls: whether what it prints has at most so many bytes, and the writing of it.
 ghost use Rattle.std.specs.Prelude.{false, ◌≡◌, ◌≤◌, leb, length};
-ghost use Rattle.play.specs.Text.{played};
+ghost use Rattle.play.specs.Text.{text_played};
 ghost use Rattle.text.specs.Put.{Put};
 
 use crate::cursor::Cursor;
+use crate::receiver::Receiver;
 use crate::step::step;
-use record::Record;
 use text::put_bytes;
 
 // It stops at the line that is too long, so that no sum is above `most`.
-pub(crate) fn fits(text: &[u8], most: usize) -> bool
-    ensures { result ≡ leb (length (played false text.now)) most }
+pub(crate) fn fits<const N: usize, R: Receiver<N> + Copy>(r: R, text: &[u8], most: usize) -> bool
+    requires { R.valid r }
+    ensures { result ≡ leb (length (text_played R.plays false r text.now)) most }
 {
-    let mut r = Record::new();
+    let mut r = r;
     let mut here = Cursor::start();
     let mut left = most;
     loop {
         let done = step(&mut r, text, false, here);
-        let len = done.line.len;
+        let len = done.page.text().len();
         if left < len {
             return false;
         }
@@ -31,16 +32,20 @@ pub(crate) fn fits(text: &[u8], most: usize) -> bool
 
 // No plainer: a driver of both loops would hand each line to a closure, of whose effect the caller knew only by a fold over the lines; and this one
 // may be called only where the buffer has room.
-pub(crate) fn put_played(text: &[u8], buf: &mut [u8]) -> usize
-    requires { length (played false text.now) ≤ length buf.old }
-    ensures { Put (played false text.now) 0 buf.old buf.new result }
+pub(crate) fn put_played<const N: usize, R: Receiver<N> + Copy>(
+    r: R,
+    text: &[u8],
+    buf: &mut [u8],
+) -> usize
+    requires { R.valid r × (length (text_played R.plays false r text.now) ≤ length buf.old) }
+    ensures { Put (text_played R.plays false r text.now) 0 buf.old buf.new result }
 {
-    let mut r = Record::new();
+    let mut r = r;
     let mut here = Cursor::start();
     let mut end = 0;
     'lines: loop {
         let own = step(&mut r, text, false, here);
-        end += put_bytes(&mut buf[end..], own.line.text());
+        end += put_bytes(&mut buf[end..], own.page.text());
         let Some(next) = own.next else {
             return end;
         };

@@ -1,68 +1,76 @@
-// A line of a text of calls, played on a lent record.
-ghost use Rattle.std.specs.Prelude.{◌≡◌, ◌≤◌};
-ghost use Rattle.call_text.specs.Answers.{shown};
-ghost use Rattle.call_text.specs.inner.Answers.{Prints};
-ghost use Rattle.play.specs.Steps.{Reached, Steps};
+// A line of a text of calls, played on what receives them.
+ghost use Rattle.std.specs.Prelude.{◌≡◌, ◌+◌, ◌*◌, ◌≤◌, cond, []};
+ghost use Rattle.play.specs.Steps.{Steps, Within, stopped_at};
 ghost use Rattle.play.specs.Text.{unknown_line};
-ghost use Rattle.play.specs.inner.Lines.{told_with};
 
-use crate::call::call;
-use crate::cursor::{Cursor, NextLine, next_line};
-use call_text::answer::{Printed, Told, answer_line, nothing, numbers_line};
-use call_text::request::NUMBERS;
-use record::{AxisAnswer, Record};
+use crate::cursor::Cursor;
+use crate::receiver::Receiver;
+use call_text::answer::numbers_line;
+use call_text::find::find;
+use text::page::Page;
 
 // Where the next line starts that is to be played, and what this one prints.
 #[derive(Clone, Copy)]
-pub struct Stepped {
+pub struct Stepped<const N: usize> {
     pub next: Option<Cursor>,
-    pub line: Printed,
+    pub page: Page<N>,
 }
 
-#[tactic(auto, unfolding(crate::specs::Text::unknown_line))]
-fn unknown_line(k: u64) -> Printed
-    ensures { Prints (unknown_line k) result }
+// `?` and the line's number: no call, or a line that was not read whole.
+#[tactic(auto, unfolding(crate::specs::Text::unknown_line, crate::specs::Steps::stopped_at))]
+fn unknown<const N: usize>(line: u64) -> Stepped<N>
+    requires { 2 + 21 * 1 ≤ N }
+    ensures { result ≡ stopped_at N (unknown_line line) }
 {
-    numbers_line(b'?', &[k])
+    Stepped {
+        next: None,
+        page: numbers_line(b'?', &[line]),
+    }
 }
 
-#[tactic(auto, unfolding(crate::specs::inner::Lines::told_with))]
-fn answered_line(answer: AxisAnswer, r: Record) -> Printed
-    requires { r.solver.n ≤ 8 }
-    ensures { Prints (shown (told_with answer r)) result }
+// The text's end: a line that was not read whole starts there where input is left.
+#[tactic(auto, unfolding(crate::specs::Steps::stopped_at))]
+fn ended<const N: usize>(left: bool, line: u64) -> Stepped<N>
+    requires { 2 + 21 * 1 ≤ N }
+    ensures { result ≡ stopped_at N (cond left (unknown_line line) []) }
 {
-    let value = answer.value;
-    let row = answer.row;
-    answer_line(Told {
-        answer: value,
-        row,
-        n: r.channels(),
-        refused: r.refused_calls(),
-    })
+    if left {
+        return unknown(line);
+    }
+    Stepped {
+        next: None,
+        page: Page::empty(),
+    }
 }
 
-// Plays the line at the cursor on the record that the lines before it left.
-pub fn step(r: &mut Record, text: &[u8], left: bool, here: Cursor) -> Stepped
-    requires { Reached text.now r.old here }
-    ensures { Steps text.now left here r.old result r.new }
+// Plays the line at a cursor on what the lines before it left; `left` says that input is left after the text, so that a line at its end is not whole.
+pub fn step<const N: usize, R: Receiver<N>>(
+    r: &mut R,
+    text: &[u8],
+    left: bool,
+    here: Cursor,
+) -> Stepped<N>
+    requires { R.valid r.old × Within text.now here }
+    ensures steps { Steps R.plays text.now left here r.old result r.new }
+    ensures keeps { R.valid r.new }
 {
-    let mut numbers = [0i64; NUMBERS];
-    let mut readings = [0u32; NUMBERS];
-    match next_line(text, left, here, &mut numbers, &mut readings) {
-        NextLine::Ended => Stepped {
-            next: None,
-            line: nothing(),
-        },
-        NextLine::Unknown => Stepped {
-            next: None,
-            line: unknown_line(here.number()),
-        },
-        NextLine::Call { request, next } => {
-            let answer = call(r, request, &numbers, &readings);
-            Stepped {
-                next: Some(next),
-                line: answered_line(answer, *r),
-            }
-        }
+    let at = here.at;
+    let line = here.line;
+    if text.len() <= at {
+        return ended(left, line);
+    }
+    let end = find(text, at, b'\n');
+    if text.len() <= end {
+        return unknown(line);
+    }
+    let Some(page) = r.play_line(&text[at..end]) else {
+        return unknown(line);
+    };
+    Stepped {
+        next: Some(Cursor {
+            at: end + 1,
+            line: line + 1,
+        }),
+        page,
     }
 }

@@ -3,6 +3,7 @@ pub mod Parts
 pub mod Numeral
 pub mod Decimal
 pub mod Put
+pub mod Page
 pub mod Written
 pub mod Line
 pub mod Lines

@@ -1,4 +1,5 @@
 pub mod Put
+pub mod Page
 pub mod Written
 pub mod Digits
 pub mod Examples

@@ -3,6 +3,7 @@
 
 pub mod line;
 pub mod numbers;
+pub mod page;
 pub mod rows;
 
 ghost use Rattle.std.specs.Prelude.{◌∷◌, [], ◌≤◌, length};

@@ -1,12 +1,6 @@
 -- What private functions promise: The line that a call's answer prints.
-use Rattle.std.specs.Prelude.{ℕ, ◌≤◌, ◌≡◌, List, ◌∷◌}
+use Rattle.std.specs.Prelude.{ℕ, ◌≤◌, List, ◌∷◌}
 use Rattle.text.specs.Put.{Put}
-use Rattle.call_text.specs.declared.answer.Printed.{Printed}
-use Rattle.call_text.specs.Answers.{line_printed}
-
-pub record Prints (text : List ℕ) (r : Printed) : Type 0 where
-  pub is : r ≡ line_printed text
-  pub short : r.len ≤ 256
 
 -- a tab and a field, of at most 20 bytes
 pub record FieldPut (field entry exit : List ℕ) (r : ℕ) : Type 0 where

@@ -1,12 +1,12 @@
--- `play` meets its contract: whether what the text prints fits picks the branch.
-use Rattle.play.proofs.Passing.{all-fits, all-written, too_short}
+-- `play` meets its contract: a fresh record is kept.
+use Rattle.record.specs.laws.Named.{fresh_kept}
+use Rattle.play.specs.Text.{played}
+use Rattle.play.proofs.Passing.{plays_all}
 use Rattle.play.proofs.play.Goals as goal
 
-pub returns-then-not-fits : goal.returns-then-not-fits
-returns-then-not-fits c = too_short _ _ _ c.fits.ensures c.if-not-fits.true
-
-pub put_played-requires : goal.put_played-requires
-put_played-requires c = all-fits _ _ _ c.fits.ensures c.if-not-fits.false
+pub play_on-requires : goal.play_on-requires
+play_on-requires c = rw c.new.ensures.is fresh_kept
 
 pub returns : goal.returns
-returns c = all-written _ _ _ c.fits.ensures c.if-not-fits.false c.put_played.ensures
+unfolding played
+returns c = plays_all _ _ _ _ (rw c.new.ensures.is at c.play_on.ensures)

@@ -19,7 +19,7 @@ use Rattle.call_text.specs.Calls.{sweep_by, turn_by}
 use Rattle.call_text.specs.Fields.{of_fields, with_numbers}
 use Rattle.call_text.specs.Numbers.{each_number, numeral, signed_of, stands_for, unsigned_of, with_minus, without_minus}
 use Rattle.text.specs.Line.{further, line}
-use Rattle.play.specs.Text.{line_then, played, played_from, unknown_line}
+use Rattle.play.specs.Text.{line_then, played, played_from, record_answers, record_plays, text_played, unknown_line}
 
 examples :
     -- no text; no matrix loaded, twice; a second line that no line feed ends; input that is left after a line, and in one
@@ -49,7 +49,8 @@ examples :
     -- after a load: t of −1 and of 10,000,000,000; i of −1 and of 2^64 + 1
     × (played false (ascii "L\t1\t2\t1\t0\t0\t1\nQ\t1\t-1\nQ\t1\t10000000000\n") ≡ ascii "L\nX\t2\t1\t0\t0\t0\nX\t2\t2\t0\t0\t0\n")
     × (played false (ascii "L\t1\t2\t1\t0\t0\t1\nA\t1\t-1\nA\t1\t18446744073709551617\n") ≡ ascii "L\nX\t9\t1\t0\t0\t0\nX\t9\t2\t0\t0\t0\n")
-unfolding ascii played played_from line_then unknown_line split onto call_of call_within number_limit call_of_fields of_fields with_numbers named_by
+unfolding ascii played text_played played_from line_then record_plays record_answers unknown_line split onto
+    call_of call_within number_limit call_of_fields of_fields with_numbers named_by
     named call_by load_by
     turn_by sweep_by one_by argument each_number signed_of with_minus without_minus unsigned_of stands_for numeral leading_zero value_from
     all_within
@@ -70,7 +71,8 @@ benches :
     -- nor with a matrix loaded
     × (played false (ascii "L\t1\t2\t1\t0\t0\t1\nT\t0\t2\t1\nO\t5\nM\t6\t9\t0\n") ≡
     ascii "L\nX\t15\t0\t0\t0\t0\nX\t15\t0\t0\t0\t0\nX\t15\t0\t0\t0\t0\n")
-unfolding ascii played played_from line_then unknown_line split onto call_of call_within number_limit call_of_fields of_fields with_numbers named_by
+unfolding ascii played text_played played_from line_then record_plays record_answers unknown_line split onto
+    call_of call_within number_limit call_of_fields of_fields with_numbers named_by
     named call_by load_by
     turn_by sweep_by one_by argument each_number signed_of with_minus without_minus unsigned_of stands_for numeral leading_zero value_from
     all_within
@@ -89,7 +91,8 @@ samples :
     × (played false (ascii "M\t1\t2\n") ≡ ascii "?\t1\n")
     × (played false (ascii "M\t1\t2\t-1\n") ≡ ascii "?\t1\n")
     × (played false (ascii "M\t1\t2\t2\t1\n") ≡ ascii "?\t1\n")
-unfolding ascii played played_from line_then unknown_line split onto call_of call_within number_limit call_of_fields of_fields with_numbers named_by
+unfolding ascii played text_played played_from line_then record_plays record_answers unknown_line split onto
+    call_of call_within number_limit call_of_fields of_fields with_numbers named_by
     named call_by
     samples_by reading samples_refusal number_refusal argument each_number signed_of with_minus without_minus unsigned_of stands_for
     numeral leading_zero

@@ -1,9 +1,10 @@
 -- `axis_line` meets its contract: the tag, the fields and the line feed, each where the last one ended.
-use Rattle.std.proofs.Common.{◌≡◌, arith, length, refl, take}
+use Rattle.std.proofs.Common.{◌≡◌, ◌∙◌, arith, length, refl, take}
 use mir.Facts.{to_z-of_z}
 use borrow.Author.Rules.{rules}
+use Rattle.text.specs.laws.Page.{filled, put-text}
 use Rattle.text.specs.laws.Put.{array-part, array-size}
-use Rattle.call_text.proofs.Printing.{axis-text, element-size, numbers-bound, one-bound, printed}
+use Rattle.call_text.proofs.Printing.{axis-text, element-size, numbers-bound, one-bound}
 use Rattle.call_text.proofs.answer.axis_line.Goals as goal
 
 pub put_numbers-at-requires : goal.put_numbers-at-requires
@@ -31,9 +32,16 @@ put_byte-requires c =
     let r = numbers-bound c.args.row (λ i. search (rules, element-size)) c.args.n in
     omega (arith, one-bound c.args.entry c.ranges.entry.sfits, c.natural_field-at.ensures.bounded, array-size numbers {size = 256} refl)
 
+pub new-requires : goal.new-requires
+new-requires c =
+    let entry = array-part c.put_byte-at.ensures {size = 256} refl (rw (to_z-of_z c.ranges.entry) at c.put_numbers-at.ensures) in
+    let error = array-part entry {size = 256} refl c.natural_field-at.ensures.puts in
+    let numbers = array-part error {size = 256} refl c.put_numbers-at-2.ensures in
+    (omega arith, (omega arith, filled 256 (array-part numbers {size = 256} refl c.put_byte.ensures)))
+
 pub returns : goal.returns
 returns c =
     let entry = array-part c.put_byte-at.ensures {size = 256} refl (rw (to_z-of_z c.ranges.entry) at c.put_numbers-at.ensures) in
     let error = array-part entry {size = 256} refl c.natural_field-at.ensures.puts in
     let numbers = array-part error {size = 256} refl c.put_numbers-at-2.ensures in
-    printed _ (array-part numbers {size = 256} refl c.put_byte.ensures) (axis-text c.args.entry _ (take c.args.n c.args.row))
+    c.new.ensures ∙ put-text 256 (array-part numbers {size = 256} refl c.put_byte.ensures) ∙ axis-text c.args.entry _ (take c.args.n c.args.row)

@@ -1,24 +1,19 @@
--- `play::step::step` meets its contract: a line is read, made a call on the lent record, and said.
-use Rattle.std.proofs.Common.{refl}
-use Rattle.call_text.specs.Calls.{number_limit}
-use Rattle.play.specs.inner.Lines.{request_of}
-use Rattle.play.specs.laws.Steps.{reached-kept, reached-within}
-use Rattle.play.proofs.Stepping.{steps-call, steps-ended, steps-unknown}
+-- `step::step` meets its contract: what stands at the cursor picks the branch.
+use Rattle.play.proofs.Stepping.{steps-call, steps-end, steps-open, steps-unknown}
 use Rattle.play.proofs.step.step.Goals as goal
 
-pub next_line-requires : goal.next_line-requires
-unfolding number_limit
-next_line-requires c = (reached-within _ c.requires, refl, refl)
+pub returns-then-text-at-clause-steps : goal.returns-then-text-at-clause-steps
+returns-then-text-at-clause-steps g c = steps-end _ _ _ _ _ _ c.if-text-at.true c.ended.ensures
 
-pub call-answer-requires : goal.call-answer-requires
-unfolding request_of
-call-answer-requires c = (reached-kept _ c.requires, c.in-Call.ensures.in-numbers, c.in-Call.ensures.in-readings)
+pub returns-then-text-end-clause-steps : goal.returns-then-text-end-clause-steps
+returns-then-text-end-clause-steps g c =
+    steps-open _ _ _ _ _ _ c.if-text-at.false _ c.find-end.ensures.is c.if-text-end.true c.unknown.ensures
 
-pub returns-in-Ended : goal.returns-in-Ended
-returns-in-Ended c = steps-ended c.in-Ended.ensures c.nothing.ensures
+pub returns-in_default-clause-steps : goal.returns-in_default-clause-steps
+returns-in_default-clause-steps g c =
+    steps-unknown _ _ _ _ _ _ c.if-text-at.false _ c.find-end.ensures.is c.if-text-end.false c.in_default.ensures.plays_line
+    c.unknown-in_default.ensures
 
-pub returns-in-Unknown : goal.returns-in-Unknown
-returns-in-Unknown c = steps-unknown c.in-Unknown.ensures (rw c.number.ensures at c.unknown_line.ensures)
-
-pub returns-in-Call : goal.returns-in-Call
-returns-in-Call c = steps-call c.requires _ _ c.in-Call.ensures _ _ c.call-answer.ensures c.answered_line.ensures
+pub returns-clause-steps : goal.returns-clause-steps
+returns-clause-steps g c =
+    steps-call _ _ _ _ _ _ c.if-text-at.false _ c.find-end.ensures.is c.if-text-end.false c.in-Some.ensures.plays_line c.requires.1

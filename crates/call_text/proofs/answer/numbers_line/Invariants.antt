@@ -1,6 +1,0 @@
--- The invariant: the tag and the numbers so far are at the front of the bytes.
-use Rattle.call_text.proofs.Printing.{Begun}
-use Rattle.call_text.proofs.answer.numbers_line.Given as goal
-
-abbrev pub invariant-loop-x : goal.invariant-loop-x
-invariant-loop-x l = Begun l.tag l.xs l.x-index l.bytes l.at
