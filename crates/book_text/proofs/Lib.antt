@@ -1,5 +1,4 @@
 pub mod Paging
 pub mod Saying
 pub mod Asking
-pub mod Stepping
-pub mod Passing
+pub mod Receiving

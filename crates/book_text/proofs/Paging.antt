@@ -1,4 +1,4 @@
--- The texts that the writers put together, and the pages that they are.
+-- The texts that the writers put together.
 use Prim.Native.Nat.{ℕ, ◌+◌, ◌-◌, ◌*◌, ◌≤◌, ◌<◌}
 use mathlib.Core.Path.{◌≡◌, sym, ap, ◌∙◌}
 use mathlib.Core.List.{List, [], ◌∷◌, ◌++◌, map-append, append_assoc, append-nil}
@@ -9,17 +9,9 @@ use lib.Seq.{length-take-le, take-suc}
 use Rattle.sums.specs.declared.Sums.{Sums}
 use Rattle.text.specs.Decimal.{digits}
 use Rattle.text.specs.Line.{line, further}
-use Rattle.text.specs.Put.{Put}
 use Rattle.text.specs.laws.Numbers.{further-append}
-use Rattle.text.specs.laws.Put.{front_length}
 use Rattle.book_text.specs.Answers.{cross_row, cross_rows, sums_line}
-use Rattle.book_text.specs.Pages.{Pages, page_of}
 use Rattle.book_text.specs.inner.Played.{naturals}
-
--- a text at the front of the array
-pub paged : {w x : List ℕ} {r : ℕ} (t : List ℕ) → Put w 0 (replicate 2048 0) x r → w ≡ t → Pages t (record { bytes = x; len = r })
-unfolding page_of
-paged t p e = record { is = rw (p.leaves, front_length p, e); short = p.within }
 
 naturals-append : (xs ys : List ℕ) → naturals (xs ++ ys) ≡ naturals xs ++ naturals ys
 unfolding naturals

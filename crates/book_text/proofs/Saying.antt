@@ -20,9 +20,7 @@ use Rattle.book.specs.declared.Book.{Book}
 use Rattle.book.specs.declared.Changed.{Changed}
 use Rattle.book.specs.laws.Calls.{summary-held}
 use Rattle.book_text.specs.Answers.{answer_text, call_text, sums_line}
-use Rattle.book_text.specs.Pages.{Pages}
 use Rattle.book_text.specs.declared.call.BookPlay.{BookPlay}
-use Rattle.book_text.specs.declared.page.Page.{Page}
 use Rattle.book_text.specs.inner.Played.{PlaysCall, ShortPlay, TablePage, plays, short_text}
 
 -- what is not refused, and what is
@@ -61,16 +59,22 @@ module _ (b : Book) where
   unfolding call_text book_answer book_refusal answer_then
   rebuild-same = refl
 
-  pub sums-say : {X : Type 0} (x y : X) {n : ℕ} {u : Sums} {p : Page} → Ok y ≡ judged (refusal read_summary) x → n ≡ b.n →
-      u ≡ sums_of (samples_in b) → Pages (sums_line n u) p → Pages (call_text b read_summary) p × Pages (call_text b rebuild) p
+  pub sums-say : {X : Type 0} (x y : X) {n : ℕ} {u : Sums} {p : List ℕ} → Ok y ≡ judged (refusal read_summary) x → n ≡ b.n →
+      u ≡ sums_of (samples_in b) → p ≡ sums_line n u → (p ≡ call_text b read_summary) × (p ≡ call_text b rebuild)
   sums-say x y {n} {u} {p} e m v h =
       let w : sums_line n u ≡ call_text b read_summary =
       ap (λ i. sums_line i u) m ∙ ap (sums_line b.n) v ∙ sums-text (judged-ok (refusal read_summary) x y e).0 in
-      let s : Pages (call_text b read_summary) p = rw (← w) h in
-      (s, rw (← rebuild-same) s)
+      let s : p ≡ call_text b read_summary = h ∙ w in
+      (s, s ∙ rebuild-same)
 
-  pub table-says : {z : Table} {n : ℕ} {u : Sums} {p : Page} → Ok z ≡ table_to b → n ≡ b.n → u ≡ sums_of (samples_in b) → TablePage n u.k z p →
-      Pages (call_text b make_table) p
+  -- a table that is made is that of the book's samples
+  pub table-held : {z : Table} {n : ℕ} → Ok z ≡ table_to b → n ≡ b.n → z ≡ table_of n (samples_in b)
+  unfolding table_to
+  table-held {z} {n} e m =
+      (judged-ok (refusal make_table) (table_of b.n (samples_in b)) z e).1 ∙ ap (λ i. table_of i (samples_in b)) (sym m)
+
+  pub table-says : {z : Table} {n : ℕ} {u : Sums} {p : List ℕ} → Ok z ≡ table_to b → n ≡ b.n → u ≡ sums_of (samples_in b) → TablePage n u.k z p →
+      p ≡ call_text b make_table
   unfolding sums_of table_to book_answer judged call_text answer_then answer_text
   table-says {z} {n} {u} {p} e m v h =
       let t = judged-ok (refusal make_table) (table_of b.n (samples_in b)) z e in
@@ -78,7 +82,7 @@ module _ (b : Book) where
       let g : z ≡ table_of n (samples_in b) = t.1 ∙ ap (λ i. table_of i (samples_in b)) (sym m) in
       let w : samples_text n u.k (samples_in b) ≡ call_text b make_table =
       ap (λ i. samples_text i u.k (samples_in b)) m ∙ ap (λ i. samples_text b.n i (samples_in b)) k ∙ rw (eq-eqb (refusal make_table) 0 t.0) in
-      rw (← w) (h.page (samples_in b) g)
+      h.page (samples_in b) g ∙ w
 
   -- a call whose answer has one number or none
   abbrev Short : BookCall → Type 0
@@ -109,7 +113,7 @@ module _ (b : Book) where
   changes-play call s z r h p =
       plays (record {
         leaves = p.book ∙ h.leaves;
-        page = rw (← said-short call s, ← h.answer) p.page;
+        page = p.page ∙ rw h.answer (said-short call s);
         keeps = rw p.book h.keeps;
       })
 
@@ -141,6 +145,6 @@ module _ (b : Book) where
     unfolding book_after channels_after summary_then samples_then
     table_stays = stays (eqb (refusal make_table) 0)
 
-    pub bare-plays : (call : BookCall) → book_after b call ≡ b → {p : Page} → Pages (call_text b call) p →
+    pub bare-plays : (call : BookCall) → book_after b call ≡ b → {p : List ℕ} → p ≡ call_text b call →
         PlaysCall b (Some call) (Some (record { book = b; page = p }))
     bare-plays call stays h = plays (record { leaves = sym stays; page = h; keeps = c })

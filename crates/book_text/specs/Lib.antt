@@ -1,7 +1,5 @@
 pub mod Calls
 pub mod Answers
 pub mod Text
-pub mod Pages
-pub mod Steps
 pub mod inner
 pub mod laws

@@ -7,21 +7,21 @@ ghost use Rattle.book.specs.Consistent.{Consistent};
 ghost use Rattle.call_text.specs.Calls.{number_limit};
 ghost use Rattle.book_text.specs.Answers.{call_text};
 ghost use Rattle.book_text.specs.Calls.{book_call_by, book_call_of, no_number_of, one_number_of, sample_by};
-ghost use Rattle.book_text.specs.Pages.{Pages};
 ghost use Rattle.book_text.specs.inner.Played.{PlaysCall, ShortPlay, number_alone};
 
-use crate::page::{Page, refused, short_page, sums_page, table_page};
+use crate::page::{refused, short_page, sums_page, table_page};
 use book::{Book, Changed};
 use call_text::line::read_fields;
 use call_text::reading::put_readings;
 use call_text::request::{NUMBERS, argument};
 use sums::Sums;
+use text::page::Page;
 
 // The book after a call, and what the call prints.
 #[derive(Drop)]
 pub struct BookPlay {
     pub book: Book,
-    pub page: Page,
+    pub page: Page<2048>,
 }
 
 fn changed(z: Changed) -> BookPlay
@@ -74,9 +74,9 @@ fn added(b: Book, numbers: &[i64]) -> Option<BookPlay>
 }
 
 // The line of the sums t, or of the refusal.
-fn sums_said(b: Book, t: Sums) -> Page
+fn sums_said(b: Book, t: Sums) -> Page<2048>
     requires { Consistent b × (t ≡ sums_of (samples_in b)) }
-    ensures { Pages (call_text b read_summary) result × Pages (call_text b rebuild) result }
+    ensures { (result ≡ call_text b read_summary) × (result ≡ call_text b rebuild) }
 {
     match b.summary_answer() {
         Ok(()) => sums_page(b.channels(), t),
@@ -84,9 +84,9 @@ fn sums_said(b: Book, t: Sums) -> Page
     }
 }
 
-fn table_said(b: Book) -> Page
+fn table_said(b: Book) -> Page<2048>
     requires { Consistent b }
-    ensures { Pages (call_text b make_table) result }
+    ensures { result ≡ call_text b make_table }
 {
     match b.table() {
         Ok(table) => table_page(b.channels(), b.summary().k as usize, table),

@@ -1,54 +1,29 @@
-// What a line prints, in an array.
-ghost use Rattle.std.specs.Prelude.{[], ◌∷◌, ◌≡◌, ◌≤◌, length, map};
+// What the call of a line prints, on a page of 2,048 bytes.
+ghost use Rattle.std.specs.Prelude.{[], ◌∷◌, ◌≡◌, ◌≤◌, List};
 ghost use Rattle.limits.specs.Limits.{most_samples};
+ghost use Rattle.readings.specs.Samples.{Sample};
 ghost use Rattle.refusal.specs.Refusal.{number_of};
+ghost use Rattle.scatter.specs.Table.{table_of};
 ghost use Rattle.text.specs.Decimal.{digits};
 ghost use Rattle.text.specs.Line.{line};
 ghost use Rattle.book_text.specs.Answers.{sums_line};
-ghost use Rattle.book_text.specs.Pages.{Pages};
 ghost use Rattle.book_text.specs.inner.Played.{TablePage, short_text};
 
 use crate::naturals::{put_cross, put_naturals};
 use book::BookAnswer;
-use call_text::answer::natural_field;
+use call_text::answer::{natural_field, numbers_line};
 use job_table::lines::put_table;
 use refusal::Refusal;
 use scatter::table::Table;
 use sums::Sums;
 use text::line::LINE_FEED;
+use text::page::Page;
 use text::put_byte;
 
-// The bytes, and 0 after them.
-// C interface / rule of the project needs it: there is no heap, so an array that holds the longest page, and its length, in place of a Vec.
-#[derive(Drop)]
-pub struct Page {
-    pub bytes: [u8; 2048],
-    pub len: usize,
-}
-
-pub(crate) fn empty() -> Page
-    ensures { Pages [] result }
-{
-    let bytes = [0u8; 2048];
-    Page { bytes, len: 0 }
-}
-
-// A tag and the numbers after it, each after a tab.
-pub(crate) fn tagged(tag: u8, numbers: &[u64]) -> Page
-    requires { length numbers.now ≤ 64 }
-    ensures { Pages (line ((tag ∷ []) ∷ map digits numbers.now)) result }
-{
-    let mut bytes = [0u8; 2048];
-    let mut at = put_byte(&mut bytes, tag);
-    at += put_naturals(&mut bytes[at..], numbers);
-    let len = at + put_byte(&mut bytes[at..], LINE_FEED);
-    Page { bytes, len }
-}
-
 // `Z`, the number, the n channel sums and the cross sums.
-pub(crate) fn sums_page(n: usize, t: Sums) -> Page
+pub(crate) fn sums_page(n: usize, t: Sums) -> Page<2048>
     requires { n ≤ 8 }
-    ensures { Pages (sums_line n t) result }
+    ensures { result ≡ sums_line n t }
 {
     let channel = t.channel;
     let cross = t.cross;
@@ -58,35 +33,35 @@ pub(crate) fn sums_page(n: usize, t: Sums) -> Page
     at += put_naturals(&mut bytes[at..], &channel[..n]);
     at += put_cross(&mut bytes[at..], &cross, n);
     let len = at + put_byte(&mut bytes[at..], LINE_FEED);
-    Page { bytes, len }
+    Page::new(bytes, len)
 }
 
-pub(crate) fn table_page(n: usize, k: usize, table: Table) -> Page
-    requires { (n ≤ 8) × (k ≤ most_samples) }
+pub(crate) fn table_page(n: usize, k: usize, table: Table) -> Page<2048>
+    requires { (n ≤ 8) × (k ≤ most_samples) × ((ss : List Sample) × (table ≡ table_of n ss)) }
     ensures { TablePage n k table result }
 {
     let mut bytes = [0u8; 2048];
     let len = put_table(&mut bytes, n, k, table);
-    Page { bytes, len }
+    Page::new(bytes, len)
 }
 
 // `X` and the refusal's number.
-pub(crate) fn refused(refusal: Refusal) -> Page
-    ensures { Pages (line ((88 ∷ []) ∷ digits (number_of refusal) ∷ [])) result }
+pub(crate) fn refused(refusal: Refusal) -> Page<2048>
+    ensures { result ≡ line ((88 ∷ []) ∷ digits (number_of refusal) ∷ []) }
 {
-    tagged(b'X', &[u64::from(refusal.number())])
+    numbers_line(b'X', &[u64::from(refusal.number())])
 }
 
 // The line of an answer that has one number or none, or of a refusal.
 #[tactic(auto, unfolding(crate::specs::inner::Played::short_text))]
-pub(crate) fn short_page(answer: Result<BookAnswer, Refusal>) -> Page
-    ensures { Pages (short_text answer) result }
+pub(crate) fn short_page(answer: Result<BookAnswer, Refusal>) -> Page<2048>
+    ensures { result ≡ short_text answer }
 {
     match answer {
-        Ok(BookAnswer::Begun) => tagged(b'N', &[]),
-        Ok(BookAnswer::Added(k)) => tagged(b'A', &[k]),
-        Ok(BookAnswer::Struck(k)) => tagged(b'K', &[k]),
-        Ok(BookAnswer::Summed | BookAnswer::Tabled) => empty(),
+        Ok(BookAnswer::Begun) => numbers_line(b'N', &[]),
+        Ok(BookAnswer::Added(k)) => numbers_line(b'A', &[k]),
+        Ok(BookAnswer::Struck(k)) => numbers_line(b'K', &[k]),
+        Ok(BookAnswer::Summed | BookAnswer::Tabled) => Page::empty(),
         Err(refusal) => refused(refusal),
     }
 }

@@ -16,11 +16,8 @@ use Rattle.scatter.specs.Table.{table_of}
 use Rattle.scatter.specs.declared.table.Table.{Table}
 use Rattle.job_table.specs.Table.{samples_text}
 use Rattle.book_text.specs.Answers.{call_text}
-use Rattle.book_text.specs.declared.page.Page.{Page}
 use Rattle.call_text.specs.Calls.{argument}
-use Rattle.book_text.specs.Pages.{Pages}
 use Rattle.book_text.specs.declared.call.BookPlay.{BookPlay}
-use Rattle.book_text.specs.declared.step.BookStep.{BookStep}
 
 -- each number after a tab
 unfoldable pub naturals : List ℕ → List ℕ
@@ -48,7 +45,7 @@ number_alone (x ∷ y ∷ xs) = None
 -- a call on the book b: the book after it, and what it prints
 pub record Plays (b : Book) (call : BookCall) (z : BookPlay) : Type 0 where
   pub leaves : z.book ≡ book_after b call
-  pub page : Pages (call_text b call) z.page
+  pub page : z.page ≡ call_text b call
   pub keeps : Consistent z.book
 
 -- the call of a line, if it is one, on the book b
@@ -56,16 +53,11 @@ pub data PlaysCall (b : Book) : Option BookCall → Option BookPlay → Type 0 w
   no_call : PlaysCall b None None
   plays : {call : BookCall} {z : BookPlay} → Plays b call z → PlaysCall b (Some call) (Some z)
 
--- the text's end, or a line that is no call: no line is played after it
-pub record Stops (text : List ℕ) (z : BookStep) : Type 0 where
-  pub page : Pages text z.page
-  pub ends : z.next ≡ None
-
--- a table, in an array: where it is that of samples, their text
-pub record TablePage (n k : ℕ) (table : Table) (r : Page) : Type 0 where
-  pub page : (ss : List Sample) → table ≡ table_of n ss → Pages (samples_text n k ss) r
+-- a table, on a page: where it is that of samples, their text
+pub record TablePage (n k : ℕ) (table : Table) (r : List ℕ) : Type 0 where
+  pub page : (ss : List Sample) → table ≡ table_of n ss → r ≡ samples_text n k ss
 
 -- the book after a call, and the line of its answer
 pub record ShortPlay (z : Changed) (r : BookPlay) : Type 0 where
   pub book : r.book ≡ z.book
-  pub page : Pages (short_text z.answer) r.page
+  pub page : r.page ≡ short_text z.answer

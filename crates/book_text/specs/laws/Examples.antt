@@ -17,16 +17,16 @@ use Rattle.book.specs.Calls.{answer_then, book_after, book_answer, book_refusal,
 use Rattle.call_text.specs.Calls.{argument, number_limit, reading}
 use Rattle.call_text.specs.Fields.{of_fields, with_numbers}
 use Rattle.call_text.specs.Numbers.{each_number, numeral, signed_of, stands_for, unsigned_of, with_minus, without_minus}
-use Rattle.play.specs.Text.{unknown_line}
+use Rattle.play.specs.Text.{line_then, played_from, text_played, unknown_line}
 use Rattle.book_text.specs.Answers.{answer_text, call_text, cross_row, cross_rows, sums_line}
 use Rattle.book_text.specs.Calls.{book_call_by, book_call_of, no_number_of, one_number_of, sample_by}
-use Rattle.book_text.specs.Text.{book_line_then, book_played, summary_text}
+use Rattle.book_text.specs.Text.{book_answers, book_plays, no_receiver, summary_text}
 
 pub examples :
     (summary_text false (ascii "K\t1\nZ\n") ≡ ascii "X\t2\nX\t2\n")
     × (summary_text true (ascii "N\t2\n") ≡ ascii "N\n?\t2\n")
     × (summary_text false (ascii "N\t2\nA\t2\t3\t4\nZ\nK\t1\nB\n") ≡ ascii "N\nA\t1\nZ\t1\t6\t8\t36\t48\t64\nK\t0\nZ\t0\t0\t0\t0\t0\t0\n")
-unfolding judged ascii summary_text book_played book_line_then unknown_line split onto book_call_of of_fields with_numbers book_call_by one_number_of
+unfolding judged ascii summary_text text_played played_from line_then book_plays book_answers no_receiver unknown_line split onto book_call_of of_fields with_numbers book_call_by one_number_of
     no_number_of sample_by
     number_limit argument reading each_number before signed_of with_minus without_minus unsigned_of stands_for numeral leading_zero value_from
     all_within within
