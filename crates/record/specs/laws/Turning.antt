@@ -70,8 +70,8 @@ module _ (w : Work) (pair : Pair) (b : w.n ≤ 8) (k : KeptWork w) (pq : pair.p 
       bound : squares w.n (turned r pair.p pair.q (at w.matrix)) ≤ matrix_bound (suc w.m) * matrix_bound (suc w.m)
       bound =
           rw grown at
-          (turned-squares r w.n pair.p pair.q pq qn (rotation_of-whole picked.l picked.minus) b (at w.matrix) (λ i j o m. k.symmetric i j) (matrix_bound w.m)
-          k.norm)
+          (turned-squares r w.n pair.p pair.q pq qn (rotation_of-whole picked.l picked.minus) b (at w.matrix) (λ i j o m. k.symmetric i j)
+          (matrix_bound w.m) k.norm)
         where
           grown : matrix_bound w.m + 4 ≡ matrix_bound (suc w.m)
           grown = omega arith
@@ -85,7 +85,10 @@ module _ (w : Work) (pair : Pair) (b : w.n ≤ 8) (k : KeptWork w) (pq : pair.p 
           grown : axes_bound w.m + 1 ≡ axes_bound (suc w.m)
           grown = omega arith
       column j (no h) =
-          rw (sumℕ-cong w.n (λ i l. ap sq (axes i j ∙ in_use-outside w.n _ i j (rw (lt-ltb i w.n l, le-ltb j w.n (omega arith)))) ∙ sq_pos 0), sumℕ-const w.n 0)
+          rw (
+            sumℕ-cong w.n (λ i l. ap sq (axes i j ∙ in_use-outside w.n _ i j (rw (lt-ltb i w.n l, le-ltb j w.n (omega arith)))) ∙ sq_pos 0),
+            sumℕ-const w.n 0,
+          )
           (omega arith)
 
   pub work-keeps : KeptWork (work_pair w pair)

@@ -17,7 +17,8 @@ use Rattle.record.proofs.solver.Solver.load_samples.Goals as goal
 
 pub returns-in-Err : goal.returns-in-Err
 returns-in-Err c =
-    refuses c.args.self (load_samples c.args.samples.now.n c.args.samples.now.dilutions.now c.args.samples.now.counts.now) c.requires _ (sym (samples-alone _ _ _ _ _)) _ _
+    refuses c.args.self (load_samples c.args.samples.now.n c.args.samples.now.dilutions.now c.args.samples.now.counts.now) c.requires _
+    (sym (samples-alone _ _ _ _ _)) _ _
     c.in-Err.ensures c.refuse.ensures
 
 pub table_of_readings-table-requires : goal.table_of_readings-table-requires
@@ -44,7 +45,8 @@ same-table n ss t e = rw e (ap (λ l. loaded_solver n l (shift (scatter n ss))) 
 pub returns : goal.returns
 unfolding value_of accepted_of_under samples_solver table_under table_from_under
 returns c =
-    accepted c.args.self (load_samples c.args.samples.now.n c.args.samples.now.dilutions.now c.args.samples.now.counts.now) c.requires _ (sym (samples-alone _ _ _ _ _)) _ _
+    accepted c.args.self (load_samples c.args.samples.now.n c.args.samples.now.dilutions.now c.args.samples.now.counts.now) c.requires _
+    (sym (samples-alone _ _ _ _ _)) _ _
     c.in_default.ensures
     (ap (λ (x : Table). SamplesLoaded x.e) c.table_of_readings-table.ensures)
     (c.of_table.ensures.is ∙ same-table c.args.samples.now.n _ _ c.table_of_readings-table.ensures)
