@@ -2,9 +2,8 @@
 // line of refusal 16; or `?` and the number of the first argument whose file can't be opened.
 #![tactic(auto)]
 
-ghost use Rattle.std.specs.Prelude.{◌+◌, ◌≤◌, IfSome, MatchResult, length};
+ghost use Rattle.std.specs.Prelude.{◌+◌, ◌≤◌, IfErr, IfSome, length};
 ghost use Rattle.limits.specs.Limits.{most_jobs};
-ghost use Rattle.season_report.specs.Limits.{SeasonLimits};
 
 use limits::MOST_BYTES;
 use refusal::Refusal;
@@ -29,7 +28,7 @@ fn read_file<R: Env + Files>(rt: &R, i: usize, text: &mut [u8; MOST_BYTES]) -> O
 // The season of the files; or the number of the first argument without one, from 1.
 fn take_files<R: Env + Files>(rt: &R, files: usize) -> Result<Season, usize>
     requires { files ≤ most_jobs }
-    ensures { MatchResult result SeasonLimits (λ missing. missing ≤ files) }
+    ensures { IfErr result (λ missing. missing ≤ files) }
 {
     let mut season = Season::new();
     let mut text = [0u8; MOST_BYTES];
@@ -50,9 +49,7 @@ fn print_number(rt: &impl Print, tag: u8, number: usize) -> io::Result<()>
     rt.write_all(&out[..length])
 }
 
-fn print_season(rt: &impl Print, season: Season) -> io::Result<()>
-    requires { SeasonLimits season }
-{
+fn print_season(rt: &impl Print, season: Season) -> io::Result<()> {
     let mut out = [0u8; LINE];
     match season.write_line(&mut out) {
         Ok(length) => rt.write_all(&out[..length]),

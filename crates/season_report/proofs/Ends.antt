@@ -13,10 +13,9 @@ use Rattle.std.proofs.lemmas.Bool.{and_parts}
 use Rattle.integer.specs.Within.{within}
 use Rattle.integer.specs.laws.Within.{is_within}
 use Rattle.limits.specs.Limits.{most_jobs}
-use Rattle.season_report.specs.Limits.{SeasonLimits}
 use Rattle.season_report.specs.Season.{empty_season, season_after_under, season_from_under}
 use Rattle.season_report.specs.Text.{season_line}
-use Rattle.season_report.specs.Texts.{SeasonOf, WritesSeason, ends_refusal, ends_within, texts_from, texts_line}
+use Rattle.season_report.specs.Texts.{WritesSeason, ends_refusal, ends_within, texts_from, texts_line, texts_season}
 use Rattle.season_report.proofs.Reported.{reported-all}
 use Rattle.season_report.specs.Done.{WritesLine}
 use Rattle.refusal.specs.Refusal.{judged}
@@ -53,11 +52,10 @@ pub record TextsLeft (bytes ends : List ℕ) (s : Season) (start i : ℕ) : Type
   pub few : i ≤ length ends
   pub ordered : ends_within start (length bytes) (drop i ends) ≡ true
   pub same : season_from_under most_jobs s (texts_from start bytes (drop i ends)) ≡ season_from_under most_jobs empty_season (texts_from 0 bytes ends)
-  pub held : SeasonLimits s
 
 module _ (bytes ends : List ℕ) where
-  pub all_left : ends_within 0 (length bytes) ends ≡ true → (s : Season) → s ≡ empty_season → SeasonLimits s → TextsLeft bytes ends s 0 0
-  all_left h s e l = record { few = omega arith; ordered = h; same = ap (λ z. season_from_under most_jobs z (texts_from 0 bytes ends)) e; held = l }
+  pub all_left : ends_within 0 (length bytes) ends ≡ true → (s : Season) → s ≡ empty_season → TextsLeft bytes ends s 0 0
+  all_left h s e = record { few = omega arith; ordered = h; same = ap (λ z. season_from_under most_jobs z (texts_from 0 bytes ends)) e }
 
   module _ (s : Season) (start i : ℕ) (left : TextsLeft bytes ends s start i) where
     pub end-between : i < length ends → (start ≤ get_or ends i 0) × (get_or ends i 0 ≤ length bytes)
@@ -66,20 +64,19 @@ module _ (bytes ends : List ℕ) where
         (and_parts (within start (length bytes) (get_or ends i 0)) _ (sym (next-end start (length bytes) ends i h) ∙ left.ordered)).0
 
     pub one-taken : i < length ends → (z : Season) → z ≡ season_after_under most_jobs s (take (get_or ends i 0 - start) (drop start bytes)) →
-        SeasonLimits z → TextsLeft bytes ends z (get_or ends i 0) (i + 1)
+        TextsLeft bytes ends z (get_or ends i 0) (i + 1)
     unfolding season_from_under texts_from
-    one-taken h z e l =
+    one-taken h z e =
         let d = drop-cons ends i 0 h in
         record {
           few = omega arith;
           ordered = (and_parts (within start (length bytes) (get_or ends i 0)) _ (sym (next-end start (length bytes) ends i h) ∙ left.ordered)).1;
           same = rw (e, add-one i) (rw d at left.same);
-          held = l;
         }
 
-    pub none_left : i ≡ length ends → SeasonOf bytes ends s
-    unfolding season_from_under texts_from
-    none_left e = record { is = rw (e, drop-length ends) at left.same; held = left.held }
+    pub none_left : i ≡ length ends → s ≡ texts_season bytes ends
+    unfolding season_from_under texts_from texts_season
+    none_left e = rw (e, drop-length ends) at left.same
 
 -- the refusal of the ends
 module _ (size : ℕ) (ends : List ℕ) where
@@ -108,13 +105,13 @@ module _ (size : ℕ) (ends : List ℕ) where
       by true p false q e = absurd (omega arith)
       by false p u q e = absurd (omega arith)
 
-pub line_of : (bytes ends : List ℕ) (z : Season) → SeasonOf bytes ends z → length ends ≤ most_jobs → season_line z ≡ texts_line bytes ends
-unfolding texts_line
+pub line_of : (bytes ends : List ℕ) (z : Season) → z ≡ texts_season bytes ends → length ends ≤ most_jobs → season_line z ≡ texts_line bytes ends
+unfolding texts_line texts_season
 line_of bytes ends z o h =
-    ap season_line (o.is ∙ reported-all most_jobs (texts_from 0 bytes ends) (rw (texts-count 0 bytes ends) h))
+    ap season_line (o ∙ reported-all most_jobs (texts_from 0 bytes ends) (rw (texts-count 0 bytes ends) h))
 
 pub all-written : (bytes ends : List ℕ) (z : Season) {entry exit : List ℕ} {r : Result ℕ Refusal} → ends_refusal (length bytes) ends ≡ 0 →
-    SeasonOf bytes ends z → WritesLine z entry exit r → WritesSeason bytes ends entry exit r
+    z ≡ texts_season bytes ends → WritesLine z entry exit r → WritesSeason bytes ends entry exit r
 all-written bytes ends z e o w =
     let l = line_of bytes ends z o (taken (length bytes) ends e).1 in
     record { writes = rw (e, ← l) w.writes; few = λ h. rw (← l) w.few }

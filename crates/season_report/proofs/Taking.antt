@@ -12,22 +12,21 @@ use Rattle.refusal.specs.laws.Numbers.{numbered-number_of}
 use Rattle.report.specs.Report.{run_for}
 use Rattle.season_report.specs.Done.{Takes}
 use Rattle.season_report.specs.Job.{JobEnd, end_by, end_of, ran, refused_under}
-use Rattle.season_report.specs.Limits.{SeasonLimits}
 use Rattle.season_report.specs.Season.{added, answer_of, season_after_under, taken_as_under, too_many}
 use Rattle.season_report.specs.declared.Season.{Season}
 use Rattle.season_report.specs.declared.Taken.{Taken}
 
 module _ (s : Season) (text : List ℕ) where
-  pub taken-full : most_jobs ≤ s.jobs → SeasonLimits s → Takes s text (record { answer = too_many; next = s })
+  pub taken-full : most_jobs ≤ s.jobs → Takes s text (record { answer = too_many; next = s })
   unfolding taken_as_under season_after_under
-  taken-full h l = record { answer = rw (le-ltb s.jobs most_jobs h); next = rw (le-ltb s.jobs most_jobs h); held = l }
+  taken-full h = record { answer = rw (le-ltb s.jobs most_jobs h); next = rw (le-ltb s.jobs most_jobs h) }
 
   pub taken-job : (z : Taken) (e : JobEnd) → s.jobs < most_jobs → z.answer ≡ answer_of (job_of text) → end_of text ≡ e →
-      z.next ≡ added s e → SeasonLimits z.next → Takes s text z
+      z.next ≡ added s e → Takes s text z
   unfolding taken_as_under season_after_under
-  taken-job z e h a q n l =
+  taken-job z e h a q n =
       let t = lt-ltb s.jobs most_jobs h in
-      record { answer = rw t a; next = rw (t, q) n; held = l }
+      record { answer = rw t a; next = rw (t, q) n }
 
 module _ (text : List ℕ) where
   -- a text that is refused when it is read: the answer is that refusal, and the job ends by it

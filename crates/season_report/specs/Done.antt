@@ -1,22 +1,16 @@
--- What a season's constructor and its calls ensure.
+-- What a season's calls ensure.
 use Rattle.std.specs.Prelude.{ℕ, ◌≤◌, ◌≡◌, List, Result, length}
 use Rattle.limits.specs.Limits.{most_jobs}
 use Rattle.text.specs.Written.{Writes}
 use Rattle.refusal.specs.declared.Refusal.{Refusal}
-use Rattle.season_report.specs.Limits.{SeasonLimits}
-use Rattle.season_report.specs.Season.{empty_season, season_after_under, taken_as_under}
+use Rattle.season_report.specs.Season.{season_after_under, taken_as_under}
 use Rattle.season_report.specs.Text.{season_line}
 use Rattle.season_report.specs.declared.Season.{Season}
 use Rattle.season_report.specs.declared.Taken.{Taken}
 
-pub record Opens (z : Season) : Type 0 where
-  pub is : z ≡ empty_season
-  pub held : SeasonLimits z
-
 pub record Takes (s : Season) (text : List ℕ) (z : Taken) : Type 0 where
   pub answer : z.answer ≡ taken_as_under most_jobs s text
   pub next : z.next ≡ season_after_under most_jobs s text
-  pub held : SeasonLimits z.next
 
 -- the line is written, or refused 12; it has at most 252 bytes
 pub record WritesLine (s : Season) (entry exit : List ℕ) (r : Result ℕ Refusal) : Type 0 where

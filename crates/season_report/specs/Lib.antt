@@ -2,6 +2,7 @@ pub mod Lists
 pub mod Job
 pub mod Figures
 pub mod Season
+pub mod SeasonFigures
 pub mod Largest
 pub mod Limits
 pub mod Text

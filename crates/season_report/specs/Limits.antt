@@ -4,6 +4,7 @@ use Rattle.std.specs.Prelude.{ℕ, ◌*◌, ◌^◌, ◌≤◌, ◌<◌, get_or,
 use Rattle.limits.specs.Limits.{most_channels, most_jobs, turn_limit}
 use Rattle.season_report.specs.declared.LargestError.{LargestError}
 use Rattle.season_report.specs.declared.Season.{Season}
+use Rattle.season_report.specs.declared.Season.TheInside.{Inside}
 
 pub record LargestLimits (jobs : ℕ) (largest : LargestError) : Type 0 where
   pub error : largest.error < 2 ^ 63
@@ -18,3 +19,16 @@ pub record SeasonLimits (s : Season) : Type 0 where
   pub refused : (i : ℕ) → get_or s.refused i 0 ≤ s.jobs
   pub turns : s.turns ≤ turn_limit * s.jobs
   pub largest : IfSome s.largest (LargestLimits s.jobs)
+
+-- the fields are the figures
+abbrev pub figures_in : Inside → Season
+figures_in a =
+    record {
+      jobs = a.jobs;
+      settled = a.settled;
+      still = a.still;
+      spent = a.spent;
+      refused = a.refused;
+      turns = a.turns;
+      largest = a.largest;
+    }

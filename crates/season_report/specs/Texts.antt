@@ -7,7 +7,6 @@ use Rattle.limits.specs.Unless.{unless}
 use Rattle.text.specs.Written.{Writes}
 use Rattle.refusal.specs.declared.Refusal.{Refusal}
 use Rattle.season_report.specs.Figures.{text_figures}
-use Rattle.season_report.specs.Limits.{SeasonLimits}
 use Rattle.season_report.specs.Season.{empty_season, season_from_under}
 use Rattle.season_report.specs.Text.{season_line}
 use Rattle.season_report.specs.declared.Season.{Season}
@@ -30,9 +29,8 @@ unfoldable pub texts_line : List ℕ → List ℕ → List ℕ
 texts_line bytes ends = season_line (text_figures (texts_from 0 bytes ends))
 
 -- the season after these texts
-pub record SeasonOf (bytes ends : List ℕ) (z : Season) : Type 0 where
-  pub is : z ≡ season_from_under most_jobs empty_season (texts_from 0 bytes ends)
-  pub held : SeasonLimits z
+unfoldable pub texts_season : List ℕ → List ℕ → Season
+texts_season bytes ends = season_from_under most_jobs empty_season (texts_from 0 bytes ends)
 
 -- the line is written, or refused 2, 16 or 12; it has at most 252 bytes
 pub record WritesSeason (bytes ends entry exit : List ℕ) (r : Result ℕ Refusal) : Type 0 where

@@ -4,7 +4,6 @@ ghost use Rattle.limits.specs.Limits.{most_jobs};
 ghost use Rattle.record.specs.Kept.{Kept};
 ghost use Rattle.refusal.specs.Refusal.{number_of};
 ghost use Rattle.season_report.specs.Job.{error_at, ran, record_errors, refused_under};
-ghost use Rattle.season_report.specs.Limits.{SeasonLimits};
 ghost use Rattle.season_report.specs.Season.{added, larger, overtakes};
 
 use crate::{LargestError, Season};
@@ -54,8 +53,8 @@ fn with_errors(mut largest: Option<LargestError>, job: u64, r: Record) -> Option
 
 // A refused job, counted under its number: one of 1 to 4, as that of each text that is refused.
 pub(crate) fn with_refused(s: Season, refusal: Refusal) -> Season
-    requires { SeasonLimits s × (s.jobs < most_jobs) }
-    ensures { (result ≡ added s (refused_under (number_of refusal))) × SeasonLimits result }
+    requires { s.jobs < most_jobs }
+    ensures { result ≡ added s (refused_under (number_of refusal)) }
 {
     let mut refused = s.refused;
     let place = refusal.number() as usize - 1;
@@ -72,8 +71,8 @@ pub(crate) fn with_refused(s: Season, refusal: Refusal) -> Season
 
 // An accepted job, by its run. Jobs are numbered from 1.
 pub(crate) fn with_run(s: Season, run: Run) -> Season
-    requires { SeasonLimits s × (s.jobs < most_jobs) × Kept run.last }
-    ensures { (result ≡ added s (ran run)) × SeasonLimits result }
+    requires { (s.jobs < most_jobs) × Kept run.last }
+    ensures { result ≡ added s (ran run) }
 {
     let outcome = run.outcome;
     let last = run.last;

@@ -5,11 +5,13 @@ pub mod job_end;
 pub mod line;
 pub mod texts;
 
-ghost use Rattle.season_report.specs.Done.{Opens, Takes, WritesLine};
-ghost use Rattle.season_report.specs.Limits.{SeasonLimits};
+ghost use Rattle.std.specs.Prelude.{◌≡◌};
+ghost use Rattle.season_report.specs.Done.{Takes, WritesLine};
+ghost use Rattle.season_report.specs.Season.{empty_season};
 
 use job::RefusedLine;
 use refusal::Refusal;
+use std::marker::Model;
 
 // How many jobs were taken, how they ended or under which number from 1 to 4 they were refused, the turns of all, and the largest error of an axis,
 // of which there is none before a job is accepted.
@@ -22,6 +24,18 @@ pub struct Season {
     refused: [u64; 4],
     turns: u64,
     largest: Option<LargestError>,
+}
+
+impl Model for Season {
+    ghost use Rattle.season_report.specs.SeasonFigures.{SeasonFigures};
+
+    ghost Value = { SeasonFigures };
+
+    ghost use Rattle.season_report.specs.Limits.{SeasonLimits, figures_in};
+
+    ghost view = { figures_in };
+
+    ghost invariant = { λ a. SeasonLimits (figures_in a) };
 }
 
 // The largest error of an axis, with the first job and the lowest axis in it that have it; both are numbered from 1.
@@ -44,7 +58,7 @@ impl Season {
 
     // No job yet.
     pub fn new() -> Self
-        ensures { Opens result }
+        ensures { result ≡ empty_season }
     {
         Season {
             jobs: 0,
@@ -59,7 +73,6 @@ impl Season {
 
     // One job text more: accepted, or refused 1 to 4 with its line; the 10,001st is refused 16, unread.
     pub fn take(self, text: &[u8]) -> Taken
-        requires { SeasonLimits self }
         ensures { Takes self text.now result }
     {
         if Season::MOST_JOBS <= self.jobs {
@@ -86,7 +99,6 @@ impl Season {
 
     // The line of the figures, into a lent buffer.
     pub fn write_line(self, out: &mut [u8]) -> Result<usize, Refusal>
-        requires { SeasonLimits self }
         ensures { WritesLine self out.old out.new result }
     {
         let numbers = line::numbers_of(self);

@@ -1,6 +1,5 @@
 // The line of the figures: numbers parted by tabs.
 ghost use Rattle.std.specs.Prelude.{◌≤◌, pos, length, map, ◌≡◌};
-ghost use Rattle.season_report.specs.Limits.{SeasonLimits};
 ghost use Rattle.season_report.specs.Text.{season_numbers};
 ghost use Rattle.text.specs.Decimal.{number};
 ghost use Rattle.text.specs.Line.{line};
@@ -12,7 +11,6 @@ use text::{put_byte, put_number};
 
 // Where there is no largest error, it is printed as 0 of job 0 and axis 0.
 pub(crate) fn numbers_of(s: Season) -> [i64; 12]
-    requires { SeasonLimits s }
     ensures { result ≡ map pos (season_numbers s) }
 {
     let largest = s.largest.unwrap_or(LargestError {

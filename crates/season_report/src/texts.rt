@@ -1,7 +1,7 @@
 // A season of texts that stand one after another in one buffer, each to before its end.
 ghost use Rattle.std.specs.Prelude.{true, ◌≡◌, length};
 ghost use Rattle.refusal.specs.Refusal.{judged};
-ghost use Rattle.season_report.specs.Texts.{SeasonOf, WritesSeason, ends_refusal, ends_within};
+ghost use Rattle.season_report.specs.Texts.{WritesSeason, ends_refusal, ends_within, texts_season};
 
 use crate::Season;
 use refusal::Refusal;
@@ -34,7 +34,7 @@ fn check_ends(size: usize, ends: &[usize]) -> Result<(), Refusal>
 
 fn season_of(texts: &[u8], ends: &[usize]) -> Season
     requires { ends_within 0 (length texts.now) ends.now ≡ true }
-    ensures { SeasonOf texts.now ends.now result }
+    ensures { result ≡ texts_season texts.now ends.now }
 {
     let mut season = Season::new();
     let mut start = 0;

@@ -14,19 +14,17 @@ none-refused (suc (suc zero)) = omega arith
 none-refused (suc (suc (suc zero))) = omega arith
 none-refused (suc (suc (suc (suc i)))) = omega arith
 
+pub invariant_of-result : goal.invariant_of-result
+invariant_of-result c = record {
+  jobs = omega arith;
+  settled = omega arith;
+  still = omega arith;
+  spent = omega arith;
+  refused = none-refused;
+  turns = omega arith;
+  largest = tt;
+}
+
 pub returns : goal.returns
 unfolding empty_season figures_of total_of largest_error first_job lowest_axis job_numbered first_from errors_of flat_map largest_of named
-returns c =
-    record {
-      is = refl;
-      held =
-          record {
-            jobs = omega arith;
-            settled = omega arith;
-            still = omega arith;
-            spent = omega arith;
-            refused = none-refused;
-            turns = omega arith;
-            largest = tt;
-          };
-    }
+returns c = refl

@@ -1,12 +1,14 @@
 -- `season_report::job_end::with_run` meets its contract.
-use Rattle.std.proofs.Common.{◌≡◌, cond, refl, sym, ap, subst, ◌∙◌, length, rules}
+use Rattle.std.proofs.Common.{◌≡◌, ◌<◌, cond, refl, sym, ap, subst, ◌∙◌, arith, length, rules}
+use Rattle.limits.specs.Limits.{most_jobs}
+use Rattle.season_report.specs.declared.Season.{Season}
 use denote.Enum.Bare.{sameb}
 use mir.Val.{bool_byte}
 use Rattle.record.specs.contracts.run.Outcome.{the_type}
 use Rattle.record.specs.declared.run.Outcome.{Outcome}
 use Rattle.record.specs.declared.run.Outcome.TheVariants.{Settled, Still, Spent}
 use Rattle.season_report.specs.Job.{is_settled, is_spent, is_still, ran}
-use Rattle.season_report.specs.Limits.{SeasonLimits}
+use Rattle.season_report.specs.Limits.{SeasonLimits, figures_in}
 use Rattle.season_report.specs.laws.Limits.{limits-more, run-limits}
 use Rattle.season_report.proofs.Added.{run-added}
 use Rattle.season_report.proofs.job_end.with_run.Goals as goal
@@ -30,15 +32,26 @@ spent-counts Settled = refl
 spent-counts Still = refl
 spent-counts Spent = refl
 
-pub returns : goal.returns
-returns c =
-    let s = c.args.s in
+pub invariant_of-result : goal.invariant_of-result
+invariant_of-result c =
     let run = c.args.run in
-    let n : length s.refused ≡ 4 = search rules in
-    let e =
-    run-added s run
+    let n : length c.s.inside.refused ≡ 4 = search rules in
+    let few : c.s.inside.jobs < most_jobs = omega (arith, ap (λ (s : Season). s.jobs) c.s.view_is, c.requires.0) in
+    subst SeasonLimits
+    (sym (run-added (figures_in c.s.inside) run
     (c.from.ensures ∙ ap bool_byte c.eq.ensures ∙ settled-counts run.outcome)
     (c.from-2.ensures ∙ ap bool_byte c.eq-2.ensures ∙ still-counts run.outcome)
     (c.from-3.ensures ∙ ap bool_byte c.eq-3.ensures ∙ spent-counts run.outcome)
-    c.turns.ensures n c.with_errors.ensures in
-    (e, subst SeasonLimits (sym e) (limits-more s (ran run) c.requires.0 c.requires.1 (run-limits run c.requires.2)))
+    c.turns.ensures n c.with_errors.ensures))
+    (limits-more (figures_in c.s.inside) (ran run) c.s.invariant few (run-limits run c.requires.1))
+
+pub returns : goal.returns
+returns c =
+    let run = c.args.run in
+    let n : length c.s.inside.refused ≡ 4 = search rules in
+    rw (← c.s.view_is)
+    (run-added (figures_in c.s.inside) run
+    (c.from.ensures ∙ ap bool_byte c.eq.ensures ∙ settled-counts run.outcome)
+    (c.from-2.ensures ∙ ap bool_byte c.eq-2.ensures ∙ still-counts run.outcome)
+    (c.from-3.ensures ∙ ap bool_byte c.eq-3.ensures ∙ spent-counts run.outcome)
+    c.turns.ensures n c.with_errors.ensures)

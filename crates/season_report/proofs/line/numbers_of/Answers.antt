@@ -34,12 +34,12 @@ limits (Some x) jobs h = h
 pub returns : goal.returns
 unfolding season_numbers
 returns c =
-    let s = c.args.s in
-    let l = c.requires in
+    let s = c.s.inside in
+    let l = c.s.invariant in
     let x = c.unwrap_or-largest.result in
     let e : x ≡ largest_or_0 s.largest = c.unwrap_or-largest.ensures in
     let m = subst (LargestLimits s.jobs) (sym e) (limits s.largest s.jobs l.largest) in
-    (λ i.
+    rw (← c.s.view_is) ((λ i.
     to_z-of_z (held s.jobs (omega (arith, l.jobs))) i
     ∷ to_z-of_z (held s.settled (omega (arith, l.jobs, l.settled))) i
     ∷ to_z-of_z (held s.still (omega (arith, l.jobs, l.still))) i
@@ -54,4 +54,4 @@ returns c =
     ∷ to_z-of_z (held x.axis (omega (arith, m.axis))) i
     ∷ [])
     ∙ ap (λ (ns : List ℕ). map pos (s.jobs ∷ s.settled ∷ s.still ∷ s.spent ∷ get_or s.refused 0 0 ∷ get_or s.refused 1 0 ∷ get_or s.refused 2 0
-    ∷ get_or s.refused 3 0 ∷ s.turns ∷ ns)) (ap (λ (y : LargestError). y.error ∷ y.job ∷ y.axis ∷ []) e ∙ three s.largest)
+    ∷ get_or s.refused 3 0 ∷ s.turns ∷ ns)) (ap (λ (y : LargestError). y.error ∷ y.job ∷ y.axis ∷ []) e ∙ three s.largest))

@@ -4,7 +4,7 @@ use Rattle.season_report.proofs.Ends.{all_left, end-between, none_left, one-take
 use Rattle.season_report.proofs.texts.season_of.Goals as goal
 
 pub loop-end-init : goal.loop-end-init
-loop-end-init c = all_left c.args.texts.now c.args.ends.now c.requires _ c.new-season.ensures.is c.new-season.ensures.held
+loop-end-init c = all_left c.args.texts.now c.args.ends.now c.requires _ c.new-season.ensures
 
 pub slice_bounds-take-count : goal.slice_bounds-take-count
 slice_bounds-take-count c = let p = c.loop-end in (end-between _ _ _ p.start p.end-index p.invariant c.loop-end-test.true).0
@@ -18,7 +18,7 @@ slice_bounds-take-end c = let p = c.loop-end in (end-between _ _ _ p.start p.end
 pub loop-end-preserved : goal.loop-end-preserved
 loop-end-preserved c =
     let p = c.loop-end in
-    one-taken _ _ _ p.start p.end-index p.invariant c.loop-end-test.true _ c.take-taken.ensures.next c.take-taken.ensures.held
+    one-taken _ _ _ p.start p.end-index p.invariant c.loop-end-test.true _ c.take-taken.ensures.next
 
 pub returns : goal.returns
 returns c = let p = c.loop-end in none_left _ _ _ p.start p.end-index p.invariant (omega (arith, p.invariant.few, c.loop-end-test.false))
