@@ -50,6 +50,7 @@ fn outcome_number(outcome: Outcome) -> i64
 }
 
 // The numbers of axes 1 to n, each after the one before it.
+// Tried without Wide, and the proof didn't close: each row's length is needed for all i at once, and of the type that "does not follow".
 fn put_axes(n: usize, axes: &[[i64; 11]; 8], out: &mut [i64]) -> usize
     requires { (n ≤ 8) × Wide axes.now × (n * (n + 2) ≤ length out.old) }
     ensures { Put (used n axes.now n) 0 out.old out.new result }
