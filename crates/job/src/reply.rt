@@ -15,6 +15,6 @@ pub fn put_reply(reply: Result<usize, RefusedLine>, out: &mut [u8]) -> usize
 {
     match reply {
         Ok(length) => length,
-        Err(refused) => put_refusal(out, refused.refusal, refused.line),
+        Err(refused) => put_refusal(out, refused.refusal.number(), refused.line),
     }
 }

@@ -1,11 +1,9 @@
 // Writers of lines into a lent buffer: fields parted by one tab, each line ended by a line feed.
 ghost use Rattle.std.specs.Prelude.{◌+◌, ◌*◌, ◌≤◌, ◌<◌, ◌^◌, length};
-ghost use Rattle.refusal.specs.Refusal.{number_of};
 ghost use Rattle.text.specs.Put.{Put, Sized};
 ghost use Rattle.text.specs.Line.{numbers, number_line, word_line, line_x};
 
 use crate::{number_length, put_byte, put_bytes, put_natural, put_number};
-use refusal::Refusal;
 
 // What parts the fields of a line, and what ends it.
 pub const TAB: u8 = b'\t';
@@ -59,14 +57,14 @@ pub fn put_word_line(buf: &mut [u8], tag: u8, values: &[i64], word: &[u8]) -> us
     at + put_byte(&mut buf[at..], LINE_FEED)
 }
 
-// The line of a refusal.
-pub fn put_refusal(buf: &mut [u8], refusal: Refusal, line: usize) -> usize
+// The line of a refusal, which is given by its number: the line is of any number that a caller has, the 16 of `Refusal` or another.
+pub fn put_refusal(buf: &mut [u8], number: u32, line: usize) -> usize
     requires { 44 ≤ length buf.old }
-    ensures { Put (line_x (number_of refusal) line) 0 buf.old buf.new result }
+    ensures { Put (line_x number line) 0 buf.old buf.new result }
 {
     let mut at = put_byte(buf, b'X');
     at += put_byte(&mut buf[at..], TAB);
-    at += put_natural(&mut buf[at..], u64::from(refusal.number()));
+    at += put_natural(&mut buf[at..], u64::from(number));
     at += put_byte(&mut buf[at..], TAB);
     at += put_natural(&mut buf[at..], line as u64);
     at + put_byte(&mut buf[at..], LINE_FEED)

@@ -30,4 +30,4 @@ pub returns : goal.returns
 returns c =
     let number = put-part (put-part c.put_byte-at.ensures c.put_byte-at-2.ensures) c.put_natural-at.ensures in
     let line = put-part (put-part number c.put_byte-at-3.ensures) c.put_natural-at-2.ensures in
-    rw (← c.number.ensures, ← c.from.ensures) (same-put (simp (refusal-line, append_assoc)) (put-part line c.put_byte.ensures))
+    rw (← c.from.ensures) (same-put (simp (refusal-line, append_assoc)) (put-part line c.put_byte.ensures))
