@@ -6,7 +6,7 @@ ghost use Rattle.rounding.specs.Rounding.{rnd};
 ghost use Rattle.rounding.specs.inner.Rounding.{sign};
 
 // −1 for a negative u, and 1 for any other.
-// no plainer: `signum` gives 0 for 0, and a library method, whose body isn't here, may branch (.ci/branchless).
+// No plainer: `signum` gives 0 for 0, and a library method, whose body isn't here, may branch (.ci/branchless).
 #[tactic(auto, using(crate::proofs::Sign::signs))]
 fn sign_of(u: i64) -> i64
     ensures { result ≡ sign u }

@@ -67,7 +67,7 @@ fn largest_of(s: &[i64; 64], size: usize) -> u64
 }
 
 // The shift for the greatest |S_ij|.
-// no plainer: the turns aren't counted ahead, the bound doubles until it is enough.
+// No plainer: how often the bound doubles until it is enough is what is asked; a `for` over 0..62 would end in an exit that no m reaches.
 fn shift_of(m: u64) -> u32
     requires { m < 2 ^ 62 }
     ensures { LeastShift entry_limit m result }

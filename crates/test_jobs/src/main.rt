@@ -85,7 +85,7 @@ fn print_job(rt: &impl Print, text: &[u8], size: usize) -> io::Result<()>
 
 fn print_jobs(rt: &impl Print, jobs: &[u8]) -> io::Result<()> {
     let mut at = 0;
-    // no plainer: where a job ends is known only once its numbers are read, so no range goes over the places
+    // No plainer: where a job ends is known only once its numbers are read, so no range goes over the places
     while at < jobs.len() {
         let job = next_job(jobs, at);
         let start = job.start;

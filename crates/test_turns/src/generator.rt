@@ -85,7 +85,7 @@ pub fn product(x: u64, y: u64) -> u64
     x * y
 }
 
-// no plainer: by from_fn over a table of the offsets each closure needs clauses of its own, and a bound on the table's numbers
+// No plainer: by from_fn over a table of the offsets each closure needs clauses of its own, and a bound on the table's numbers
 #[tactic(auto, using(integer::specs::laws::Word::word), unfolding(turn::specs::Turn::eight, crate::specs::Generator::row_of))]
 fn row(key: u64, most: u64) -> [i64; 8]
     requires { (key < 2 ^ 39) × (3 ≤ most) × (most < 2 ^ 63) }
