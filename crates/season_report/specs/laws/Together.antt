@@ -1,7 +1,7 @@
 -- Outcomes and refusals together make the number of jobs: a text is refused under 1 to 4, or its run ends in one of three ways.
 use Rattle.std.specs.Prelude.{ℕ, zero, suc, ◌+◌, ◌≤◌, ◌≡◌, refl, cond, List, [], ◌∷◌, eqb, sum}
 use Rattle.std.proofs.Common.{arith}
-use Rattle.job.specs.laws.Refusals.{Known, known}
+use Rattle.job.specs.laws.Refusals.{Known, KnownNumber, known}
 use Rattle.job.specs.Job.{Answer, accepted, job_of, refused}
 use Rattle.report.specs.Report.{run_for}
 use Rattle.record.specs.declared.run.Outcome.{Outcome}
@@ -9,6 +9,11 @@ use Rattle.record.specs.declared.run.Outcome.TheVariants.{Settled, Still, Spent}
 use Rattle.season_report.specs.Figures.{figures_of, text_figures}
 use Rattle.season_report.specs.Job.{JobEnd, end_by, end_of, ended_as, is_refused_under, is_settled, is_spent, is_still}
 use Rattle.season_report.specs.Lists.{total_of}
+
+pub refused-numbers : (text : List ℕ) (number line : ℕ) → job_of text ≡ refused number line → (1 ≤ number) × (number ≤ 4)
+refused-numbers text number line e = let k : KnownNumber number = rw e at (known text) in (k.from, k.to)
+
+-- ---- the seven counts
 
 -- what one job adds to each
 counts : JobEnd → ℕ
