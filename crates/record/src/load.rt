@@ -17,7 +17,7 @@ use refusal::Refusal;
 fn is_within(x: i64) -> bool
     ensures { result ≡ leb (nat_abs x) entry_limit }
 {
-    -Record::ENTRY_LIMIT <= x && x <= Record::ENTRY_LIMIT
+    integer::magnitude(x) <= Record::ENTRY_LIMIT as u64
 }
 
 fn all_within(numbers: &[i64]) -> bool
