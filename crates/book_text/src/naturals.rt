@@ -3,7 +3,7 @@ ghost use Rattle.std.specs.Prelude.{◌≡◌, ◌*◌, ◌≤◌, length};
 ghost use Rattle.book_text.specs.Answers.{cross_rows};
 ghost use Rattle.book_text.specs.inner.Played.{NaturalsPut};
 
-use call_text::answer::natural_field;
+use text::line::put_natural_field;
 
 // At the front of the buffer; the answer is how long they are.
 pub(crate) fn put_naturals(buf: &mut [u8], values: &[u64]) -> usize
@@ -12,7 +12,7 @@ pub(crate) fn put_naturals(buf: &mut [u8], values: &[u64]) -> usize
 {
     let mut at = 0;
     for value in values {
-        at += natural_field(&mut buf[at..], *value);
+        at += put_natural_field(&mut buf[at..], *value);
     }
     at
 }

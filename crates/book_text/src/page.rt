@@ -11,12 +11,12 @@ ghost use Rattle.book_text.specs.inner.Played.{TablePage, short_text};
 
 use crate::naturals::{put_cross, put_naturals};
 use book::BookAnswer;
-use call_text::answer::{natural_field, numbers_line};
+use call_text::answer::numbers_line;
 use job_table::lines::put_table;
 use refusal::Refusal;
 use scatter::table::Table;
 use sums::Sums;
-use text::line::LINE_FEED;
+use text::line::{LINE_FEED, put_natural_field};
 use text::page::Page;
 use text::put_byte;
 
@@ -29,7 +29,7 @@ pub(crate) fn sums_page(n: usize, t: Sums) -> Page<2048>
     let cross = t.cross;
     let mut bytes = [0u8; 2048];
     let mut at = put_byte(&mut bytes, b'Z');
-    at += natural_field(&mut bytes[at..], t.k);
+    at += put_natural_field(&mut bytes[at..], t.k);
     at += put_naturals(&mut bytes[at..], &channel[..n]);
     at += put_cross(&mut bytes[at..], &cross, n);
     let len = at + put_byte(&mut bytes[at..], LINE_FEED);

@@ -26,11 +26,6 @@ use Rattle.record.specs.declared.query.Answer.{Answer}
 use Rattle.record.specs.declared.query.Answer.TheVariants.{Turned}
 use Rattle.call_text.specs.Answers.{shown, shown_as}
 use Rattle.call_text.specs.declared.answer.Told.{Told}
-use Rattle.call_text.specs.inner.Answers.{FieldPut}
-
-pub put-field : {t e x y : List ℕ} {r s : ℕ} → Put (9 ∷ []) 0 e x r → Put t 0 (part (length x) r x) y s → length t ≤ 20 →
-    FieldPut t e (with_part (length x) r x y) (r + s)
-put-field p q h = record { puts = put-part p q; bounded = omega (arith, p.answer, q.answer) }
 
 -- the first i numbers, each after a tab
 unfoldable pub naturals : List ℕ → ℕ → List ℕ
@@ -51,13 +46,13 @@ module _ {tag : ℕ} (xs : List ℕ) {e : List ℕ} where
   line-begun p = record { puts = p; bounded = omega (arith, p.answer) }
 
   module _ (i : ℕ) {x y : List ℕ} {r s : ℕ} (b : Begun tag xs i e x r) where
-    pub line-on : i < length xs → FieldPut (digits (get_or xs i 0)) (part (length x) r x) y s →
+    pub line-on : i < length xs → Put (9 ∷ digits (get_or xs i 0)) 0 (part (length x) r x) y s → s ≤ 21 →
         Begun tag xs (i + 1) e (with_part (length x) r x y) (r + s)
-    line-on h q = record {
+    line-on h q few = record {
       puts =
           same-put (append_assoc (tag ∷ []) (naturals xs i) _ ∙ ap (λ (t : List ℕ). tag ∷ t) (sym (naturals_more xs i h)))
-          (put-part b.puts q.puts);
-      bounded = omega (arith, b.bounded, q.bounded);
+          (put-part b.puts q);
+      bounded = omega (arith, b.bounded, few);
     }
 
     pub line-put : i ≡ length xs → Put (10 ∷ []) 0 (part (length x) r x) y s →

@@ -1,4 +1,3 @@
-pub mod Answers
 pub mod Asked
 pub mod Read
 pub mod Parts

@@ -5,13 +5,12 @@ ghost use Rattle.text.specs.Line.{line};
 ghost use Rattle.text.specs.Put.{Put};
 ghost use Rattle.refusal.specs.Refusal.{number_of};
 ghost use Rattle.call_text.specs.Answers.{shown};
-ghost use Rattle.call_text.specs.inner.Answers.{FieldPut};
 
 use record::Answer;
 use refusal::Refusal;
-use text::line::{LINE_FEED, TAB, put_numbers};
+use text::line::{LINE_FEED, put_natural_field, put_numbers};
 use text::page::Page;
-use text::{put_byte, put_bytes, put_natural};
+use text::{put_byte, put_bytes};
 
 // A call's answer, and what its line says beside it: row i of v of an axis call, else 0; the record's channels and its counts of refused calls.
 #[derive(Clone, Copy)]
@@ -20,15 +19,6 @@ pub struct Told {
     pub row: [i64; 8],
     pub n: usize,
     pub refused: [u32; 4],
-}
-
-// A tab and a number, at the front of the buffer; the answer is how long they are.
-pub fn natural_field(buf: &mut [u8], x: u64) -> usize
-    requires { 21 ≤ length buf.old }
-    ensures { FieldPut (digits x) buf.old buf.new result }
-{
-    let at = put_byte(buf, TAB);
-    at + put_natural(&mut buf[at..], x)
 }
 
 fn fixed(text: &[u8]) -> Page<256>
@@ -47,7 +37,7 @@ fn put_naturals_line(buf: &mut [u8], tag: u8, xs: &[u64]) -> usize
 {
     let mut at = put_byte(buf, tag);
     for x in xs {
-        at += natural_field(&mut buf[at..], *x);
+        at += put_natural_field(&mut buf[at..], *x);
     }
     at + put_byte(&mut buf[at..], LINE_FEED)
 }
@@ -70,7 +60,7 @@ fn axis_line(entry: i64, error: u64, row: [i64; 8], n: usize) -> Page<256>
     let mut bytes = [0u8; 256];
     let mut at = put_byte(&mut bytes, b'A');
     at += put_numbers(&mut bytes[at..], &[entry]);
-    at += natural_field(&mut bytes[at..], error);
+    at += put_natural_field(&mut bytes[at..], error);
     at += put_numbers(&mut bytes[at..], &row[..n]);
     let len = at + put_byte(&mut bytes[at..], LINE_FEED);
     Page::new(bytes, len)

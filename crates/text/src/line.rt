@@ -1,5 +1,6 @@
 // Writers of lines into a lent buffer: fields parted by one tab, each line ended by a line feed.
-ghost use Rattle.std.specs.Prelude.{◌+◌, ◌*◌, ◌≤◌, ◌<◌, ◌^◌, length};
+ghost use Rattle.std.specs.Prelude.{◌∷◌, ◌+◌, ◌*◌, ◌≤◌, ◌<◌, ◌^◌, length};
+ghost use Rattle.text.specs.Decimal.{digits};
 ghost use Rattle.text.specs.Put.{Put, Sized};
 ghost use Rattle.text.specs.Line.{numbers, number_line, word_line, line_x};
 
@@ -57,15 +58,23 @@ pub fn put_word_line(buf: &mut [u8], tag: u8, values: &[i64], word: &[u8]) -> us
     at + put_byte(&mut buf[at..], LINE_FEED)
 }
 
+// A tab and a number, which are at most 21 bytes.
+pub fn put_natural_field(buf: &mut [u8], x: u64) -> usize
+    requires { 21 ≤ length buf.old }
+    ensures puts { Put (9 ∷ digits x) 0 buf.old buf.new result }
+    ensures bounded { result ≤ 21 }
+{
+    let at = put_byte(buf, TAB);
+    at + put_natural(&mut buf[at..], x)
+}
+
 // The line of a refusal, which is given by its number: the line is of any number that a caller has, the 16 of `Refusal` or another.
 pub fn put_refusal(buf: &mut [u8], number: u32, line: usize) -> usize
     requires { 44 ≤ length buf.old }
     ensures { Put (line_x number line) 0 buf.old buf.new result }
 {
     let mut at = put_byte(buf, b'X');
-    at += put_byte(&mut buf[at..], TAB);
-    at += put_natural(&mut buf[at..], u64::from(number));
-    at += put_byte(&mut buf[at..], TAB);
-    at += put_natural(&mut buf[at..], line as u64);
+    at += put_natural_field(&mut buf[at..], u64::from(number));
+    at += put_natural_field(&mut buf[at..], line as u64);
     at + put_byte(&mut buf[at..], LINE_FEED)
 }

@@ -10,12 +10,12 @@ pub loop-value-init : goal.loop-value-init
 unfolding naturals further
 loop-value-init c = (omega arith, put-nothing 0 c.args.buf.now (omega arith))
 
-pub natural_field-at-requires : goal.natural_field-at-requires
-natural_field-at-requires c = omega (arith, part-size c.loop-value.invariant.1)
+pub put_natural_field-at-requires : goal.put_natural_field-at-requires
+put_natural_field-at-requires c = omega (arith, part-size c.loop-value.invariant.1)
 
 pub loop-value-preserved : goal.loop-value-preserved
 loop-value-preserved c =
-    let put = c.natural_field-at.ensures in (
+    let put = c.put_natural_field-at.ensures in (
       omega (arith, put.bounded),
       rw (naturals-more c.args.values.now c.loop-value.value-index c.loop-value-test.true) (put-part c.loop-value.invariant.1 put.puts),
     )

@@ -8,10 +8,10 @@ pub loop-x-init : goal.loop-x-init
 loop-x-init c = line-begun _ c.put_byte-at.ensures
 
 pub loop-x-preserved : goal.loop-x-preserved
-loop-x-preserved c = line-on _ _ c.loop-x.invariant c.loop-x-test.true c.natural_field-at.ensures
+loop-x-preserved c = line-on _ _ c.loop-x.invariant c.loop-x-test.true c.put_natural_field-at.ensures.puts c.put_natural_field-at.ensures.bounded
 
-pub natural_field-at-requires : goal.natural_field-at-requires
-natural_field-at-requires c = omega (arith, c.loop-x.invariant.bounded, part-size c.loop-x.invariant.puts)
+pub put_natural_field-at-requires : goal.put_natural_field-at-requires
+put_natural_field-at-requires c = omega (arith, c.loop-x.invariant.bounded, part-size c.loop-x.invariant.puts)
 
 pub put_byte-requires : goal.put_byte-requires
 put_byte-requires c = omega (arith, c.loop-x.invariant.bounded, part-size c.loop-x.invariant.puts)

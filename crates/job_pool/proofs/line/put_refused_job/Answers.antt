@@ -16,25 +16,30 @@ fields number at job =
     grouped (9 ∷ digits number) (9 ∷ digits at) (9 ∷ digits job)
     ∙ ap (λ (l : List ℕ). (88 ∷ []) ++ (((9 ∷ digits number) ++ ((9 ∷ digits at) ++ l)) ++ (10 ∷ []))) (sym (append-nil (9 ∷ digits job)))
 
-pub put_field-at-requires : goal.put_field-at-requires
-put_field-at-requires c = omega (arith, part-size c.put_byte-at.ensures)
+pub put_natural_field-at-requires : goal.put_natural_field-at-requires
+put_natural_field-at-requires c = omega (arith, part-size c.put_byte-at.ensures)
 
-pub put_field-at-requires-2 : goal.put_field-at-requires-2
-put_field-at-requires-2 c = omega (arith, part-size (put-part c.put_byte-at.ensures c.put_field-at.ensures.0), c.put_field-at.ensures.1)
+pub put_natural_field-at-requires-2 : goal.put_natural_field-at-requires-2
+put_natural_field-at-requires-2 c =
+    let number = c.put_natural_field-at.ensures in
+    omega (arith, part-size (put-part c.put_byte-at.ensures number.puts), number.bounded)
 
-pub put_field-at-requires-3 : goal.put_field-at-requires-3
-put_field-at-requires-3 c =
-    let line = put-part (put-part c.put_byte-at.ensures c.put_field-at.ensures.0) c.put_field-at-2.ensures.0 in
-    omega (arith, part-size line, c.put_field-at.ensures.1, c.put_field-at-2.ensures.1)
+pub put_natural_field-at-requires-3 : goal.put_natural_field-at-requires-3
+put_natural_field-at-requires-3 c =
+    let number = c.put_natural_field-at.ensures in
+    let line = c.put_natural_field-at-2.ensures in
+    omega (arith, part-size (put-part (put-part c.put_byte-at.ensures number.puts) line.puts), number.bounded, line.bounded)
 
 pub put_byte-requires : goal.put_byte-requires
 put_byte-requires c =
-    let line = put-part (put-part c.put_byte-at.ensures c.put_field-at.ensures.0) c.put_field-at-2.ensures.0 in
-    let job = put-part line c.put_field-at-3.ensures.0 in
-    omega (arith, part-size job, c.put_field-at.ensures.1, c.put_field-at-2.ensures.1, c.put_field-at-3.ensures.1)
+    let number = c.put_natural_field-at.ensures in
+    let line = c.put_natural_field-at-2.ensures in
+    let job = c.put_natural_field-at-3.ensures in
+    let put = put-part (put-part (put-part c.put_byte-at.ensures number.puts) line.puts) job.puts in
+    omega (arith, part-size put, number.bounded, line.bounded, job.bounded)
 
 pub returns : goal.returns
 returns c =
-    let number = rw (c.from.ensures, c.number.ensures) at c.put_field-at.ensures.0 in
-    let line = put-part (put-part c.put_byte-at.ensures number) c.put_field-at-2.ensures.0 in
-    same-put (fields _ _ _) (put-part (put-part line c.put_field-at-3.ensures.0) c.put_byte.ensures)
+    let number = rw (c.from.ensures, c.number.ensures) at c.put_natural_field-at.ensures.puts in
+    let line = put-part (put-part c.put_byte-at.ensures number) c.put_natural_field-at-2.ensures.puts in
+    same-put (fields _ _ _) (put-part (put-part line c.put_natural_field-at-3.ensures.puts) c.put_byte.ensures)
