@@ -1,6 +1,6 @@
 -- What is judged by a number, and what it says of the number.
 use Rattle.std.specs.Prelude.{◌≡◌, refl, Bool, true, false, cond, ℕ, eqb, Ok, Err, is_ok}
-use Rattle.std.proofs.Common.{sym, ap, eq-eqb, eqb-true, true≢false}
+use Rattle.std.proofs.Common.{sym, ap, eq-eqb, ne_eqb, eqb-true, true≢false}
 use Rattle.refusal.specs.Refusal.{judged, numbered}
 use Rattle.refusal.specs.declared.Refusal.{Refusal}
 
@@ -8,6 +8,10 @@ module _ {X : Type 0} (number : ℕ) (x : X) where
   pub judged-taken : number ≡ 0 → Ok x ≡ judged number x
   unfolding judged
   judged-taken e = rw (eq-eqb number 0 e)
+
+  pub judged-numbered : (k : ℕ) → k ≡ number → (k ≡ 0 → ⊥) → Err (numbered k) ≡ judged number x
+  unfolding judged
+  judged-numbered k e f = rw (← e, ne_eqb k 0 f)
 
   pub judged-ok : (y : X) → Ok y ≡ judged number x → (number ≡ 0) × (y ≡ x)
   unfolding judged

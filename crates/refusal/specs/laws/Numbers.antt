@@ -14,6 +14,10 @@ numbered-number_of r = grind arith
 pub number_of-low : (r : Refusal) → 1 ≤ number_of r
 number_of-low r = grind arith
 
+-- to 16
+pub number_of-high : (r : Refusal) → number_of r ≤ 16
+number_of-high r = grind arith
+
 abbrev same : ℕ → Bool
 same k = eqb (number_of (numbered (k + 1))) (k + 1)
 

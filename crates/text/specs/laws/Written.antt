@@ -2,7 +2,7 @@
 use Rattle.std.specs.Prelude.{ℕ, ◌<◌, ◌≤◌, Bool, List, [], ◌∷◌, ◌++◌, Result, Ok, Err, leb, drop}
 use Rattle.std.proofs.Math.Path.{◌≡◌, refl}
 use Rattle.std.proofs.Common.{sym, ap, ◌∙◌, arith}
-use Rattle.std.proofs.Math.Bool.{true, false, cond}
+use Rattle.std.proofs.Math.Bool.{true, false}
 use borrow.Author.Tests.{eq-eqb, ne_eqb, eqb-false, eqb-true, le-leb, lt-leb}
 use Rattle.std.proofs.Math.Dec.{eqb, leb→le}
 use Rattle.std.proofs.Math.ListN.{length}
@@ -13,6 +13,7 @@ use Rattle.text.specs.laws.Put.{front_length}
 use Rattle.text.specs.Written.{Writes, lent_after, or_short, written_of}
 use Rattle.refusal.specs.declared.Refusal.{Refusal}
 use Rattle.refusal.specs.Refusal.{judged, numbered}
+use Rattle.refusal.specs.laws.Judged.{judged-err, judged-ok}
 
 module _ (refusal needed size : ℕ) where
   -- a refusal before the buffer's
@@ -49,21 +50,11 @@ module _ {X : Type 0} (refusal : ℕ) (text entry : List X) where
 
 module _ {X : Type 0} (number : ℕ) (x y : X) where
   pub not-judged : judged number x ≡ Ok y → number ≡ 0
-  unfolding judged
-  not-judged = by (eqb number 0) refl
-    where
-      by : (test : Bool) → eqb number 0 ≡ test → cond test (Ok x) (Err (numbered number)) ≡ Ok y → number ≡ 0
-      by true q e = eqb-true number 0 q
-      by false q e = let z : ◌≡◌ {A = ℕ} 0 1 = cc in absurd (omega arith)
+  not-judged e = (judged-ok number x y (sym e)).0
 
 module _ {X : Type 0} (number : ℕ) (x : X) where
   pub judged-refused : (k : Refusal) → judged number x ≡ Err k → (number ≡ 0 → ⊥) × (k ≡ numbered number)
-  unfolding judged
-  judged-refused k = by (eqb number 0) refl
-    where
-      by : (test : Bool) → eqb number 0 ≡ test → cond test (Ok x) (Err (numbered number)) ≡ Err k → (number ≡ 0 → ⊥) × (k ≡ numbered number)
-      by true q e = let z : ◌≡◌ {A = ℕ} 0 1 = cc in absurd (omega arith)
-      by false q e = (eqb-false number 0 q, cc)
+  judged-refused k e = let f = judged-err number x k (sym e) in (eqb-false number 0 f.0, f.1)
 
 -- ---- the three ends of a writer
 
@@ -102,12 +93,8 @@ module _ (refusal : ℕ) (text entry : List ℕ) where
   -- ---- and what each answer tells
 
   none-refused : (number k : ℕ) → Ok k ≡ written_of number text → (number ≡ 0) × (k ≡ length text)
-  unfolding written_of judged
-  none-refused number k = by (eqb number 0) refl
-    where
-      by : (test : Bool) → eqb number 0 ≡ test → Ok k ≡ cond test (Ok (length text)) (Err (numbered number)) → (number ≡ 0) × (k ≡ length text)
-      by true q e = (eqb-true number 0 q, cc)
-      by false q e = let z : ◌≡◌ {A = ℕ} 0 1 = cc in absurd (omega arith)
+  unfolding written_of
+  none-refused number k = judged-ok number (length text) k
 
   -- the answer is a length: nothing was refused, it is the text's, and the text stands at the buffer's start
   pub length-tells : {exit : List ℕ} {k : ℕ} → Writes refusal text entry exit (Ok k)
