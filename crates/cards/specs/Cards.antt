@@ -7,7 +7,7 @@ use Rattle.job.specs.Reply.{printed_of}
 use Rattle.limits.specs.Limits.{tolerance_limit}
 use Rattle.report.specs.Report.{report_of}
 use Rattle.rounding.specs.Rounding.{rnd}
-use Rattle.record.specs.declared.run.Run.{Run}
+use Rattle.record.specs.Run.{Run}
 use Rattle.run.specs.Run.{run_of}
 use Rattle.record.specs.declared.run.Outcome.TheVariants.{Settled, Still}
 use Rattle.scatter.specs.Table.{S, scatter, largest, table_of}

@@ -6,9 +6,8 @@ use Rattle.limits.specs.Unless.{unless}
 use Rattle.limits.specs.Limits.{least_sweeps, most_sweeps, tolerance_limit}
 use Rattle.report.specs.AxisNumbers.{axis_values}
 use Rattle.record.specs.Record.{answer_to, row_to}
-use Rattle.record.specs.Run.{own}
+use Rattle.record.specs.Run.{Run, own}
 use Rattle.record.specs.declared.Record.{Record}
-use Rattle.record.specs.declared.run.Run.{Run}
 use Rattle.run.specs.Run.{run_of}
 use Rattle.record.specs.declared.run.Outcome.{Outcome}
 use Rattle.record.specs.declared.run.Outcome.TheVariants.{Settled, Still, Spent}

@@ -2,7 +2,7 @@
 -- before it: the three entries, sweeps run, m, outcome, parted by tabs'.
 use Rattle.std.specs.Prelude.{ℕ, ℤ, pos}
 use mathlib.Core.List.{List, [], ◌∷◌, ◌++◌, flat_map, map}
-use Rattle.record.specs.declared.run.Run.{Run}
+use Rattle.record.specs.Run.{Run}
 use Rattle.run.specs.Run.{run_of}
 use Rattle.run.specs.Word.{outcome_word}
 use Rattle.text.specs.Decimal.{number}

@@ -36,8 +36,7 @@ use Rattle.record.proofs.Sweeping.{pair-shaped}
 use Rattle.record.specs.Loose.{loose_of}
 use Rattle.record.proofs.Search.{same-loose}
 use Rattle.record.specs.inner.Running.{Holds, held_of, solver_of}
-use Rattle.record.specs.Run.{no_pair, no_turn, own, run_from, stop}
-use Rattle.record.specs.declared.run.Run.{Run}
+use Rattle.record.specs.Run.{Run, no_pair, no_turn, own, run_from, stop}
 use Rattle.record.specs.laws.Running.{run_settled, run-still, run-spent, run-sweeps}
 use Rattle.record.specs.declared.run.Outcome.TheVariants.{Settled, Still, Spent}
 

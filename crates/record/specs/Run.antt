@@ -7,7 +7,7 @@ use Rattle.record.specs.Record.{answer_to, record_after}
 use Rattle.record.specs.declared.run.Outcome.{Outcome}
 use Rattle.record.specs.declared.run.Outcome.TheVariants.{Settled, Still, Spent}
 use Rattle.record.specs.declared.Record.{Record}
-use Rattle.record.specs.declared.run.Run.{Run}
+use Rattle.record.specs.declared.run.Ended.{Ended}
 use Rattle.record.specs.declared.query.Answer.{Answer}
 use Rattle.record.specs.declared.query.Answer.TheVariants.{Loaded, SamplesLoaded, Turned, Swept, TournamentSwept, Pair, NoPair, Axis, Refused}
 
@@ -41,6 +41,10 @@ no_turn (Pair p q) = false
 no_turn NoPair = false
 no_turn (Axis entry error) = false
 no_turn (Refused refusal) = false
+
+-- a run: its outcome, how many sweeps were run, and the record as they leave it
+abbrev pub Run : Type 0
+Run = Ended Record
 
 abbrev pub stop : Outcome → ℕ → Record → Run
 stop outcome sweeps r = record { outcome = outcome; sweeps = sweeps; last = r }

@@ -2,9 +2,8 @@
 use Rattle.std.specs.Prelude.{◌≡◌, false, ℕ, ◌≤◌}
 use Rattle.limits.specs.Limits.{most_sweeps, tolerance_limit}
 use Rattle.record.specs.Kept.{Kept}
-use Rattle.record.specs.Run.{run_from}
+use Rattle.record.specs.Run.{Run, run_from}
 use Rattle.record.specs.declared.Record.{Record}
-use Rattle.record.specs.declared.run.Run.{Run}
 
 -- a matrix is loaded and not turned yet, the sweep limit is at most 16, and the tolerance is in its range
 pub record Runnable (r : Record) (limit tolerance : ℕ) : Type 0 where

@@ -30,6 +30,7 @@ pub mod sweep;
 mod work;
 
 pub use query::Answer;
+use run::Ended;
 pub use run::{Outcome, Run};
 use solver::Solver;
 
@@ -268,7 +269,7 @@ impl Record {
         let ended = self.solver.run(limit, tolerance);
         // As in `load_table`.
         let refused = self.refused;
-        Run {
+        Ended {
             outcome: ended.outcome,
             sweeps: ended.sweeps,
             last: Record {

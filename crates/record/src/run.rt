@@ -22,21 +22,16 @@ pub enum Outcome {
     Spent,
 }
 
-// A run: its outcome, how many sweeps were run, and the record as they leave it.
-#[derive(Clone, Copy)]
-pub struct Run {
-    pub outcome: Outcome,
-    pub sweeps: u64,
-    pub last: Record,
-}
-
-// The same of the state that holds the matrix; and of its rows at work, which are lent and so tell themselves what is left.
+// A run: its outcome, how many sweeps were run, and what they leave: the record, or within this crate the state that holds the matrix. Its rows at
+// work are lent, and so tell themselves what is left.
 #[derive(Clone, Copy)]
 pub struct Ended<S> {
     pub outcome: Outcome,
     pub sweeps: u64,
     pub last: S,
 }
+
+pub type Run = Ended<Record>;
 
 impl Work {
     // Whether a loose-pair call answers none.

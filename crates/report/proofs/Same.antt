@@ -18,9 +18,8 @@ use Rattle.report.specs.laws.AxisOrder.{same-axis}
 use Rattle.report.proofs.AxisOrder.{axis-found}
 use Rattle.turn.specs.laws.Eight.{get_d-eight}
 use Rattle.record.specs.Record.{answer_to, row_to}
-use Rattle.record.specs.Run.{own}
+use Rattle.record.specs.Run.{Run, own}
 use Rattle.record.specs.declared.Record.{Record}
-use Rattle.record.specs.declared.run.Run.{Run}
 use Rattle.text.specs.Line.{number_line}
 use Rattle.text.specs.laws.Lines.{lines_same}
 use Rattle.text.specs.Rows.{row_line}

@@ -2,7 +2,7 @@
 use Rattle.std.specs.Prelude.{ℕ, ◌*◌, ◌≤◌, ◌≡◌, List, Result, length, take}
 use Rattle.limits.specs.Limits.{most_samples, most_sweeps}
 use Rattle.record.specs.Kept.{Kept}
-use Rattle.record.specs.declared.run.Run.{Run}
+use Rattle.record.specs.Run.{Run}
 use Rattle.run.specs.Run.{Allowed, table_run}
 use Rattle.scatter.specs.declared.table.Table.{Table}
 use Rattle.text.specs.Written.{Writes}

@@ -6,11 +6,10 @@ use Rattle.ledger.specs.Call.{Call, axis, load_samples}
 use Rattle.report.specs.AxisNumbers.{axis_values}
 use Rattle.report.specs.AxisOrder.{axis_at}
 use Rattle.record.specs.Record.{answer_to, row_to}
-use Rattle.record.specs.Run.{own}
+use Rattle.record.specs.Run.{Run, own}
 use Rattle.record.specs.Flat.{kept_entry}
 use Rattle.record.specs.declared.Record.{Record}
 use Rattle.run.specs.Word.{outcome_word}
-use Rattle.record.specs.declared.run.Run.{Run}
 use Rattle.run.specs.Run.{run_after}
 use Rattle.text.specs.Line.{number_line, word_line}
 use Rattle.text.specs.Lines.{lines}

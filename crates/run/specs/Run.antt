@@ -6,8 +6,7 @@ use Rattle.limits.specs.Limits.{most_sweeps, tolerance_limit}
 use Rattle.record.specs.Kept.{Kept}
 use Rattle.record.specs.Done.{loaded_record}
 use Rattle.record.specs.Record.{fresh, record_after}
-use Rattle.record.specs.Run.{own, run_from}
-use Rattle.record.specs.declared.run.Run.{Run}
+use Rattle.record.specs.Run.{Run, own, run_from}
 
 -- from the record that a load leaves; before the first sweep there is no last sweep that made no turn
 unfoldable pub run_after : Call → ℕ → ℕ → Run

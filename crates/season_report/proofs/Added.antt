@@ -14,7 +14,7 @@ use lib.ListN.{get_or, length, set}
 use Rattle.integer.specs.Tabulate.{tabulate}
 use Rattle.integer.specs.laws.Tabulate.{length-tabulate, tabulate-suc}
 use Rattle.record.specs.declared.Record.{Record}
-use Rattle.record.specs.declared.run.Run.{Run}
+use Rattle.record.specs.Run.{Run}
 use Rattle.season_report.specs.Figures.{by_number}
 use Rattle.season_report.specs.Job.{ended_as, error_at, errors_of, is_refused_under, is_settled, is_spent}
 use Rattle.season_report.specs.Job.{is_still, ran, record_errors, refused_under, job_turns}

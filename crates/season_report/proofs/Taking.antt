@@ -6,7 +6,7 @@ use Rattle.job.specs.Reading.{reading_of}
 use Rattle.job.specs.declared.RefusedLine.{RefusedLine}
 use Rattle.job.specs.laws.Reading.{accepted-read, refused-read}
 use Rattle.limits.specs.Limits.{most_jobs}
-use Rattle.record.specs.declared.run.Run.{Run}
+use Rattle.record.specs.Run.{Run}
 use Rattle.refusal.specs.Refusal.{number_of}
 use Rattle.refusal.specs.laws.Numbers.{numbered-number_of}
 use Rattle.report.specs.Report.{run_for}

@@ -5,12 +5,11 @@ use Rattle.integer.specs.Tabulate.{tabulate}
 use Rattle.job.specs.Job.{Answer as JobAnswer, accepted, job_of, refused}
 use Rattle.ledger.specs.Call.{axis}
 use Rattle.record.specs.Record.{answer_to}
-use Rattle.record.specs.Run.{own}
+use Rattle.record.specs.Run.{Run, own}
 use Rattle.record.specs.declared.query.Answer.{Answer}
 use Rattle.record.specs.declared.run.Outcome.{Outcome}
 use Rattle.record.specs.declared.run.Outcome.TheVariants.{Settled, Still, Spent}
 use Rattle.record.specs.declared.Record.{Record}
-use Rattle.record.specs.declared.run.Run.{Run}
 use Rattle.report.specs.AxisNumbers.{axis_values}
 use Rattle.report.specs.Report.{run_for}
 

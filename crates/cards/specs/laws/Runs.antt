@@ -24,9 +24,8 @@ use Rattle.record.specs.declared.query.Answer.TheVariants.{Axis}
 use Rattle.report.specs.AxisOrder.{axis_among, axis_at, place_of, stands_before}
 use Rattle.report.specs.Report.{diagonal_of}
 use Rattle.rounding.specs.Rounding.{rnd}
-use Rattle.record.specs.Run.{no_pair, no_turn, own, run_from, tried}
+use Rattle.record.specs.Run.{Run, no_pair, no_turn, own, run_from, tried}
 use Rattle.record.specs.declared.run.Outcome.TheVariants.{Spent, Still}
-use Rattle.record.specs.declared.run.Run.{Run}
 use Rattle.record.specs.laws.Running.{run-still, run-sweeps}
 use Rattle.run.specs.Run.{run_after, run_of}
 use Rattle.turn.specs.InUse.{in_use}

@@ -8,7 +8,7 @@ use mir.Syntax.{w64}
 use mir.Val.{SFits, of_z, to_z}
 use mir.Facts.{to_z-of_z}
 use Rattle.std.proofs.lemmas.Int.{to_z_pos}
-use Rattle.record.specs.declared.run.Run.{Run}
+use Rattle.record.specs.Run.{Run}
 use Rattle.report.specs.inner.AxisNumbers.{axes_numbers}
 use Rattle.report.specs.inner.AxisOrder.{ordered_rows}
 use Rattle.text.specs.laws.Written.{short, written}

@@ -21,13 +21,12 @@ use Rattle.record.specs.declared.Record.{Record}
 use Rattle.record.specs.laws.Named.{own-answers, own-leaves, refused-answer}
 use Rattle.record.specs.laws.Turning.{works-grow}
 use Rattle.run.specs.laws.Course.{Course, settles, is-still, is-spent, sweeps-on, course}
-use Rattle.record.specs.declared.run.Run.{Run}
 use Rattle.readings.specs.Refusal.{samples_refusal}
 use Rattle.readings.specs.Samples.{samples}
 use Rattle.readings.specs.laws.Refusal.{are-readings, two-channels}
 use Rattle.scatter.specs.Table.{scatter, shift, table_from_under, table_of, table_under}
 use Rattle.scatter.specs.laws.Entries.{table-entries}
-use Rattle.record.specs.Run.{own, run_from}
+use Rattle.record.specs.Run.{Run, own, run_from}
 use Rattle.run.specs.Run.{Allowed, run_after, table_run}
 use Rattle.run.specs.Calls.{rounds, calls_of}
 

@@ -7,8 +7,7 @@ use Rattle.record.specs.Kept.{Kept}
 use Rattle.record.specs.Done.{loaded_record}
 use Rattle.record.specs.Record.{answer_to, fresh, record_after}
 use Rattle.record.specs.declared.Record.{Record}
-use Rattle.record.specs.Run.{no_pair, no_turn, own, run_from, stop, tried}
-use Rattle.record.specs.declared.run.Run.{Run}
+use Rattle.record.specs.Run.{Run, no_pair, no_turn, own, run_from, stop, tried}
 use Rattle.run.specs.Run.{run_after, table_run}
 use Rattle.record.specs.declared.run.Outcome.{Outcome}
 use Rattle.record.specs.declared.run.Outcome.TheVariants.{Settled, Still, Spent}

@@ -10,9 +10,8 @@ use Rattle.limits.specs.Limits.{most_channels, most_jobs, turn_limit}
 use Rattle.ledger.specs.Call.{axis}
 use Rattle.record.specs.Kept.{Kept}
 use Rattle.record.specs.Record.{answer_to}
-use Rattle.record.specs.Run.{own}
+use Rattle.record.specs.Run.{Run, own}
 use Rattle.record.specs.declared.Record.{Record}
-use Rattle.record.specs.declared.run.Run.{Run}
 use Rattle.report.specs.AxisNumbers.{axis_values}
 use Rattle.report.specs.laws.AxisNumbers.{axis-answer, error-small}
 use Rattle.season_report.specs.Figures.{lowest_axis}

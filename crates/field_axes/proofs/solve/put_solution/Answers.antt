@@ -7,7 +7,7 @@ use borrow.Author.Rules.{rules}
 use Rattle.integer.specs.laws.Word.{held}
 use Rattle.ledger.specs.Call.{load}
 use Rattle.report.specs.laws.AxisNumbers.{length-axes-row}
-use Rattle.record.specs.declared.run.Run.{Run}
+use Rattle.record.specs.Run.{Run}
 use Rattle.run.specs.Run.{run_of}
 use Rattle.run.specs.laws.Calls.{matrix-begins, run-calls}
 use Rattle.run.specs.laws.Course.{run_ends}

@@ -8,7 +8,7 @@ use mir.Val.{SFits}
 use mir.Facts.{to_z-of_z}
 use Rattle.std.proofs.lemmas.Int.{to_z_pos}
 use borrow.Author.Rules.{rules}
-use Rattle.record.specs.declared.run.Run.{Run}
+use Rattle.record.specs.Run.{Run}
 use Rattle.panel.specs.Listed.{panel_within}
 use Rattle.panel.specs.Refusal.{most_size}
 use Rattle.panel.specs.Text.{line_numbers, panel_run}
