@@ -1,5 +1,5 @@
--- A job in arrays: the job that they hold, and that nothing else stands in them.
-use Rattle.std.specs.Prelude.{◌*◌, ◌≡◌, ◌≤◌, length, take}
+-- A job in arrays: the job that they hold, and a job as the reader leaves it in them.
+use Rattle.std.specs.Prelude.{◌*◌, ◌≤◌, length, take}
 use Rattle.integer.specs.Padded.{padded}
 use Rattle.job.specs.Job.{Job}
 use Rattle.job.specs.Values.{Proper}
@@ -11,6 +11,7 @@ unfoldable pub job_in : Inside → Job
 job_in a =
     record { n = a.n; limit = a.limit; tolerance = a.tolerance; dilutions = take a.k a.dilutions; counts = take (a.k * a.n) a.counts }
 
+-- past the last dilution and the last count the reader leaves 0
 unfoldable pub in_arrays : Job → Inside
 in_arrays j =
     record {
@@ -22,9 +23,8 @@ in_arrays j =
       counts = padded (most_samples * most_channels) 0 j.counts;
     }
 
--- The values are in their ranges, as many as there shall be, and all of them in the arrays; the others there are 0.
+-- The values are in their ranges, as many as there shall be, and all of them in the arrays.
 pub record Held (a : Inside) : Type 0 where
   pub proper : Proper (job_in a)
   pub dilutions : a.k ≤ length a.dilutions
   pub counts : a.k * a.n ≤ length a.counts
-  pub whole : in_arrays (job_in a) ≡ a

@@ -12,15 +12,17 @@ mod samples;
 ghost use Rattle.std.specs.Prelude.{◌≡◌};
 ghost use Rattle.job.specs.Job.{job_of};
 ghost use Rattle.job.specs.Reading.{reading_of};
+ghost use Rattle.job.specs.Values.{Proper};
 
 use crate::first::first_line;
+use readings::Samples;
 use refusal::Refusal;
 use samples::samples;
 use std::marker::Model;
 
-// A job, every value in its range: the first k dilutions and the first k × n counts, n to a sample, are those of its samples, and the others are 0.
+// A job, every value in its range: the first k dilutions and the first k × n counts, n to a sample, are those of its samples.
 // Rule of the project: no heap, so the arrays have the length of the longest job's.
-#[derive(Clone, Copy)]
+#[derive(Drop)]
 pub struct Job {
     pub n: usize,
     pub limit: u64,
@@ -35,15 +37,25 @@ impl Model for Job {
 
     ghost Value = { Job };
 
-    ghost use Rattle.job.specs.Held.{Held, in_arrays, job_in};
+    ghost use Rattle.job.specs.Held.{Held, job_in};
 
     ghost view = { job_in };
 
     ghost invariant = { Held };
+}
 
-    ghost inverse = { in_arrays };
-
-    ghost inverse_ok = { λ a h. h.whole };
+impl Job {
+    // The arrays are lent, since a copy of them costs more than a small table.
+    pub fn samples(&self) -> Samples<'_>
+        ensures proper { Proper self.now }
+        ensures lends { (result.n ≡ self.now.n) × (result.dilutions.now ≡ self.now.dilutions) × (result.counts.now ≡ self.now.counts) }
+    {
+        Samples {
+            n: self.n,
+            dilutions: &self.dilutions[..self.k],
+            counts: &self.counts[..self.k * self.n],
+        }
+    }
 }
 
 // Why a text is refused, and at which line of it.

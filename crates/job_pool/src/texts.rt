@@ -6,28 +6,16 @@ ghost use Rattle.job_pool.specs.Writer.{WritesPooled};
 use crate::line::put_refused_job;
 use crate::write_pooled;
 use job::Job;
-use readings::Samples;
 use refusal::Refusal;
 
-// Of the first k dilutions and the first k × n counts of each.
-fn pool_jobs(first: Job, second: Job, buf: &mut [u8]) -> Result<usize, Refusal>
-    ensures { WritesPooled first second buf.old buf.new result }
+fn pool_jobs(first: &Job, second: &Job, buf: &mut [u8]) -> Result<usize, Refusal>
+    ensures { WritesPooled first.now second.now buf.old buf.new result }
 {
-    let samples1 = Samples {
-        n: first.n,
-        dilutions: &first.dilutions[..first.k],
-        counts: &first.counts[..first.k * first.n],
-    };
-    let samples2 = Samples {
-        n: second.n,
-        dilutions: &second.dilutions[..second.k],
-        counts: &second.counts[..second.k * second.n],
-    };
     write_pooled(
-        &samples1,
+        &first.samples(),
         first.limit,
         first.tolerance,
-        &samples2,
+        &second.samples(),
         second.limit,
         second.tolerance,
         buf,
@@ -46,7 +34,7 @@ pub fn answer(first: &[u8], second: &[u8], out: &mut [u8; 2048]) -> usize
         Ok(job) => job,
         Err(refused) => return put_refused_job(out, refused.refusal, refused.line, 2),
     };
-    match pool_jobs(job1, job2, out) {
+    match pool_jobs(&job1, &job2, out) {
         Ok(length) => length,
         Err(refusal) => put_refused_job(out, refusal, 0, 0),
     }

@@ -54,8 +54,8 @@ impl Lines {
 }
 
 // The length is known before the first byte is written, so a buffer that is too short stays as it is.
-fn table_job(job: Job, buf: &mut [u8]) -> Result<usize, RefusedLine>
-    ensures { Answers table_text (accepted job) buf.old buf.new result }
+fn table_job(job: &Job, buf: &mut [u8]) -> Result<usize, RefusedLine>
+    ensures { Answers table_text (accepted job.now) buf.old buf.new result }
 {
     let table = crate::table_of(job);
     let lines = Lines::of(job.n, job.k, table);
@@ -80,7 +80,7 @@ pub(crate) fn table_text(text: &[u8], buf: &mut [u8]) -> Result<usize, RefusedLi
     ensures { Replies table_text text.now buf.old buf.new result }
 {
     let job = job::read(text)?;
-    table_job(job, buf)
+    table_job(&job, buf)
 }
 
 // What the program prints, at the front of the buffer: the table's text, or the line of the refusal.

@@ -70,15 +70,15 @@ pub fn report_table(
 }
 
 // The run of a job, on its table.
-pub fn run_of_job(job: Job) -> Run
-    ensures { Ran (run_for job) result }
+pub fn run_of_job(job: &Job) -> Run
+    ensures { Ran (run_for job.now) result }
 {
     let table = job_table::table_of(job);
     run_of_table(job.n, job.limit, job.tolerance, table)
 }
 
-fn report_job(job: Job, buf: &mut [u8]) -> Result<usize, RefusedLine>
-    ensures { Answers report_of (accepted job) buf.old buf.new result }
+fn report_job(job: &Job, buf: &mut [u8]) -> Result<usize, RefusedLine>
+    ensures { Answers report_of (accepted job.now) buf.old buf.new result }
 {
     let table = job_table::table_of(job);
     let length = report_table(job.n, job.k, job.limit, job.tolerance, table, buf)?;
@@ -89,7 +89,7 @@ pub fn report(text: &[u8], buf: &mut [u8]) -> Result<usize, RefusedLine>
     ensures { Replies report_of text.now buf.old buf.new result }
 {
     let job = job::read(text)?;
-    report_job(job, buf)
+    report_job(&job, buf)
 }
 
 // What the program prints, at the front of the buffer: the report, or the line of the refusal.

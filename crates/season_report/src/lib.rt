@@ -88,7 +88,7 @@ impl Season {
         match job::read(text) {
             Ok(job) => Taken {
                 answer: Ok(()),
-                next: job_end::with_run(self, report::run_of_job(job)),
+                next: job_end::with_run(self, report::run_of_job(&job)),
             },
             Err(refused) => Taken {
                 answer: Err(refused),

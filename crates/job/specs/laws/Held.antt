@@ -1,5 +1,6 @@
--- A proper job in arrays: they hold it, and nothing else; how many samples and channels it has.
-use Rattle.std.proofs.Common.{◌≡◌, ◌≤◌, ◌*◌, ap, length, mul-le-mul}
+-- A proper job in arrays: they hold it; how many samples and channels it has.
+use Rattle.std.proofs.Common.{◌≡◌, ◌≤◌, ◌*◌, length, mul-le-mul}
+use Rattle.std.proofs.lemmas.List.{length-take-le}
 use Rattle.integer.specs.laws.Padded.{padded-size, padded-take}
 use Rattle.job.specs.Held.{Held, in_arrays, job_in}
 use Rattle.job.specs.Job.{Job}
@@ -20,14 +21,13 @@ module _ (j : Job) (p : Proper j) where
         proper = rw held_in p;
         dilutions = padded-size 256 0 j.dilutions;
         counts = rw (← p.counted) (padded-size 2048 0 j.counts);
-        whole = ap in_arrays held_in;
       }
 
 module _ (a : Inside) (h : Held a) where
   -- As many samples as the arrays say
   pub samples-held : length (job_in a).dilutions ≡ a.k
-  unfolding in_arrays
-  samples-held = ap (λ (z : Inside). z.k) h.whole
+  unfolding job_in
+  samples-held = length-take-le a.k a.dilutions h.dilutions
 
   pub channels-held : a.n ≤ 8
   unfolding job_in

@@ -26,7 +26,7 @@ returns-then-buf-length c =
     let l = c.of-lines.ensures in
     let s = rw (text-is _ c.job.invariant _ c.job.view_is _ _ _ _ c.table_of-table.ensures l.0 l.1 l.2) at c.length.ensures in
     rw c.into.ensures
-    (too_short table_text c.args.job (omega (arith, s.exact, s.bounded)) _ (omega (arith, s.exact, c.if-buf-length.true)))
+    (too_short table_text c.args.job.now (omega (arith, s.exact, s.bounded)) _ (omega (arith, s.exact, c.if-buf-length.true)))
 
 pub put-requires : goal.put-requires
 put-requires c = omega (arith, c.length.ensures.exact, c.if-buf-length.false)
@@ -36,4 +36,4 @@ returns c =
     let l = c.of-lines.ensures in
     let w = text-is _ c.job.invariant _ c.job.view_is _ _ _ _ c.table_of-table.ensures l.0 l.1 l.2 in
     let s = rw w at c.length.ensures in
-    put_whole table_text c.args.job (omega (arith, s.exact, s.bounded)) _ _ _ (rw w at c.put.ensures)
+    put_whole table_text c.args.job.now (omega (arith, s.exact, s.bounded)) _ _ _ (rw w at c.put.ensures)
