@@ -14,7 +14,7 @@ ghost use Rattle.record.specs.declared.query.Answer.TheVariants.{Refused};
 ghost use Rattle.record.specs.declared.solver.Solver.{Solver};
 ghost use Rattle.record.specs.inner.Named.{counts_left, left_with};
 ghost use Rattle.refusal.specs.Refusal.{numbered};
-ghost use Rattle.std.specs.Prelude.{false, true, ◌≡◌};
+ghost use Rattle.std.specs.Prelude.{false, pos, replicate, true, ◌≡◌};
 
 use ledger::Order;
 use readings::Samples;
@@ -53,6 +53,16 @@ pub struct Step<A = Answer, S = Record> {
 pub struct AxisAnswer {
     pub value: Answer,
     pub row: [i64; 8],
+}
+
+// An answer that has no row.
+impl From<Answer> for AxisAnswer {
+    ghost from_gives = { λ value answer. answer ≡ record { value = value; row = replicate 8 (pos 0) } };
+
+    fn from(value: Answer) -> AxisAnswer {
+        let row = [0i64; 8];
+        AxisAnswer { value, row }
+    }
 }
 
 pub type AxisStep = Step<AxisAnswer>;
@@ -244,20 +254,14 @@ impl Record {
     {
         if !is_bench(bench) {
             return Step {
-                answer: AxisAnswer {
-                    value: Answer::Refused(Refusal::NoSuchBench),
-                    row: [0; 8],
-                },
+                answer: AxisAnswer::from(Answer::Refused(Refusal::NoSuchBench)),
                 next: self,
             };
         }
         let answer = self.solver.axis(i);
         Step {
             answer,
-            next: Record {
-                solver: self.solver,
-                refused: counts_after(self.refused, bench, answer.value),
-            },
+            next: self.left(bench, answer.value, self.solver),
         }
     }
 
@@ -280,7 +284,8 @@ impl Record {
     }
 
     // What a call of a bench answers and leaves, by what it does to the state. Document 02, W8: 'A bench outside 1 to 4 gives 15, tried before
-    // everything else, and raises no count.' An axis call has its own.
+    // everything else, and raises no count.' An axis call's answer has a row,
+    // and so is no Answer.
     fn named<F: FnOnce(Solver) -> Step<Answer, Solver>>(self, bench: usize, call: F) -> Step
         requires { F.pre call self.solver }
         ensures outside { is_bench bench ≡ false → (result.answer ≡ Refused (numbered 15)) × (result.next ≡ self) }
@@ -296,10 +301,18 @@ impl Record {
         let done = call(self.solver);
         Step {
             answer: done.answer,
-            next: Record {
-                solver: done.next,
-                refused: counts_after(self.refused, bench, done.answer),
-            },
+            next: self.left(bench, done.answer, done.next),
+        }
+    }
+
+    // The record that a call of one of the four benches leaves.
+    fn left(self, bench: usize, answer: Answer, solver: Solver) -> Self
+        requires { is_bench bench ≡ true }
+        ensures { result ≡ left_with self.refused bench answer solver }
+    {
+        Record {
+            solver,
+            refused: counts_after(self.refused, bench, answer),
         }
     }
 }

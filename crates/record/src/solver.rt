@@ -155,10 +155,7 @@ impl Solver {
         ensures { (result.value ≡ answer_of self (axis i)) × (result.row ≡ axis_of self i) }
     {
         if let Err(refusal) = query::check_axis(self.n, i) {
-            return AxisAnswer {
-                value: Answer::Refused(refusal),
-                row: [0; 8],
-            };
+            return AxisAnswer::from(Answer::Refused(refusal));
         }
         let matrix = rows::unpacked(&self.a);
         let at = i - 1;

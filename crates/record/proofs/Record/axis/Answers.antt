@@ -10,13 +10,13 @@ pub returns-then-not-is_bench : goal.returns-then-not-is_bench
 unfolding row_to
 returns-then-not-is_bench c =
     let b = sym c.is_bench.ensures ∙ c.if-not-is_bench.true in
-    let done = no-bench c.args.self c.args.bench (axis c.args.i) c.requires b _ _ refl refl in
-    record { answers = done.answers; row = rw b; leaves = done.leaves; keeps = done.keeps }
+    let done = no-bench c.args.self c.args.bench (axis c.args.i) c.requires b _ _ (rw c.from.ensures) refl in
+    record { answers = done.answers; row = rw (c.from.ensures, b); leaves = done.leaves; keeps = done.keeps }
 
 pub returns : goal.returns
 unfolding row_to row_of accepted_of_under
 returns c =
     let b = sym c.is_bench.ensures ∙ c.if-not-is_bench.false in
     let done = of-bench c.args.self c.args.bench (axis c.args.i) c.requires b _ _ _ _ c.axis-answer.ensures.0
-    (sym (query-leaves c.args.self.solver (axis c.args.i) refl)) refl (rw c.counts_after.ensures) in
+    (sym (query-leaves c.args.self.solver (axis c.args.i) refl)) refl c.left.ensures in
     record { answers = done.answers; row = c.axis-answer.ensures.1 ∙ rw b; leaves = done.leaves; keeps = done.keeps }

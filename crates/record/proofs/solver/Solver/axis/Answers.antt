@@ -17,7 +17,7 @@ use Rattle.record.proofs.solver.Solver.axis.Goals as goal
 
 pub returns-in-Err : goal.returns-in-Err
 unfolding answer_of refusal_under axis_of
-returns-in-Err c = let f = judged-err _ _ _ c.in-Err.ensures in (ap Refused f.1 ∙ rw f.0, rw f.0)
+returns-in-Err c = let f = judged-err _ _ _ c.in-Err.ensures in rw c.from.ensures (ap Refused f.1 ∙ rw f.0, rw f.0)
 
 -- row i, counted from 0, is one of the eight
 row-of : (n i : ℕ) → n ≤ 8 → Passes (refusal_of n 0 (axis i)) → (1 ≤ i) × (i - 1 < n) × (i - 1 < 8)
