@@ -12,11 +12,11 @@ use Rattle.record.specs.declared.query.Answer.{Answer}
 use Rattle.integer.specs.laws.Tests.{cond_same}
 use Rattle.record.specs.Record.{row_to}
 use Rattle.record.specs.Solver.{row_of}
-use Rattle.play.specs.inner.Calls.{Answers, answer_for, plain_of}
+use Rattle.play.specs.inner.Calls.{Answers, answer_for}
 
 pub answers-plain : (r : Record) (call : NamedCall) (y : Answer) (next : Record) (z : AxisAnswer) →
-    row_of r.solver call.call ≡ replicate 8 (pos 0) → Done r call y next → z ≡ plain_of y → Answers r call z next
-unfolding answer_for plain_of row_to
+    row_of r.solver call.call ≡ replicate 8 (pos 0) → Done r call y next → z ≡ record { value = y; row = replicate 8 (pos 0) } → Answers r call z next
+unfolding answer_for row_to
 answers-plain r call y next z w d q =
     record { is = q ∙ rw (w, cond_same (is_bench call.bench) (replicate 8 (pos 0)), d.answers); leaves = d.leaves; keeps = d.keeps }
 

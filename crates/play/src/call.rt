@@ -2,20 +2,11 @@
 ghost use Rattle.std.specs.Prelude.{◌≡◌, ◌≤◌, length};
 ghost use Rattle.record.specs.Kept.{Kept};
 ghost use Rattle.call_text.specs.Requests.{Placed, part, request_call};
-ghost use Rattle.play.specs.inner.Calls.{Answers, plain_of};
+ghost use Rattle.play.specs.inner.Calls.{Answers};
 
 use call_text::request::Request;
 use readings::Samples;
-use record::{Answer, AxisAnswer, Record, lent};
-
-// An answer that has no row.
-#[tactic(auto, unfolding(crate::specs::inner::Calls::plain_of))]
-fn plain(value: Answer) -> AxisAnswer
-    ensures { result ≡ plain_of value }
-{
-    let row = [0i64; 8];
-    AxisAnswer { value, row }
-}
+use record::{AxisAnswer, Record, lent};
 
 fn entries_at(numbers: &[i64], from: usize, to: usize) -> &[i64]
     requires { (from ≤ to) × (to ≤ length numbers.now) }
@@ -44,7 +35,7 @@ pub(crate) fn call(
     match request {
         Request::Load { bench, n, from, to } => {
             let numbers = entries_at(numbers, from, to);
-            plain(lent::load(r, bench, n, numbers))
+            AxisAnswer::from(lent::load(r, bench, n, numbers))
         }
         Request::LoadSamples {
             bench,
@@ -60,12 +51,12 @@ pub(crate) fn call(
                 dilutions,
                 counts,
             };
-            plain(lent::load_samples(r, bench, &samples))
+            AxisAnswer::from(lent::load_samples(r, bench, &samples))
         }
-        Request::Turn { bench, p, q } => plain(lent::turn(r, bench, p, q)),
-        Request::Sweep(bench) => plain(lent::sweep(r, bench)),
-        Request::LoosePair { bench, t } => plain(lent::loose_pair(r, bench, t)),
+        Request::Turn { bench, p, q } => AxisAnswer::from(lent::turn(r, bench, p, q)),
+        Request::Sweep(bench) => AxisAnswer::from(lent::sweep(r, bench)),
+        Request::LoosePair { bench, t } => AxisAnswer::from(lent::loose_pair(r, bench, t)),
         Request::Axis { bench, i } => lent::axis(r, bench, i),
-        Request::TournamentSweep(bench) => plain(lent::tournament_sweep(r, bench)),
+        Request::TournamentSweep(bench) => AxisAnswer::from(lent::tournament_sweep(r, bench)),
     }
 }

@@ -1,14 +1,10 @@
 -- What a request does on a record: its answer with its row, and the record after it.
-use Rattle.std.specs.Prelude.{◌≡◌, pos, replicate}
+use Rattle.std.specs.Prelude.{◌≡◌}
 use Rattle.ledger.specs.Bench.{NamedCall}
 use Rattle.record.specs.Kept.{Kept}
 use Rattle.record.specs.Record.{answer_to, record_after, row_to}
 use Rattle.record.specs.declared.AxisAnswer.{AxisAnswer}
 use Rattle.record.specs.declared.Record.{Record}
-use Rattle.record.specs.declared.query.Answer.{Answer}
-
-unfoldable pub plain_of : Answer → AxisAnswer
-plain_of value = record { value = value; row = replicate 8 (pos 0) }
 
 unfoldable pub answer_for : Record → NamedCall → AxisAnswer
 answer_for r call = record { value = answer_to r call; row = row_to r call }
