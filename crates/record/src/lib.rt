@@ -35,6 +35,7 @@ pub use run::{Outcome, Run};
 use solver::Solver;
 
 // The state that holds the matrix, and the refused calls of bench 1, 2, 3 and 4.
+// No plainer with `Kept` as the type's own fact: definitions as `record_after` write records down, and would have to write its proof with each.
 #[derive(Clone, Copy)]
 pub struct Record {
     solver: Solver,

@@ -17,6 +17,8 @@ use refusal::Refusal;
 
 // Channels n, 0 where there is no matrix; turns made m; the shift e of a table made from readings, else 0; the kept matrix and axes, row after
 // row, 8 to a row.
+// Document 02 on e: 'which is 0 for a plain load'. No plainer with n in an Option: all of its definitions, refusals too, read n as a number.
+// No plainer with `KeptSolver` as the type's own fact: definitions as `loaded_solver` write states down, and would have to write its proof with each.
 #[derive(Clone, Copy)]
 pub struct Solver {
     n: usize,
