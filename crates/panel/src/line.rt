@@ -10,7 +10,7 @@ use crate::Panel;
 use record::{Outcome, Run};
 use run::word::word_of;
 use text::line::{LINE_FEED, TAB};
-use text::{put_byte, put_bytes, put_number};
+use text::{put_byte, put_bytes};
 
 // Each panel is run with this limit and this tolerance.
 const LIMIT: u64 = 16;
@@ -57,8 +57,7 @@ fn put_fields(buf: &mut [u8], numbers: &[i64], word: &[u8]) -> usize
     requires { (1 ≤ length numbers.now) × (length (fields_line numbers.now word.now) ≤ length buf.old) }
     ensures { Put (fields_line numbers.now word.now) 0 buf.old buf.new result }
 {
-    let mut at = put_number(buf, numbers[0]);
-    at += text::line::put_numbers(&mut buf[at..], &numbers[1..]);
+    let mut at = text::line::put_fields(buf, numbers);
     at += put_byte(&mut buf[at..], TAB);
     at += put_bytes(&mut buf[at..], word);
     at + put_byte(&mut buf[at..], LINE_FEED)

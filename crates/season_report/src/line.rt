@@ -7,7 +7,7 @@ ghost use Rattle.text.specs.Put.{Put, Sized};
 
 use crate::{LargestError, Season};
 use text::line::LINE_FEED;
-use text::{put_byte, put_number};
+use text::put_byte;
 
 // Where there is no largest error, it is printed as 0 of job 0 and axis 0.
 pub(crate) fn numbers_of(s: Season) -> [i64; 12]
@@ -47,7 +47,6 @@ pub(crate) fn put_line(buf: &mut [u8], numbers: &[i64]) -> usize
     requires { (1 ≤ length numbers.now) × (length (line (map number numbers.now)) ≤ length buf.old) }
     ensures { Put (line (map number numbers.now)) 0 buf.old buf.new result }
 {
-    let mut at = put_number(buf, numbers[0]);
-    at += text::line::put_numbers(&mut buf[at..], &numbers[1..]);
+    let at = text::line::put_fields(buf, numbers);
     at + put_byte(&mut buf[at..], LINE_FEED)
 }

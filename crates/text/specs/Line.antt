@@ -15,6 +15,11 @@ line (field ∷ fields) = field ++ further fields ++ (10 ∷ [])
 unfoldable pub numbers : List ℤ → List ℕ
 numbers zs = further (map number zs)
 
+-- Numbers alone: no tab stands before the first.
+unfoldable pub number_fields : List ℤ → List ℕ
+number_fields [] = []
+number_fields (z ∷ zs) = number z ++ numbers zs
+
 -- A tag and numbers.
 unfoldable pub number_line : ℕ → List ℤ → List ℕ
 number_line tag zs = line ((tag ∷ []) ∷ map number zs)

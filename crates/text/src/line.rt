@@ -2,7 +2,7 @@
 ghost use Rattle.std.specs.Prelude.{◌∷◌, ◌+◌, ◌*◌, ◌≤◌, ◌<◌, ◌^◌, length};
 ghost use Rattle.text.specs.Decimal.{digits};
 ghost use Rattle.text.specs.Put.{Put, Sized};
-ghost use Rattle.text.specs.Line.{numbers, number_line, word_line, line_x};
+ghost use Rattle.text.specs.Line.{numbers, number_fields, number_line, word_line, line_x};
 
 use crate::{number_length, put_byte, put_bytes, put_natural, put_number};
 
@@ -34,6 +34,15 @@ pub fn put_numbers(buf: &mut [u8], values: &[i64]) -> usize
         at += put_number(&mut buf[at..], *value);
     }
     at
+}
+
+// The values alone: no tab stands before the first.
+pub fn put_fields(buf: &mut [u8], values: &[i64]) -> usize
+    requires { (1 ≤ length values.now) × (length (number_fields values.now) ≤ length buf.old) }
+    ensures { Put (number_fields values.now) 0 buf.old buf.new result }
+{
+    let at = put_number(buf, values[0]);
+    at + put_numbers(&mut buf[at..], &values[1..])
 }
 
 // A line of a tag and the values.

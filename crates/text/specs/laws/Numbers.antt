@@ -3,7 +3,7 @@ use Rattle.std.specs.Prelude.{ℕ, ◌+◌, ◌<◌, ◌≤◌, ◌≡◌, refl,
 use Rattle.std.proofs.Common.{sym, ap, ◌∙◌, append_assoc, append-nil, add-one, arith, length-append, take-append-drop, take-suc, take-take}
 use Rattle.std.proofs.lemmas.List.{map-append}
 use Rattle.text.specs.Decimal.{digits, number}
-use Rattle.text.specs.Line.{further, line, numbers, number_line, word_line, line_x}
+use Rattle.text.specs.Line.{further, line, numbers, number_fields, number_line, word_line, line_x}
 
 pub further-append : (fs gs : List (List ℕ)) → further (fs ++ gs) ≡ further fs ++ further gs
 unfolding further
@@ -36,6 +36,16 @@ pub number-within : (zs : List ℤ) (i n : ℕ) → i < n → n ≤ length zs
 number-within zs i n h k =
     let e = simp length-append at (ap length (numbers_more zs i (omega arith))) in
     omega (arith, numbers-within zs {i = i + 1} {n = n} (omega arith))
+
+-- Numbers of which none has a tag: the first, and a tab before each other.
+pub first-and-others : (zs : List ℤ) → 1 ≤ length zs → number_fields zs ≡ number (get_or zs 0 (pos 0)) ++ numbers (drop 1 zs)
+unfolding number_fields
+first-and-others [] h = absurd (omega arith)
+first-and-others (z ∷ zs) h = refl
+
+pub length-number-fields : (zs : List ℤ) → 1 ≤ length zs →
+    length (number_fields zs) ≡ length (number (get_or zs 0 (pos 0))) + length (numbers (drop 1 zs))
+length-number-fields zs h = rw (first-and-others zs h, length-append)
 
 -- Lines, as they are written.
 pub number-line : (tag : ℕ) (zs : List ℤ) → number_line tag zs ≡ (tag ∷ []) ++ numbers zs ++ (10 ∷ [])
