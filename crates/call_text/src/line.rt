@@ -3,6 +3,7 @@ ghost use Rattle.call_text.specs.inner.Read.{FieldsRead};
 
 use crate::field::number;
 use crate::find::find;
+use text::line::TAB;
 
 // How many numbers follow the tag.
 #[derive(Clone, Copy)]
@@ -16,7 +17,7 @@ pub fn read_fields(line: &[u8], numbers: &mut [i64]) -> Option<Fields>
     ensures { FieldsRead line.now numbers.old numbers.new result }
 {
     let mut count = 0;
-    let mut at = find(line, 0, b'\t');
+    let mut at = find(line, 0, TAB);
     if at != 1 {
         return None;
     }
@@ -24,7 +25,7 @@ pub fn read_fields(line: &[u8], numbers: &mut [i64]) -> Option<Fields>
     // No plainer: it goes from tab to tab, and stops at the first field that is none, with the numbers before it in the array.
     while at < line.len() {
         let start = at + 1;
-        let end = find(line, start, b'\t');
+        let end = find(line, start, TAB);
         let x = number(&line[start..end])?;
         if numbers.len() <= count {
             return None;

@@ -7,6 +7,7 @@ use crate::cursor::Cursor;
 use crate::receiver::Receiver;
 use call_text::answer::numbers_line;
 use call_text::find::find;
+use text::line::LINE_FEED;
 use text::page::Page;
 
 // Where the next line starts that is to be played, and what this one prints.
@@ -59,7 +60,7 @@ pub fn step<const N: usize, R: Receiver<N>>(
     if text.len() <= at {
         return ended(left, line);
     }
-    let end = find(text, at, b'\n');
+    let end = find(text, at, LINE_FEED);
     if text.len() <= end {
         return unknown(line);
     }
