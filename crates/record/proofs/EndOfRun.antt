@@ -1,5 +1,5 @@
 -- A call refused and a call accepted, as the methods of the state end them.
-use Rattle.std.specs.Prelude.{◌≡◌, ℕ, Result, Ok, Err}
+use Rattle.std.specs.Prelude.{◌≡◌, ℕ, Ok, Err}
 use Rattle.std.proofs.Common.{sym, ap, ◌∙◌, eq-eqb}
 use Rattle.refusal.specs.Refusal.{judged}
 use Rattle.refusal.specs.laws.Judged.{judged-err, judged-ok}
@@ -20,16 +20,9 @@ use Rattle.record.specs.declared.solver.Solver.{Solver}
 use Rattle.record.specs.declared.Step.{Step}
 use Rattle.record.specs.laws.Fill.{shaped-rows}
 
--- a check of a number that finds a refusal, and one that passes
-abbrev pub Finds : ℕ → Refusal → Type 0
-Finds number refusal = ◌≡◌ {A = Result Unit Refusal} (Err refusal) (judged number (record {}))
-
-abbrev pub Passes : ℕ → Type 0
-Passes number = ◌≡◌ {A = Result Unit Refusal} (Ok (record {})) (judged number (record {}))
-
 -- a call whose check, of its number, found a refusal, and one whose check passed
 module _ (r : Solver) (call : Call) (k : KeptSolver r) (number : ℕ) (e : number ≡ refusal_of r.n r.m call) where
-  pub refuses : (refusal : Refusal) (z : Step Answer Solver) → Finds number refusal →
+  pub refuses : (refusal : Refusal) (z : Step Answer Solver) → Err refusal ≡ judged number (tt {0}) →
       (z.answer ≡ Refused refusal) × (z.next ≡ r) → Solved r call z.answer z.next
   unfolding answer_of after_of_under
   refuses refusal z f h =
@@ -41,7 +34,7 @@ module _ (r : Solver) (call : Call) (k : KeptSolver r) (number : ℕ) (e : numbe
         keeps = rw leaves (after_kept r call k);
       }
 
-  pub accepted : (answer : Answer) (next : Solver) → Passes number → answer ≡ value_of r call →
+  pub accepted : (answer : Answer) (next : Solver) → Ok (tt {0}) ≡ judged number (tt {0}) → answer ≡ value_of r call →
       next ≡ accepted_of r call → Solved r call answer next
   unfolding answer_of after_of_under
   accepted answer next f a h =

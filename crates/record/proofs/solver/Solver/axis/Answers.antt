@@ -1,4 +1,4 @@
-use Rattle.std.proofs.Common.{rules, ◌≡◌, ℕ, ◌-◌, ◌<◌, ◌≤◌, ◌∙◌, ap, arith, eq-eqb, get_or, [], pos, w64}
+use Rattle.std.proofs.Common.{rules, ◌≡◌, ℕ, ◌-◌, ◌<◌, ◌≤◌, ◌∙◌, ap, arith, eq-eqb, Ok, get_or, [], pos, w64}
 use mir.Val.{SFits}
 use Rattle.integer.specs.laws.Word.{word}
 use Rattle.ledger.specs.Axis.{error_of}
@@ -7,7 +7,8 @@ use Rattle.ledger.specs.Refusal.{refusal_of, refusal_under}
 use Rattle.ledger.specs.laws.Accepted.{axis-accepted}
 use Rattle.ledger.specs.laws.Axis.{same-error}
 use Rattle.turn.specs.Turn.{at}
-use Rattle.record.proofs.EndOfRun.{Passes, kept_small}
+use Rattle.record.proofs.EndOfRun.{kept_small}
+use Rattle.refusal.specs.Refusal.{judged}
 use Rattle.refusal.specs.laws.Judged.{judged-err, judged-ok}
 use Rattle.record.specs.Flat.{kept_entry}
 use Rattle.record.specs.Solver.{answer_of, axis_of, value_of}
@@ -20,7 +21,7 @@ unfolding answer_of refusal_under axis_of
 returns-in-Err c = let f = judged-err _ _ _ c.in-Err.ensures in rw c.from.ensures (ap Refused f.1 ∙ rw f.0, rw f.0)
 
 -- row i, counted from 0, is one of the eight
-row-of : (n i : ℕ) → n ≤ 8 → Passes (refusal_of n 0 (axis i)) → (1 ≤ i) × (i - 1 < n) × (i - 1 < 8)
+row-of : (n i : ℕ) → n ≤ 8 → Ok (tt {0}) ≡ judged (refusal_of n 0 (axis i)) (tt {0}) → (1 ≤ i) × (i - 1 < n) × (i - 1 < 8)
 row-of n i few e = let names = axis-accepted n 0 i (judged-ok _ _ _ e).0 in (
   names.first,
   omega (arith, names.first, names.last),
