@@ -4,6 +4,7 @@ use Rattle.std.proofs.Common.{length}
 use borrow.Author.Tests.{eq-eqb, eqb-true}
 use Rattle.refusal.specs.Refusal.{judged, number_of, numbered}
 use Rattle.refusal.specs.declared.Refusal.{Refusal}
+use Rattle.refusal.specs.laws.Judged.{judged-alike, judged-ok}
 use Rattle.scatter.specs.Table.{table_of}
 use Rattle.scatter.specs.declared.table.Table.{Table}
 use Rattle.sums.specs.Sums.{sums_of}
@@ -23,23 +24,6 @@ use Rattle.book_text.specs.Answers.{answer_text, call_text, sums_line}
 use Rattle.book_text.specs.declared.call.BookPlay.{BookPlay}
 use Rattle.book_text.specs.inner.Played.{PlaysCall, ShortPlay, TablePage, plays, short_text}
 
--- what is not refused, and what is
-judged-ok : {X : Type 0} (number : ℕ) (x y : X) → Ok y ≡ judged number x → (number ≡ 0) × (y ≡ x)
-unfolding judged
-judged-ok {X} number x y = by (eqb number 0) refl
-  where
-    by : (t : Bool) → eqb number 0 ≡ t → Ok y ≡ cond t (Ok x) (Err (numbered number)) → (number ≡ 0) × (y ≡ x)
-    by true q e = (eqb-true number 0 q, cc)
-    by false q e = absurd (let z : ◌≡◌ {A = ℕ} 0 1 = cc in omega arith)
-
-judged-err : {X Y : Type 0} (number : ℕ) (x : X) (y : Y) (r : Refusal) → Err r ≡ judged number x → judged number y ≡ Err r
-unfolding judged
-judged-err {X} {Y} number x y r = by (eqb number 0)
-  where
-    by : (t : Bool) → Err r ≡ cond t (Ok x) (Err (numbered number)) → cond t (Ok y) (Err (numbered number)) ≡ Err r
-    by true e = absurd (let z : ◌≡◌ {A = ℕ} 0 1 = cc in omega arith)
-    by false e = cc
-
 module _ (b : Book) where
   abbrev refusal : BookCall → ℕ
   refusal call = book_refusal b.n b.summary.k call
@@ -48,7 +32,7 @@ module _ (b : Book) where
   pub refused-text : {X : Type 0} (call : BookCall) (x : X) (r : Refusal) → Err r ≡ judged (refusal call) x →
       line ((88 ∷ []) ∷ digits (number_of r) ∷ []) ≡ call_text b call
   unfolding book_answer call_text answer_text
-  refused-text call x r e = rw (judged-err (refusal call) x (answer_then call (book_after b call).summary.k) r e)
+  refused-text call x r e = rw (← judged-alike (refusal call) x r (answer_then call (book_after b call).summary.k) e)
 
   pub sums-text : refusal read_summary ≡ 0 → sums_line b.n (sums_of (samples_in b)) ≡ call_text b read_summary
   unfolding book_answer judged call_text answer_then answer_text
