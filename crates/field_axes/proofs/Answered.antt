@@ -1,9 +1,10 @@
 -- The answer of what is written or refused.
 use Rattle.std.proofs.Common.{ℕ, ◌<◌, ◌≤◌, ◌^◌, ◌≡◌, refl, sym, ap, ◌∙◌, Bool, true, false, cond, List, Result, Ok, Err, IfOk, pos}
 use Rattle.std.proofs.Common.{neg_ℤ, arith, eqb, length}
-use borrow.Author.Tests.{eq-eqb, ne_eqb}
-use Rattle.std.proofs.lemmas.Bool.{eqb-false, eqb-true}
+use Rattle.std.proofs.lemmas.Bool.{eqb-false}
 use Rattle.refusal.specs.Refusal.{judged, numbered}
+use Rattle.refusal.specs.laws.Numbers.{number_of-numbered}
+use Rattle.refusal.specs.laws.Judged.{judged-alike, judged-err, judged-ok, judged-taken}
 use Rattle.refusal.specs.declared.Refusal.{Refusal}
 use Rattle.text.specs.Put.{Put}
 use Rattle.text.specs.Written.{Writes, or_short, written_of}
@@ -11,51 +12,27 @@ use Rattle.text.specs.laws.Put.{front_length}
 use Rattle.text.specs.laws.Written.{buffer-stays, buffer-written, taken}
 use Rattle.field_axes.specs.Answer.{answered, count_or_refusal}
 use Rattle.field_axes.specs.inner.Given.{Gives}
-use Rattle.field_axes.proofs.Numbers.{number-of-numbered, or_short-known}
+use Rattle.field_axes.proofs.Numbers.{or_short-known}
 
 -- ---- what a test answers
 
-module _ {X : Type 0} (x : X) where
-  pub is_refused : {refusal : ℕ} (k : ℕ) → k ≡ refusal → (k ≡ 0 → ⊥) → Err (numbered k) ≡ judged refusal x
-  unfolding judged
-  is_refused k e f = rw (← e, ne_eqb k 0 f)
-
-  pub is_taken : (refusal : ℕ) → refusal ≡ 0 → Ok x ≡ judged refusal x
-  unfolding judged
-  is_taken refusal e = rw (eq-eqb refusal 0 e)
-
-  pub tells : (refusal : ℕ) (y : X) → Ok y ≡ judged refusal x → (refusal ≡ 0) × (y ≡ x)
-  unfolding judged
-  tells refusal y = by (eqb refusal 0) refl
-    where
-      by : (t : Bool) → eqb refusal 0 ≡ t → Ok y ≡ cond t (Ok x) (Err (numbered refusal)) → (refusal ≡ 0) × (y ≡ x)
-      by true q e = (eqb-true refusal 0 q, cc)
-      by false q e = absurd (let z : ◌≡◌ {A = ℕ} 0 1 = cc in omega arith)
-
-  -- a refusal before the others
-  pub first-refused : {Y : Type 0} (first later : ℕ) (y : Y) (r : Refusal) → Err r ≡ judged first x →
-      Err r ≡ judged (cond (eqb first 0) later first) y
-  unfolding judged
-  first-refused {Y} first later y r = by (eqb first 0) refl
-    where
-      by : (t : Bool) → eqb first 0 ≡ t → Err r ≡ cond t (Ok x) (Err (numbered first)) →
-          Err r ≡ cond (eqb (cond t later first) 0) (Ok y) (Err (numbered (cond t later first)))
-      by true q e = absurd (let z : ◌≡◌ {A = ℕ} 0 1 = cc in omega arith)
-      by false q e = rw q cc
+-- a refusal before the others
+pub first-refused : {X Y : Type 0} (x : X) (first later : ℕ) (y : Y) (r : Refusal) → Err r ≡ judged first x →
+    Err r ≡ judged (cond (eqb first 0) later first) y
+first-refused x first later y r e = rw (judged-err first x r e).0 (judged-alike first x r y e)
 
 -- ---- what is given
 
 module _ {X : Type 0} (refusal : ℕ) (written entry : List X) where
   pub given : {exit : List X} {r : ℕ} → refusal ≡ 0 → Put written 0 entry exit r → Gives refusal written entry exit (Ok r)
-  given e p = record { answer = ap Ok (front_length p) ∙ is_taken (length written) refusal e; buffer = buffer-written refusal written entry e p }
+  given e p = record { answer = ap Ok (front_length p) ∙ judged-taken refusal (length written) e; buffer = buffer-written refusal written entry e p }
 
   pub refused : {Y : Type 0} (x : Y) (r : Refusal) → Err r ≡ judged refusal x → Gives refusal written entry entry (Err r)
-  unfolding judged
-  refused {Y} x r = by (eqb refusal 0) refl
-    where
-      by : (t : Bool) → eqb refusal 0 ≡ t → Err r ≡ cond t (Ok x) (Err (numbered refusal)) → Gives refusal written entry entry (Err r)
-      by true q e = absurd (let z : ◌≡◌ {A = ℕ} 0 1 = cc in omega arith)
-      by false q e = record { answer = rw q cc; buffer = buffer-stays refusal written entry refusal refl (eqb-false refusal 0 q) }
+  refused x r e =
+      record {
+        answer = judged-alike refusal x r (length written) e;
+        buffer = buffer-stays refusal written entry refusal refl (eqb-false refusal 0 (judged-err refusal x r e).0);
+      }
 
   pub as_number : {exit : List X} {r : Result ℕ Refusal} → refusal ≤ 16 → Gives refusal written entry exit r →
       answered r ≡ count_or_refusal refusal written
@@ -65,7 +42,7 @@ module _ {X : Type 0} (refusal : ℕ) (written entry : List X) where
       by : (t : Bool) → eqb refusal 0 ≡ t →
           answered (cond t (Ok (length written)) (Err (numbered refusal))) ≡ cond t (pos (length written)) (neg_ℤ (pos refusal))
       by true q = refl
-      by false q = ap (λ k. neg_ℤ (pos k)) (number-of-numbered refusal (eqb-false refusal 0 q) known)
+      by false q = ap (λ k. neg_ℤ (pos k)) (number_of-numbered refusal (omega (arith, eqb-false refusal 0 q)) known)
 
 -- ---- how many that is
 
@@ -76,7 +53,7 @@ each-ok (Err e) h = tt
 pub given-fits : {X : Type 0} (refusal : ℕ) (written entry exit : List X) (r : Result ℕ Refusal) → Gives refusal written entry exit r →
     (refusal ≡ 0 → length written < 2 ^ 63) → IfOk r (λ k. k < 2 ^ 63)
 given-fits refusal written entry exit r g h =
-    each-ok r (λ k e. let t = tells (length written) refusal k (sym e ∙ g.answer) in rw t.1 (h t.0))
+    each-ok r (λ k e. let t = judged-ok refusal (length written) k (sym e ∙ g.answer) in rw t.1 (h t.0))
 
 -- ---- a text that a writer writes, with room for it
 

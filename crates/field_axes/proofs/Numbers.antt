@@ -7,28 +7,10 @@ use Rattle.ledger.specs.Call.{load}
 use Rattle.ledger.specs.Refusal.{refusal_of, refusal_under}
 use Rattle.panel.specs.Refusal.{size_refusal}
 use Rattle.readings.specs.Refusal.{job_refusal, number_refusal, samples_refusal}
-use Rattle.refusal.specs.Refusal.{number_of, numbered}
-use Rattle.refusal.specs.declared.Refusal.{Refusal}
-use Rattle.refusal.specs.declared.Refusal.TheVariants.{Malformed}
-use Rattle.refusal.specs.laws.Numbers.{number_of-numbered, numbered-number_of}
 use Rattle.season_report.specs.Texts.{ends_refusal}
 use Rattle.text.specs.Written.{or_short}
 use Rattle.field_axes.specs.Solution.{solve_refusal}
 use Rattle.field_axes.specs.Table.{table_refusal}
-
-pub number-of-numbered : (k : ℕ) → (k ≡ 0 → ⊥) → k ≤ 16 → number_of (numbered k) ≡ k
-number-of-numbered k f h = number_of-numbered k (omega arith) h
-
--- of any refusal
-pub number-few : (r : Refusal) → number_of r ≤ 16
-number-few Malformed = omega arith
-number-few _ = omega arith
-
-pub some-number : (r : Refusal) → number_of r ≡ 0 → ⊥
-some-number r e =
-    let q : r ≡ Malformed = sym (numbered-number_of r) ∙ ap numbered e in
-    let one : number_of r ≡ 1 = ap number_of q in
-    omega arith
 
 by-test : (test : Bool) (a b : ℕ) → a ≤ 16 → b ≤ 16 → cond test a b ≤ 16
 by-test true a b h g = h

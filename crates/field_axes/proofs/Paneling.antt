@@ -3,19 +3,20 @@ use Rattle.std.proofs.Common.{ℕ, ◌<◌, ◌≤◌, ◌≡◌, sym, ◌∙◌
 use Rattle.panel.specs.declared.Panel.{Panel}
 use Rattle.refusal.specs.Refusal.{numbered, number_of}
 use Rattle.refusal.specs.declared.Refusal.{Refusal}
-use Rattle.refusal.specs.laws.Numbers.{numbered-number_of}
+use Rattle.refusal.specs.laws.Judged.{judged-numbered}
+use Rattle.refusal.specs.laws.Numbers.{number_of-high, number_of-low, numbered-number_of}
 use Rattle.text.specs.Put.{Put}
 use Rattle.text.specs.Written.{or_short}
 use Rattle.text.specs.laws.Written.{buffer-stays, none_left, refused-first, short-last}
 use Rattle.field_axes.specs.Panels.{panel_numbers, refusal_at}
 use Rattle.field_axes.specs.inner.Given.{Gives}
-use Rattle.field_axes.proofs.Answered.{given, is_refused}
-use Rattle.field_axes.proofs.Numbers.{number-few, or_short-known, some-number}
+use Rattle.field_axes.proofs.Answered.{given}
+use Rattle.field_axes.proofs.Numbers.{or_short-known}
 
 known-at : (o : Result Panel Refusal) → refusal_at o ≤ 16
 unfolding refusal_at
 known-at (Ok x) = omega arith
-known-at (Err r) = number-few r
+known-at (Err r) = number_of-high r
 
 pub known : (o : Result Panel Refusal) (size : ℕ) → or_short (refusal_at o) 3 size ≤ 16
 known o size = or_short-known (refusal_at o) 3 size (known-at o)
@@ -30,14 +31,15 @@ At o entry exit r = Gives (or_short (refusal_at o) 3 (length entry)) (panel_numb
 
 stays : (o : Result Panel Refusal) (entry : List ℤ) (k : ℕ) → or_short (refusal_at o) 3 (length entry) ≡ k → (k ≡ 0 → ⊥) →
     At o entry entry (Err (numbered k))
-stays o entry k e f = record { answer = is_refused _ k (sym e) f; buffer = buffer-stays _ _ entry k (sym e) f }
+stays o entry k e f = record { answer = judged-numbered _ _ k (sym e) f; buffer = buffer-stays _ _ entry k (sym e) f }
 
 pub panel-refused : (o : Result Panel Refusal) (entry : List ℤ) (r : Refusal) → o ≡ Err r → At o entry entry (Err r)
 unfolding refusal_at
 panel-refused o entry r e =
     let at : refusal_at o ≡ number_of r = rw e in
-    let first = refused-first (refusal_at o) 3 (length entry) (λ z. some-number r (sym at ∙ z)) ∙ at in
-    rw (numbered-number_of r) at (stays o entry (number_of r) first (some-number r))
+    let some : number_of r ≡ 0 → ⊥ = λ z. omega (arith, number_of-low r) in
+    let first = refused-first (refusal_at o) 3 (length entry) (λ z. some (sym at ∙ z)) ∙ at in
+    rw (numbered-number_of r) at (stays o entry (number_of r) first some)
 
 module _ (o : Result Panel Refusal) (entry : List ℤ) (x : Panel) (e : o ≡ Ok x) where
   taken : refusal_at o ≡ 0

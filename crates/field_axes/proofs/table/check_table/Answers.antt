@@ -4,10 +4,11 @@ use Rattle.std.proofs.lemmas.Result.{err_from_is_err_and}
 use Rattle.limits.specs.laws.Channels.{places}
 use Rattle.readings.specs.Refusal.{samples_refusal}
 use Rattle.readings.specs.laws.Refusal.{are-readings}
+use Rattle.refusal.specs.laws.Judged.{judged-numbered, judged-taken}
 use Rattle.text.specs.Written.{or_short}
 use Rattle.text.specs.laws.Written.{none_left, not-judged, short-last}
 use Rattle.field_axes.specs.Table.{table_refusal}
-use Rattle.field_axes.proofs.Answered.{first-refused, is_refused, is_taken}
+use Rattle.field_axes.proofs.Answered.{first-refused}
 use Rattle.field_axes.proofs.table.check_table.Goals as goal
 use Rattle.field_axes.proofs.table.check_table.Goals.{In_ok-check}
 
@@ -37,8 +38,9 @@ overflow_add-samples c = record { fits = omega (arith, few (goal.at.overflow_add
 pub returns-then-size-samples : goal.returns-then-size-samples
 unfolding table_refusal
 returns-then-size-samples c =
-    is_refused _ 12 (sym (short-last _ _ _ (taken (goal.at.returns-then-size-samples c).In_ok-check) c.if-size-samples.true)) (λ z. omega arith)
+    let t = taken (goal.at.returns-then-size-samples c).In_ok-check in
+    judged-numbered _ _ 12 (sym (short-last _ _ _ t c.if-size-samples.true)) (λ z. omega arith)
 
 pub returns : goal.returns
 unfolding table_refusal
-returns c = is_taken _ _ (none_left _ _ _ (taken (goal.at.returns c).In_ok-check) c.if-size-samples.false)
+returns c = judged-taken _ _ (none_left _ _ _ (taken (goal.at.returns c).In_ok-check) c.if-size-samples.false)
