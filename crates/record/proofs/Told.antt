@@ -1,18 +1,13 @@
--- An answer that is told by its variant.
-use mathlib.Core.Path.{◌≡◌, refl}
-use mathlib.Core.Bool.{false}
-use Rattle.record.specs.declared.query.Answer.{Answer}
-use Rattle.record.specs.declared.query.Answer.TheVariants.{Loaded, SamplesLoaded, Turned, Swept, TournamentSwept, Pair, NoPair, Axis, Refused}
+-- A pair that a search found is told by an answer; none is told by the one that is none.
+use Rattle.std.specs.Prelude.{◌≡◌, Bool, Option, Some, None, true, false, is_some, not}
+use Rattle.std.proofs.Common.{refl, sym, true≢false}
 use Rattle.record.specs.Run.{no_pair}
+use Rattle.record.specs.declared.sweep.Place.{Place}
+use Rattle.record.specs.inner.Found.{told_pair}
 
-pub not_none : (answer : Answer) → (answer ≡ NoPair → ⊥) → false ≡ no_pair answer
-unfolding no_pair
-not_none Loaded v = refl
-not_none (SamplesLoaded e) v = refl
-not_none (Turned made) v = refl
-not_none (Swept made) v = refl
-not_none (TournamentSwept made) v = refl
-not_none (Pair p q) v = refl
-not_none NoPair v = absurd (v refl)
-not_none (Axis entry error) v = refl
-not_none (Refused refusal) v = refl
+pub told_none : (found : Option Place) (none : Bool) → is_some found ≡ not none → none ≡ no_pair (told_pair found)
+unfolding no_pair told_pair
+told_none None true e = refl
+told_none None false e = absurd (true≢false (sym e))
+told_none (Some pair) true e = absurd (true≢false e)
+told_none (Some pair) false e = refl

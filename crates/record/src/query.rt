@@ -10,8 +10,10 @@ ghost use Rattle.turn.specs.Size.{Small};
 ghost use Rattle.turn.specs.Turn.{at};
 ghost use Rattle.record.specs.Loose.{loose_of};
 ghost use Rattle.record.specs.Record.{is_refused};
+ghost use Rattle.record.specs.inner.Found.{Inside, told_pair};
 
 use crate::Record;
+use crate::sweep::Place;
 use refusal::Refusal;
 
 // What a call answers. No plainer as a Result, or with an Option of a pair: theorems speak of lists of calls and of all their answers.
@@ -70,20 +72,36 @@ fn entry_size(a: &[[i64; 8]; 8], i: usize, j: usize) -> u64
 }
 
 // The first pair in row order whose entry is above t in size.
-pub(crate) fn loose_pair_of(a: &[[i64; 8]; 8], n: usize, t: u64) -> Answer
+pub(crate) fn loose_pair_of(a: &[[i64; 8]; 8], n: usize, t: u64) -> Option<Place>
     requires { n ≤ 8 }
-    ensures { result ≡ loose_of (at a.now) t (cyclic n) }
+    ensures is { told_pair result ≡ loose_of (at a.now) t (cyclic n) }
+    ensures within { Inside result }
 {
-    let mut answer = Answer::NoPair;
+    let mut found = None;
     'search: for p in 0..n {
         for q in p + 1..n {
             if t < entry_size(a, p, q) {
-                answer = Answer::Pair { p: p + 1, q: q + 1 };
+                found = Some(Place { p, q });
                 break 'search;
             }
         }
     }
-    answer
+    found
+}
+
+// The answer that tells it, its numbers from 1.
+#[tactic(auto, unfolding(crate::specs::inner::Found::told_pair, crate::specs::inner::Found::Inside))]
+pub(crate) fn pair_answer(found: Option<Place>) -> Answer
+    requires { Inside found }
+    ensures { result ≡ told_pair found }
+{
+    match found {
+        Some(pair) => Answer::Pair {
+            p: pair.p + 1,
+            q: pair.q + 1,
+        },
+        None => Answer::NoPair,
+    }
 }
 
 // What column j adds to the error of the axis in row i.

@@ -6,7 +6,6 @@ ghost use Rattle.record.specs.Run.{no_pair};
 ghost use Rattle.record.specs.inner.Running.{WorkRan, WorkRunnable};
 ghost use Rattle.turn.specs.Turn.{at};
 
-use crate::query::Answer;
 use crate::work::Work;
 use crate::{Record, query};
 use ledger::Order;
@@ -39,10 +38,7 @@ impl Work {
         requires { self.now.n ≤ 8 }
         ensures { result ≡ no_pair (loose_of (at self.now.matrix) tolerance (cyclic self.now.n)) }
     {
-        matches!(
-            query::loose_pair_of(&self.matrix, self.n, tolerance),
-            Answer::NoPair
-        )
+        query::loose_pair_of(&self.matrix, self.n, tolerance).is_none()
     }
 
     // Sweeps until no pair is loose, a sweep makes no turn, or the limit is reached. Sixteen sweeps make at most 448 turns, so that none is refused.

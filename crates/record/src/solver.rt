@@ -149,7 +149,7 @@ impl Solver {
         if let Err(refusal) = query::check_loose_pair(self.n, t) {
             return Answer::Refused(refusal);
         }
-        query::loose_pair_of(&rows::unpacked(&self.a), self.n, t)
+        query::pair_answer(query::loose_pair_of(&rows::unpacked(&self.a), self.n, t))
     }
 
     pub(crate) fn axis(self, i: usize) -> AxisAnswer

@@ -18,7 +18,7 @@ pub returns : goal.returns
 unfolding answer_of value_of refusal_under
 returns c =
     let r = c.args.self in
-    c.loose_pair_of.ensures ∙
+    c.pair_answer.ensures ∙ c.loose_pair_of.ensures.is ∙
     rw (c.unpacked.ensures, eq-eqb (refusal_of r.n r.m (loose_pair c.args.t)) 0 (judged-ok _ _ _ c.in_default.ensures).0)
     (same-loose r.n _ _ c.args.t (cyclic r.n) (cyclic-pairs r.n)
     (λ i j h l. at-rows_of r.a i j (omega (arith, h, c.requires.size)) (omega (arith, l, c.requires.size))))
