@@ -90,6 +90,7 @@ fn raise(mut counts: [u32; 4], bench: usize) -> [u32; 4]
     counts
 }
 
+// Tried as `(1..=Record::BENCHES).contains(&bench)`: the proof didn't close.
 fn is_bench(bench: usize) -> bool
     ensures { result ≡ is_bench bench }
 {

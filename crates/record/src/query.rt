@@ -72,6 +72,7 @@ fn entry_size(a: &[[i64; 8]; 8], i: usize, j: usize) -> u64
 }
 
 // The first pair in row order whose entry is above t in size.
+// Document 01: 'nested loops over p and q, left by a label at the first entry above tolerance'.
 pub(crate) fn loose_pair_of(a: &[[i64; 8]; 8], n: usize, t: u64) -> Option<Place>
     requires { n ≤ 8 }
     ensures is { told_pair result ≡ loose_of (at a.now) t (cyclic n) }

@@ -184,6 +184,7 @@ impl Solver {
     }
 
     // What a refused call answers and leaves.
+    // No plainer with the check and this in one method over a closure: its contract would have to tell the closure that the check was passed.
     fn refuse(self, refusal: Refusal) -> SolverStep
         ensures { (result.answer ≡ Refused refusal) × (result.next ≡ self) }
     {
