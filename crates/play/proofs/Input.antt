@@ -1,5 +1,5 @@
 -- What is read of an input, and whether more of it is left.
-use Rattle.std.proofs.Common.{ℕ, ◌+◌, ◌<◌, ◌≤◌, ◌≡◌, refl, sym, ap, ◌∙◌, Bool, true, false, List, Option, Some, None, IfSome, arith, leb, ltb}
+use Rattle.std.proofs.Common.{ℕ, ◌+◌, ◌<◌, ◌≤◌, ◌≡◌, refl, sym, ap, ◌∙◌, Bool, true, false, List, Option, Some, None, IfSome, arith, leb}
 use Rattle.std.proofs.Common.{length, take, length-append, length-take-le}
 use Rattle.std.proofs.lemmas.Bool.{ltb_from_iff}
 use Rattle.std.specs.Io.KnownBytes.{Consumes}

@@ -1,6 +1,6 @@
 // What a program does that plays an input: it reads a text of calls, plays it line after line, and prints each answer.
 ghost use Rattle.std.specs.Prelude.{◌≡◌, ◌≤◌, IfOk, IfSome, length, take};
-ghost use Rattle.play.specs.Steps.{Ends};
+ghost use Rattle.play.specs.Steps.{Ends, EndsInput};
 ghost use Rattle.play.specs.Text.{FrontOf};
 
 use crate::INPUT_LIMIT;
@@ -54,4 +54,19 @@ pub fn play_all<const N: usize, R: Receiver<N>>(
         };
         here = next;
     }
+}
+
+// Reads the text of an input, of which more may be left, and plays it: the answer is the last step.
+pub fn play_input<const N: usize, Rc: Receiver<N>, R: Read>(
+    rt: &impl Print,
+    input: &mut R,
+    receiver: &mut Rc,
+    printed: &mut io::Result<()>,
+) -> io::Result<Stepped<N>>
+    requires { Rc.valid receiver.old }
+    ensures { IfOk result (λ z. IfSome (R.remaining input.old) (λ xs. EndsInput Rc.plays receiver.old xs z)) }
+{
+    let mut text = [0u8; INPUT_LIMIT];
+    let (n, left) = read_text(input, &mut text)?;
+    Ok(play_all(rt, receiver, &text[..n], left, printed))
 }
