@@ -30,8 +30,9 @@ pub(crate) fn fits<const N: usize, R: Receiver<N> + Copy>(r: R, text: &[u8], mos
     }
 }
 
-// No plainer: a driver of both loops would hand each line to a closure, of whose effect the caller knew only by a fold over the lines; and this one
-// may be called only where the buffer has room.
+// No plainer: a driver of this loop, of `fits` and of `play_all` (program) would hand each page to a closure, of whose effect the caller knew only by
+// a fold over the lines, and this one may write only where the buffer has room. An iterator over the pages would be a struct with laws of its own, and
+// the last step, which `play_all` answers, is no more at hand when it ends.
 pub(crate) fn put_played<const N: usize, R: Receiver<N> + Copy>(
     r: R,
     text: &[u8],
@@ -43,7 +44,7 @@ pub(crate) fn put_played<const N: usize, R: Receiver<N> + Copy>(
     let mut r = r;
     let mut here = Cursor::start();
     let mut end = 0;
-    'lines: loop {
+    loop {
         let own = step(&mut r, text, false, here);
         end += put_bytes(&mut buf[end..], own.page.text());
         let Some(next) = own.next else {

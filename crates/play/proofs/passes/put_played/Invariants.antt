@@ -4,9 +4,9 @@ use Rattle.play.specs.Steps.{Within}
 use Rattle.play.proofs.Passing.{Wrote}
 use Rattle.play.proofs.passes.put_played.Given as goal
 
-abbrev pub invariant-lines : goal.invariant-lines
-invariant-lines g l =
+abbrev pub invariant-loop-next : goal.invariant-loop-next
+invariant-loop-next g l =
     g.R.Receiver.valid l.r × Within l.text l.here × Wrote g.R.Receiver.plays l.fn.r l.text l.r l.here l.initial.buf l.buf l.end
 
-abbrev pub decreases-lines : goal.decreases-lines
-decreases-lines g l = length l.text - l.here.at
+abbrev pub decreases-loop-next : goal.decreases-loop-next
+decreases-loop-next g l = length l.text - l.here.at
