@@ -1,26 +1,12 @@
 // A request, made on a lent record.
-ghost use Rattle.std.specs.Prelude.{◌≡◌, ◌≤◌, length};
+ghost use Rattle.std.specs.Prelude.{◌≡◌, length};
 ghost use Rattle.record.specs.Kept.{Kept};
-ghost use Rattle.call_text.specs.Requests.{Placed, part, request_call};
+ghost use Rattle.call_text.specs.Requests.{Placed, request_call};
 ghost use Rattle.play.specs.inner.Calls.{Answers};
 
 use call_text::request::Request;
 use readings::Samples;
 use record::{AxisAnswer, Record, lent};
-
-fn entries_at(numbers: &[i64], from: usize, to: usize) -> &[i64]
-    requires { (from ≤ to) × (to ≤ length numbers.now) }
-    ensures { result.now ≡ part from to numbers.now }
-{
-    &numbers[from..to]
-}
-
-fn readings_at(readings: &[u32], from: usize, to: usize) -> &[u32]
-    requires { (from ≤ to) × (to ≤ length readings.now) }
-    ensures { result.now ≡ part from to readings.now }
-{
-    &readings[from..to]
-}
 
 // The request of a line with these numbers, and with the readings of those that are samples.
 pub(crate) fn call(
@@ -34,7 +20,7 @@ pub(crate) fn call(
 {
     match request {
         Request::Load { bench, n, from, to } => {
-            let numbers = entries_at(numbers, from, to);
+            let numbers = &numbers[from..to];
             AxisAnswer::from(lent::load(r, bench, n, numbers))
         }
         Request::LoadSamples {
@@ -44,8 +30,8 @@ pub(crate) fn call(
             middle,
             to,
         } => {
-            let dilutions = readings_at(readings, from, middle);
-            let counts = readings_at(readings, middle, to);
+            let dilutions = &readings[from..middle];
+            let counts = &readings[middle..to];
             let samples = Samples {
                 n,
                 dilutions,

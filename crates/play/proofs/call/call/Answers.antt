@@ -7,12 +7,11 @@ use Rattle.play.proofs.call.call.Goals as goal
 
 pub returns-in-Load : goal.returns-in-Load
 unfolding request_call row_of
-returns-in-Load c = rw (c.in-Load.is, ← c.entries_at-numbers.ensures) (answers-plain _ _ _ _ _ refl c.load.ensures c.from.ensures)
+returns-in-Load c = rw (c.in-Load.is) (answers-plain _ _ _ _ _ refl c.load.ensures c.from.ensures)
 
 pub returns-in-LoadSamples : goal.returns-in-LoadSamples
 unfolding request_call row_of
-returns-in-LoadSamples c = rw (c.in-LoadSamples.is, ← c.readings_at-dilutions.ensures, ← c.readings_at-counts.ensures)
-    (answers-plain _ _ _ _ _ refl c.load_samples.ensures c.from-in-LoadSamples.ensures)
+returns-in-LoadSamples c = rw (c.in-LoadSamples.is) (answers-plain _ _ _ _ _ refl c.load_samples.ensures c.from-in-LoadSamples.ensures)
 
 pub returns-in-Turn : goal.returns-in-Turn
 unfolding request_call row_of
