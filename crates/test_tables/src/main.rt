@@ -108,10 +108,8 @@ fn print_entry(rt: &impl Print, u: i64) -> io::Result<()> {
     print!(rt; "\t{u}")
 }
 
-fn print_entries(rt: &impl Print, entries: &[i64; 64], count: usize) -> io::Result<()>
-    requires { count ≤ 64 }
-{
-    for u in &entries[..count] {
+fn print_entries(rt: &impl Print, entries: &[i64]) -> io::Result<()> {
+    for u in entries {
         print_entry(rt, *u)?;
     }
     Ok(())
@@ -126,7 +124,7 @@ fn print_table(rt: &impl Print, c: u64) -> io::Result<()>
     let e = t.e;
     print!(rt; "{n}\t{k}\t{e}")?;
     let entries = t.entries;
-    print_entries(rt, &entries, n * n)?;
+    print_entries(rt, &entries[..n * n])?;
     println!(rt)
 }
 
