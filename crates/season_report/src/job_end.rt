@@ -7,22 +7,16 @@ ghost use Rattle.season_report.specs.Job.{error_at, ran, record_errors, refused_
 ghost use Rattle.season_report.specs.Season.{added, larger, overtakes};
 
 use crate::{LargestError, Season};
-use record::run::OWN_BENCH;
-use record::{Answer, Outcome, Record, Run};
+use record::{Outcome, Record, Run};
 use refusal::Refusal;
+use report::axes::own_axis;
 
 // r_i, as the axis call answers it.
 fn error_at(r: Record, i: usize) -> u64
     requires { Kept r × (1 ≤ i) × (i ≤ r.solver.n) }
     ensures { result ≡ error_at r i }
 {
-    let step = r.axis(OWN_BENCH, i);
-    let answered = step.answer;
-    let value = answered.value;
-    let Answer::Axis { entry: _, error } = value else {
-        return 0;
-    };
-    error
+    own_axis(r, i).error
 }
 
 // The largest error so far, and one found after it: it stays unless that one is larger, so that the first job and the lowest axis are named.

@@ -1,5 +1,5 @@
--- `report::axes::axis_numbers` meets its contract: the axis call is not refused, and what it answers stands in the line.
-use mathlib.Core.Path.{◌≡◌, sym, ◌∙◌}
+-- `report::axes::axis_numbers` meets its contract: what the axis call answers stands in the line.
+use mathlib.Core.Path.{◌≡◌, refl, sym, ◌∙◌}
 use Rattle.record.specs.Kept.{Kept}
 use Rattle.record.specs.Run.{own}
 use Rattle.record.specs.declared.Record.{Record}
@@ -33,19 +33,15 @@ module _ (r : Record) (i : ℕ) (k : Kept r) (first : 1 ≤ i) (last : i ≤ r.s
       let error-is : error ≡ error_here = cc in
       rw error-is (error-small r (i - 1) (omega (arith, first, last)) k)
 
-pub returns-in_default : goal.returns-in_default
-returns-in_default c =
-    absurd (c.in_default.not-Axis _ _ (answer-is c.args.r c.args.i c.requires.0 c.requires.1 c.requires.2 _ c.axis.ensures.answers))
-
-pub overflow_cast-error : goal.overflow_cast-error
-overflow_cast-error c =
-    record { sfits = small c.args.r c.args.i c.requires.0 c.requires.1 c.requires.2 _ c.axis.ensures.answers _ _ c.in-Axis.is }
+pub overflow_cast-axis : goal.overflow_cast-axis
+overflow_cast-axis c =
+    record { sfits = small c.args.r c.args.i c.requires.0 c.requires.1 c.requires.2 _ c.own_axis-axis.ensures.0 _ _ refl }
 
 pub returns : goal.returns
 returns c =
-    let f : SFits w64 (pos c.in-Axis.error) =
-    record { sfits = small c.args.r c.args.i c.requires.0 c.requires.1 c.requires.2 _ c.axis.ensures.answers _ _ c.in-Axis.is } in
-    let h : SFits w64 c.in-Axis.entry = search rules in
+    let f : SFits w64 (pos c.own_axis-axis.result.error) =
+    record { sfits = small c.args.r c.args.i c.requires.0 c.requires.1 c.requires.2 _ c.own_axis-axis.ensures.0 _ _ refl } in
+    let h : SFits w64 c.own_axis-axis.result.entry = search rules in
     let g : SFits w64 (pos c.args.i) = record { sfits = omega (arith, c.requires.2, c.requires.0.solver.size) } in
-    c.numbers_of-2.ensures ∙ rw (to_z-of_z g, to_z-of_z h, to_z-of_z f)
-    (numbers-by c.args.r c.args.i _ _ _ _ c.axis.ensures.answers c.axis.ensures.row c.in-Axis.is)
+    c.numbers_of.ensures ∙ rw (to_z-of_z g, to_z-of_z h, to_z-of_z f)
+    (numbers-by c.args.r c.args.i _ _ _ _ c.own_axis-axis.ensures.0 c.own_axis-axis.ensures.1 refl)
