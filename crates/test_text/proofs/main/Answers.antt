@@ -6,4 +6,4 @@ use Rattle.test_text.proofs.main.Goals as goal
 
 pub two_lines-end-requires : goal.two_lines-end-requires
 unfolding number_line word_line line further number digits digits_by
-two_lines-end-requires c = (lit≤ tt, lit≤ tt)
+two_lines-end-requires c = lit≤ tt
