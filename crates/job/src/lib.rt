@@ -65,7 +65,8 @@ pub struct RefusedLine {
     pub line: usize,
 }
 
-// What is refused at no line, as a buffer that is too short, has line 0.
+// Document 01, "A refusal returns its number (1 to 4 from job text, also the line)": any other, as of a buffer that is too short, has line 0.
+// No plainer: where there is none, an Option would be made a 0 again by each program that prints it and by what C calls.
 impl From<Refusal> for RefusedLine {
     ghost from_gives = { λ refusal refused. refused ≡ record { refusal = refusal; line = 0 } };
 

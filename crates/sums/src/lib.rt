@@ -15,6 +15,7 @@ use readings::Samples;
 use std::array::from_fn;
 
 // A cross sum of the channels i ≤ j, counted from 0, stands at 8 × i + j; any other place is 0.
+// No plainer: a ghost field that says `Bounded` would leave no sums of any samples, and the definitions write such down (`sums_of`).
 #[derive(Clone, Copy)]
 pub struct Sums {
     pub k: u64,
