@@ -41,6 +41,7 @@ fn print_wrong(rt: &impl Print, number: u32) -> io::Result<()> {
 fn main(rt: HostRuntime) -> io::Result<()> {
     let first = open_argument(&rt, 1);
     let second = open_argument(&rt, 2);
+    // No plainer: with `let .. else` the numbers 1 and 2 would stand here, where no contract says which is printed, as `wrong_argument`'s does.
     match wrong_argument(first.is_some(), second.is_some(), words(&rt)) {
         Some(number) => print_wrong(&rt, number),
         None => print_pooled(&rt, first.unwrap(), second.unwrap()),
