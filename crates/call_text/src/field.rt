@@ -18,6 +18,7 @@ fn all_digits(field: &[u8]) -> bool
 }
 
 // The value of at most 10 digits.
+// No plainer: `str::parse` takes a plus and leading zeros and wants a str, so the tests of a field and of its length would stand beside it.
 #[tactic(auto, using(crate::proofs::Digits::values))]
 fn value(field: &[u8]) -> u64
     requires { (length field.now ≤ digit_limit) × (all_within 48 57 field.now ≡ true) }

@@ -36,6 +36,7 @@ fn may_follow(value: u32, b: u8) -> bool
 }
 
 // The rest of a field after digits of this value.
+// No plainer: `str::parse` takes a plus and leading zeros and wants a str, whose end would be looked for first, with the same tests.
 #[tactic(auto, using(crate::proofs::ProvedBy::digits))]
 fn digits(text: &[u8], from: usize, start: u32) -> Field
     ensures { result ≡ digits_at text.now from start }

@@ -12,6 +12,8 @@ ghost use Rattle.text.specs.Put.{Put, Sized};
 
 const MINUS: u8 = b'-';
 
+// Digits are written here. No plainer: `itoa` formats in a buffer of its own, to be copied, and `write!` answers a Result to be shown Ok.
+
 // How many digits x has.
 pub(crate) fn natural_length(x: u64) -> usize
     ensures { Sized (digits x) 20 result }
