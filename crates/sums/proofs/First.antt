@@ -1,8 +1,8 @@
 -- The sums of the first samples of readings: that a further sample can be added, and what its sums then are.
 use mathlib.Core.Path.{◌≡◌, ap, ◌∙◌}
 use mathlib.Core.List.{List}
-use Prim.Native.Nat.{ℕ, suc, ◌+◌, ◌-◌, ◌*◌, ◌<◌, ◌≤◌}
-use native.Mathlib.Nat.{le_trans, mul-le-mul_right, mul-le-mul_left, mul-suc}
+use Prim.Native.Nat.{ℕ, ◌+◌, ◌-◌, ◌*◌, ◌<◌, ◌≤◌}
+use native.Mathlib.Nat.{le_trans, mul-le-mul_right}
 use native.Mathlib.Numerals.{add-one}
 use native.Mathlib.Omega.{arith}
 use lib.ListN.{length, get_or, take, drop}
@@ -19,12 +19,6 @@ use Rattle.sums.specs.laws.Bounds.{sample-in-range, all-in-range, totals-bound}
 use Rattle.limits.specs.Limits.{most_samples}
 
 module _ (n : ℕ) (dilutions counts : List ℕ) (r : Readings n dilutions counts) (s : ℕ) (more : s < length dilutions) where
-  pub part-fits : n * s + n ≤ length counts
-  part-fits = omega (arith, mul-suc n s, mul-le-mul_left n (next more), r.counted)
-    where
-      next : s < length dilutions → suc s ≤ length dilutions
-      next h = omega arith
-
   -- the part of the counts that is lent
   the-sample : sample (get_or dilutions s 0) (take (n * s + n - n * s) (drop (n * s) counts)) ≡ sample_at n dilutions counts s
   unfolding sample_at
