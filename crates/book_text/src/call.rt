@@ -94,7 +94,7 @@ fn table_said(b: Book) -> Page<2048>
     }
 }
 
-// no plainer: this and the two after it differ in the page, which only a call with no number is to make.
+// No plainer: this and the two after it differ in the page, which only a call with no number is to make.
 fn summed(b: Book, numbers: &[i64]) -> Option<BookPlay>
     requires { Consistent b }
     ensures { PlaysCall b (no_number_of read_summary numbers.now) result }

@@ -50,6 +50,7 @@ pub fn read_readable<R: Read>(input: &mut R, buf: &mut [u8]) -> usize
     ensures rest { Consumes (R.remaining input.old) (R.remaining input.new) (take result buf.new) }
 {
     let mut at = 0;
+    // No plainer: each turn reads a byte or is the last, so the buffer's room ends it; a `for` over counted reads would have an end never reached.
     while at < buf.len() {
         match input.read(&mut buf[at..]) {
             Ok(0) | Err(_) => break,
