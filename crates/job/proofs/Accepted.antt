@@ -15,8 +15,8 @@ use Rattle.integer.specs.laws.Within.{all_append}
 use Rattle.integer.specs.Within.{within, all_within}
 use Rattle.readings.specs.Ranges.{parameters_in_range}
 use Rattle.job.specs.Range.{sample_in_range}
-use Rattle.job.specs.Text.{number_of, numbers_of, is_tag, record_of, line_of}
-use Rattle.job.specs.Job.{Job, Answer, refused, accepted, with_sample, next_line, nothing, ended, judged, job_after, begun, job_of_lines, job_of}
+use Rattle.job.specs.Text.{number_in, numbers_of, is_tag, record_of, line_of}
+use Rattle.job.specs.Job.{Job, Answer, refused, accepted, with_sample, next_line, nothing, ended, judged_line, job_after, begun, job_of_lines, job_of}
 use Rattle.job.specs.Values.{in_range, Proper}
 
 -- ---- a line that is one with this tag has c numbers
@@ -26,7 +26,7 @@ unfolding numbers_of
 numbers-count zero [] xs e = let q : [] ≡ xs = cc in rw (← q)
 numbers-count zero (f ∷ fs) xs e = let z : ◌≡◌ {A = ℕ} 0 1 = cc in omega arith
 numbers-count (suc c) [] xs e = let z : ◌≡◌ {A = ℕ} 0 1 = cc in omega arith
-numbers-count (suc c) (f ∷ fs) xs e = one_more (number_of f) (numbers_of c fs) (numbers-count c fs) e
+numbers-count (suc c) (f ∷ fs) xs e = one_more (number_in f) (numbers_of c fs) (numbers-count c fs) e
   where
     one_more : (o : Option ℕ) (os : Option (List ℕ)) → ((ys : List ℕ) → os ≡ some ys → length ys ≡ c) → before o os ≡ some xs → length xs ≡ suc c
     one_more none os h e = unfold before in (let z : ◌≡◌ {A = ℕ} 0 1 = cc in omega arith)
@@ -105,8 +105,8 @@ module _ (j' : Job) where
 
   judged-proper : (j : Job) → Begun j → (o oE : Option (List ℕ)) (rest : List (List ℕ)) (go : List ℕ → Answer) →
       ((xs : List ℕ) → o ≡ some xs → length xs ≡ suc j.n) → ((xs : List ℕ) → Begun (with_sample j xs) → go xs ≡ accepted j' → Proper j') →
-      judged j o oE rest go ≡ accepted j' → Proper j'
-  unfolding judged ended
+      judged_line j o oE rest go ≡ accepted j' → Proper j'
+  unfolding judged_line ended
   judged-proper j b (some xs) oE rest go c h e =
       by-sample (next_line j) (sample_in_range xs) (ltb (length j.dilutions) 256) (go xs)
       (λ r k. h xs (begun_more j b xs (c xs refl) r (ltb-true _ _ k))) e

@@ -14,7 +14,7 @@ use Rattle.text.specs.inner.Numeral.{is_digit}
 use Rattle.integer.specs.Within.{all_within}
 use Rattle.integer.specs.laws.Within.{is_within}
 use Rattle.job.specs.inner.FieldScan.{may_follow}
-use Rattle.job.specs.Text.{number_of}
+use Rattle.job.specs.Text.{number_in}
 
 unfoldable pub more : ℕ → List ℕ → Option ℕ
 more v [] = some v
@@ -69,8 +69,8 @@ first-is b bs d false e =
     let other = eqb-false b 48 e in
     more-is 0 6 (b - 48) bs refl (omega arith) (omega arith)
 
-pub number_is : (f : List ℕ) → numeral f ≡ number_of f
-unfolding numeral number_of all_within leading_zero value_from
+pub number_is : (f : List ℕ) → numeral f ≡ number_in f
+unfolding numeral number_in all_within leading_zero value_from
 number_is [] = refl
 number_is (b ∷ bs) =
     simp (lt-ltb 0 (suc (length bs)) (omega arith), leb-suc-suc (length bs) 6, zero-add (b - 48))

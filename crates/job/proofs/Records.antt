@@ -14,7 +14,7 @@ use Rattle.std.proofs.lemmas.Bool.{and_parts}
 use Rattle.integer.specs.laws.Tests.{cond_same}
 use Rattle.text.specs.Parts.{onto, split, before}
 use Rattle.job.specs.inner.FieldScan.{field_at, tagged_from, tagged_at}
-use Rattle.job.specs.Text.{number_of, numbers_of, is_tag, record_of, line_of}
+use Rattle.job.specs.Text.{number_in, numbers_of, is_tag, record_of, line_of}
 use Rattle.std.specs.Prelude.{Option as Found, None, Some}
 use Rattle.job.specs.inner.LineScan.{last_number, inner_number, numbers_at, line_at}
 use Rattle.job.specs.declared.sample.Line.{Line}
@@ -65,17 +65,17 @@ no-numbers l = rw (split-cons 9 l).same
 
 -- A line whose first field is f, and whose other fields are those of l.
 numbers-tab : (c : ℕ) (line f l : List ℕ) (ls : List (List ℕ)) → split 9 line ≡ f ∷ split 9 l →
-    numbers_in (suc c) (line ∷ ls) ≡ before (number_of f) (numbers_in c (l ∷ ls))
+    numbers_in (suc c) (line ∷ ls) ≡ before (number_in f) (numbers_in c (l ∷ ls))
 unfolding numbers_in numbers_of
-numbers-tab c line f l [] q = sym (before-none (number_of f))
+numbers-tab c line f l [] q = sym (before-none (number_in f))
 numbers-tab c line f l (part ∷ parts) q = rw q
 
 numbers-feed : (c : ℕ) (f : List ℕ) (ls : List (List ℕ)) → split 9 f ≡ f ∷ [] → numbers_in (suc (suc c)) (f ∷ ls) ≡ none
 unfolding numbers_in numbers_of
 numbers-feed c f [] q = refl
-numbers-feed c f (part ∷ parts) q = rw q (before-none (number_of f))
+numbers-feed c f (part ∷ parts) q = rw q (before-none (number_in f))
 
-numbers-last : (f : List ℕ) (ls : List (List ℕ)) → Cons ls → split 9 f ≡ f ∷ [] → numbers_in 1 (f ∷ ls) ≡ before (number_of f) (some [])
+numbers-last : (f : List ℕ) (ls : List (List ℕ)) → Cons ls → split 9 f ≡ f ∷ [] → numbers_in 1 (f ∷ ls) ≡ before (number_in f) (some [])
 unfolding numbers_in numbers_of
 numbers-last f ls p q = rw p.same (rw q)
 
@@ -127,7 +127,7 @@ module _ (text : List ℕ) where
   inner-tab row i c rest (some v) next go os ih = one_more row i c rest v (ih v)
 
   module _ (at : ℕ) {f rest : List ℕ} {e : End} (p : Cut (drop at text) f e rest) where
-    field_is : field_at text at ≡ ended e (number_of f) (at + suc (length f))
+    field_is : field_at text at ≡ ended e (number_in f) (at + suc (length f))
     unfolding field_at
     field_is = field_cut p at ∙ ap (λ (o : Option ℕ). ended e o (at + suc (length f))) (number_is f)
 
@@ -144,14 +144,14 @@ module _ (text : List ℕ) where
         t.lines,
         numbers-tab 0 t.line f k.first k.others t.fields,
         numbers-none k.first k.others,
-        before-none (number_of f),
-        last-tab row i (number_of f) (at + suc (length f)),
+        before-none (number_in f),
+        last-tab row i (number_in f) (at + suc (length f)),
       ) bad
   last-read row at i f rest feed p =
       let s = split-feed p in
       rw (field_is at p, s.0, numbers-last f (split 10 rest) (split-cons 10 rest) s.1)
-      (last-feed row i (split 10 rest) (number_of f) (at + suc (length f)) (ap (split 10) (rest-is at p)))
-  last-read row at i f rest over p = rw (field_is at p, split-over p, last-over row i (number_of f) (at + suc (length f)), numbers-over 1 f) bad
+      (last-feed row i (split 10 rest) (number_in f) (at + suc (length f)) (ap (split 10) (rest-is at p)))
+  last-read row at i f rest over p = rw (field_is at p, split-over p, last-over row i (number_in f) (at + suc (length f)), numbers-over 1 f) bad
 
   -- The line at a place, as the numbers from number i on.
   abbrev Told : ℕ → List ℕ → ℕ → ℕ → Type 0
@@ -167,7 +167,7 @@ module _ (text : List ℕ) where
       let next = at + suc (length f) in
       let e : split 10 (drop next text) ≡ k.first ∷ k.others = ap (split 10) (rest-is at p) ∙ k.same in
       rw (field_is at p, t.lines, numbers-tab (suc m) t.line f k.first k.others t.fields)
-      (inner-tab row i (suc m) k.others (number_of f) next (λ v next. numbers_at text (set row i v) next (i + 1) m)
+      (inner-tab row i (suc m) k.others (number_in f) next (λ v next. numbers_at text (set row i v) next (i + 1) m)
       (numbers_in (suc m) (k.first ∷ k.others)) (λ v. rw e at (ih v next)))
   inner-read m row at i ih f rest feed p =
       let s = split-feed p in
@@ -175,14 +175,14 @@ module _ (text : List ℕ) where
         field_is at p,
         s.0,
         numbers-feed m f (split 10 rest) s.1,
-        inner-feed (number_of f) (at + suc (length f))
+        inner-feed (number_in f) (at + suc (length f))
             (λ v next. numbers_at text (set row i v) next (i + 1) m),
       ) bad
   inner-read m row at i ih f rest over p =
       rw (
         field_is at p,
         split-over p,
-        inner-over (number_of f) (at + suc (length f)) (λ v next. numbers_at text (set row i v) next (i + 1) m),
+        inner-over (number_in f) (at + suc (length f)) (λ v next. numbers_at text (set row i v) next (i + 1) m),
         numbers-over (suc (suc m)) f,
       ) bad
 

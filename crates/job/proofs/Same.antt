@@ -24,7 +24,7 @@ use Rattle.refusal.specs.Refusal.{numbered}
 use Rattle.job.specs.declared.first.Parameters.{Parameters}
 use Rattle.job.specs.declared.Job.TheInside.{Inside}
 use Rattle.job.proofs.Records.{line_in, Reads, bad, good, Cons, split-cons, line_read}
-use Rattle.job.specs.Job.{Job, Answer, refused, accepted, with_sample, next_line, nothing, ended, judged, job_after, begun, job_of_lines, job_of}
+use Rattle.job.specs.Job.{Job, Answer, refused, accepted, with_sample, next_line, nothing, ended, judged_line, job_after, begun, job_of_lines, job_of}
 use Rattle.integer.specs.Padded.{padded}
 use Rattle.integer.specs.laws.Padded.{padded-more}
 use Rattle.job.specs.Held.{in_arrays}
@@ -119,8 +119,8 @@ module _ (text : List ℕ) (at : ℕ) (j : Job) (go : List ℕ → Answer) where
   ended_same false false = refl
 
   finished-same : (rest : List (List ℕ)) {L : Found Line} {o : Option (List ℕ)} → Reads text (replicate 9 0) 0 1 rest L o →
-      finished_by (in_arrays j) (ending_of text (length j.dilutions) L) ≡ arrays_of (judged j none o rest go)
-  unfolding ending_of judged ended
+      finished_by (in_arrays j) (ending_of text (length j.dilutions) L) ≡ arrays_of (judged_line j none o rest go)
+  unfolding ending_of judged_line ended
   finished-same rest bad = unfold finished_by arrays_of next_line in_arrays in refl
   finished-same rest (good xs next e q) =
       rw (row_at xs 0 (omega arith) (omega arith), nothing-after text next rest q)
@@ -128,8 +128,8 @@ module _ (text : List ℕ) (at : ℕ) (j : Job) (go : List ℕ → Answer) where
 
 -- The lines as a first line, by what it is as an `S` line and as an `E` line, and the others.
 after_is : (j : Job) (ls : List (List ℕ)) →
-    job_after j ls ≡ judged j (line_in 83 (suc j.n) ls) (line_in 69 1 ls) (tail ls) (λ xs. job_after (with_sample j xs) (tail ls))
-unfolding job_after line_in judged
+    job_after j ls ≡ judged_line j (line_in 83 (suc j.n) ls) (line_in 69 1 ls) (tail ls) (λ xs. job_after (with_sample j xs) (tail ls))
+unfolding job_after line_in judged_line
 after_is j [] = refl
 after_is j (l ∷ []) = refl
 after_is j (l ∷ part ∷ parts) = refl
@@ -150,8 +150,8 @@ judged-same : (text : List ℕ) (at : ℕ) (j : Job) → Fair j →
     Reads text (replicate 9 0) 0 1 rest (line_at text at 69 0) oE →
     ((xs : List ℕ) (next : ℕ) → length xs ≡ suc j.n → split 10 (drop next text) ≡ rest → length j.dilutions < 256 →
     continue (record { numbers = sets (replicate 9 0) 0 xs; next = next }) ≡ arrays_of (go xs)) →
-    sample_of text at (in_arrays j) L continue ≡ arrays_of (judged j o oE rest go)
-unfolding sample_of finished_at ending_at in_arrays judged
+    sample_of text at (in_arrays j) L continue ≡ arrays_of (judged_line j o oE rest go)
+unfolding sample_of finished_at ending_at in_arrays judged_line
 judged-same text at j fair rest go continue bad E step = finished-same text at j go rest E
 judged-same text at j fair rest go continue (good xs next e q) E step =
     rw (in-range j.n xs e fair.channels)

@@ -39,18 +39,18 @@ ended j x rest =
     (cond (eqb x (length j.dilutions) && nothing rest) (accepted j) (refused 4 (next_line j)))
 
 -- A line after the first, by what it is as an `S` line and as an `E` line: refusal 1, then 2, then 3, then 4.
-unfoldable pub judged : Job → Option (List ℕ) → Option (List ℕ) → List (List ℕ) → (List ℕ → Answer) → Answer
-judged j (some xs) e rest go =
+unfoldable pub judged_line : Job → Option (List ℕ) → Option (List ℕ) → List (List ℕ) → (List ℕ → Answer) → Answer
+judged_line j (some xs) e rest go =
     cond (sample_in_range xs) (cond (ltb (length j.dilutions) most_samples) (go xs) (refused 3 (next_line j))) (refused 2 (next_line j))
-judged j none (some xs) rest go = ended j (get_or xs 0 0) rest
-judged j none none rest go = refused 1 (next_line j)
+judged_line j none (some xs) rest go = ended j (get_or xs 0 0) rest
+judged_line j none none rest go = refused 1 (next_line j)
 
 -- The lines after those of `P` and of the samples of j. The last part has no line feed after it. 83 is `S`, and 69 is `E`.
 unfoldable pub job_after : Job → List (List ℕ) → Answer
 job_after j [] = refused 1 (next_line j)
 job_after j (part ∷ []) = refused 1 (next_line j)
 job_after j (line ∷ part ∷ parts) =
-    judged j (line_of 83 (suc j.n) line) (line_of 69 1 line) (part ∷ parts) (λ xs. job_after (with_sample j xs) (part ∷ parts))
+    judged_line j (line_of 83 (suc j.n) line) (line_of 69 1 line) (part ∷ parts) (λ xs. job_after (with_sample j xs) (part ∷ parts))
 
 unfoldable pub begun : Option (List ℕ) → List (List ℕ) → Answer
 begun none rest = refused 1 1

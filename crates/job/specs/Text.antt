@@ -7,15 +7,15 @@ use Rattle.integer.specs.Within.{all_within}
 use Rattle.limits.specs.Limits.{most_digits}
 
 -- "A number is 1 to 7 decimal digits without a sign, and without a leading zero unless it is 0."
-unfoldable pub number_of : List ℕ → Option ℕ
-number_of f = cond (ltb 0 (length f) && leb (length f) most_digits && all_within 48 57 f && not (leading_zero f)) (some (value_from 0 f)) none
+unfoldable pub number_in : List ℕ → Option ℕ
+number_in f = cond (ltb 0 (length f) && leb (length f) most_digits && all_within 48 57 f && not (leading_zero f)) (some (value_from 0 f)) none
 
 -- The numbers of m fields, each of which has to be one.
 unfoldable pub numbers_of : ℕ → List (List ℕ) → Option (List ℕ)
 numbers_of zero [] = some []
 numbers_of zero (f ∷ fs) = none
 numbers_of (suc m) [] = none
-numbers_of (suc m) (f ∷ fs) = before (number_of f) (numbers_of m fs)
+numbers_of (suc m) (f ∷ fs) = before (number_in f) (numbers_of m fs)
 
 unfoldable pub is_tag : ℕ → List ℕ → Bool
 is_tag tag [] = false

@@ -19,12 +19,12 @@ use Rattle.text.specs.laws.ReadBack.{decimal-digits, some-digit, no-leading-zero
 use Rattle.text.specs.laws.Split.{Free, EachFree, followed, joined, followed-free, split-part, split-joined, joined-split}
 use Rattle.text.specs.laws.Within.{all-free}
 use Rattle.text.specs.Line.{further, line, number_line}
-use Rattle.job.specs.Text.{number_of, numbers_of, is_tag, record_of, line_of}
+use Rattle.job.specs.Text.{number_in, numbers_of, is_tag, record_of, line_of}
 
 -- ---- a number
 
-number_read : (x : ℕ) → x < 10 ^ 7 → number_of (digits x) ≡ some x
-unfolding number_of
+number_read : (x : ℕ) → x < 10 ^ 7 → number_in (digits x) ≡ some x
+unfolding number_in
 number_read x h =
     let some = lt-ltb 0 (length (digits x)) (some-digit x) in
     let few = le-leb (length (digits x)) 7 (length_digits 6 x h) in
@@ -35,8 +35,8 @@ chosen : {A : Type 0} (t : Bool) (o : Option A) (x : A) → cond t o none ≡ so
 chosen true o x e = (refl, e)
 chosen false o x e = let z : ◌≡◌ {A = ℕ} 0 1 = cc in absurd (omega arith)
 
-number-written : (f : List ℕ) (x : ℕ) → number_of f ≡ some x → f ≡ digits x
-unfolding number_of
+number-written : (f : List ℕ) (x : ℕ) → number_in f ≡ some x → f ≡ digits x
+unfolding number_in
 number-written f x e =
     let c = chosen _ (some (value_from 0 f)) x e in
     let p = and_parts _ (not (leading_zero f)) c.0 in
@@ -66,7 +66,7 @@ unfolding numbers_of
 numbers-written zero [] xs e = let q : [] ≡ xs = cc in rw (← q) (record { fields = refl; count = refl })
 numbers-written zero (f ∷ fs) xs e = let z : ◌≡◌ {A = ℕ} 0 1 = cc in absurd (omega arith)
 numbers-written (suc m) [] xs e = let z : ◌≡◌ {A = ℕ} 0 1 = cc in absurd (omega arith)
-numbers-written (suc m) (f ∷ fs) xs e = by (number_of f) (number-written f) (numbers_of m fs) (numbers-written m fs) e
+numbers-written (suc m) (f ∷ fs) xs e = by (number_in f) (number-written f) (numbers_of m fs) (numbers-written m fs) e
   where
     by : (o : Option ℕ) → ((x : ℕ) → o ≡ some x → f ≡ digits x)
         → (os : Option (List ℕ)) → ((ys : List ℕ) → os ≡ some ys → Written m fs ys)

@@ -14,7 +14,7 @@ use Rattle.text.specs.Lines.{lines}
 use Rattle.job.specs.Range.{sample_in_range}
 use Rattle.job.specs.Text.{line_of}
 use Rattle.readings.specs.Samples.{sample_at}
-use Rattle.job.specs.Job.{Job, accepted, job_after, begun, ended, job_of, job_of_lines, judged, nothing, with_sample}
+use Rattle.job.specs.Job.{Job, accepted, job_after, begun, ended, job_of, job_of_lines, judged_line, nothing, with_sample}
 use Rattle.job.specs.Values.{Proper}
 use Rattle.job.specs.laws.Proper.{channels, limit-most, number, ranges, tolerance-most}
 use Rattle.job_text.specs.JobText.{ReadsBack, job_text_of, job_line_e, job_line_p, job_line_s, sample_line, sample_numbers}
@@ -26,12 +26,12 @@ use Rattle.job_text.proofs.Sample.{job_numbers, numbers-count, numbers-short, nu
 after-sample : (j : Job) (line part : List ℕ) (parts : List (List ℕ)) (xs : List ℕ)
     → line_of 83 (suc j.n) line ≡ some xs → sample_in_range xs ≡ true → length j.dilutions < 256
     → job_after j (line ∷ part ∷ parts) ≡ job_after (with_sample j xs) (part ∷ parts)
-unfolding job_after judged
+unfolding job_after judged_line
 after-sample j line part parts xs e r h = rw e (simp (r, lt-ltb _ _ h))
 
 after-end : (j : Job) (line : List ℕ) → line_of 83 (suc j.n) line ≡ none → line_of 69 1 line ≡ some (length j.dilutions ∷ [])
     → 2 ≤ length j.dilutions → job_after j (line ∷ [] ∷ []) ≡ accepted j
-unfolding job_after judged ended nothing
+unfolding job_after judged_line ended nothing
 after-end j line e g h = rw (e, g) (simp (le-ltb _ _ h, eq-eqb (length j.dilutions) (length j.dilutions) refl))
 
 -- ---- the lines of a proper job

@@ -21,7 +21,7 @@ use Rattle.readings.specs.Ranges.{parameters_in_range}
 use Rattle.job.specs.Range.{sample_in_range}
 use Rattle.job.specs.Text.{line_of}
 use Rattle.readings.specs.Samples.{sample_at}
-use Rattle.job.specs.Job.{Answer, Job, accepted, job_after, begun, ended, job_of, job_of_lines, judged, next_line, nothing, refused, with_sample}
+use Rattle.job.specs.Job.{Answer, Job, accepted, job_after, begun, ended, job_of, job_of_lines, judged_line, next_line, nothing, refused, with_sample}
 use Rattle.job.proofs.Accepted.{accepted-proper}
 use Rattle.job_text.specs.JobText.{ReadIsProper, WritesBack, job_text_of, job_line_e, job_line_p, job_line_s, sample_line, sample_numbers}
 use Rattle.job_text.proofs.Fields.{Line, line-written}
@@ -137,8 +137,8 @@ module _ (j' : Job) where
     judged-whole : (o oE : Option (List ℕ))
         → ((xs : List ℕ) → o ≡ some xs → Line 83 (suc j.n) line xs) → ((xs : List ℕ) → oE ≡ some xs → Line 69 1 line xs)
         → (go : List ℕ → Answer) → ((xs : List ℕ) → length xs ≡ suc j.n → go xs ≡ accepted j' → Whole (with_sample j xs) (part ∷ parts))
-        → judged j o oE (part ∷ parts) go ≡ accepted j' → Whole j (line ∷ part ∷ parts)
-    unfolding judged ended
+        → judged_line j o oE (part ∷ parts) go ≡ accepted j' → Whole j (line ∷ part ∷ parts)
+    unfolding judged_line ended
     judged-whole (some xs) oE s e go h q =
         let a = taken (sample_in_range xs) _ 2 (next_line j) q in
         let b = taken (ltb (length j.dilutions) 256) (go xs) 3 (next_line j) a.1 in

@@ -14,7 +14,7 @@ use Rattle.integer.specs.laws.Within.{is_within}
 use Rattle.ledger.specs.Bench.{NamedCall, is_bench}
 use Rattle.ledger.specs.Refusal.{refusal_of}
 use Rattle.limits.specs.Limits.{benches, entry_limit, refused_limit}
-use Rattle.record.specs.Benches.{Benches-alike, Counts, answers_from, refusals, renamed}
+use Rattle.record.specs.Benches.{Benches-alike, Counts, answers_from, refused_among, renamed}
 use Rattle.record.specs.Kept.{Kept}
 use Rattle.record.specs.Record.{after, after_from, after_from_under, answer_to, called_under, counted, fresh, is_refused}
 use Rattle.record.specs.Record.{raised, record_after, record_after_under, refused_by, row_to}
@@ -88,18 +88,18 @@ module _ (bench : ℕ) (b : is_bench bench ≡ true) where
     counts-on rest = (stops refused_limit (refused_by r bench) rest (raises r c bench k b) h).1
 
   counts-from : (r : Record) (calls : List NamedCall) → Kept r → refused_by r bench ≤ refused_limit →
-      refused_by (after_from r calls) bench ≡ min (refused_by r bench + refusals bench r calls) refused_limit
-  unfolding after_from_under refusals raises
+      refused_by (after_from r calls) bench ≡ min (refused_by r bench + refused_among bench r calls) refused_limit
+  unfolding after_from_under refused_among raises
   counts-from r [] k h = sym (ap (λ x. min x refused_limit) (add-zero (refused_by r bench)) ∙ min-eq_left h)
   counts-from r (c ∷ calls) k h =
       counts-from (record_after r c) calls (named-kept r c k) (rw (count-after r c bench k b) (raised-within r c k h))
-      ∙ rw (count-after r c bench k b) (counts-on r c k h (refusals bench (record_after r c) calls))
+      ∙ rw (count-after r c bench k b) (counts-on r c k h (refused_among bench (record_after r c) calls))
 
 pub counts : Counts
 unfolding after fresh refused_by
 counts calls bench b =
     counts-from bench b fresh calls fresh_kept (rw none omega arith)
-    ∙ ap (λ x. min x refused_limit) (rw none (zero-add (refusals bench fresh calls)))
+    ∙ ap (λ x. min x refused_limit) (rw none (zero-add (refused_among bench fresh calls)))
   where
     none : refused_by fresh bench ≡ 0
     none = get_d-repeated benches (bench - 1) 0

@@ -20,14 +20,14 @@ Outside-benches = (r : Record) (c : NamedCall) → ((1 ≤ c.bench) × (c.bench 
     (record_after r c ≡ r)
 
 -- how many calls of a bench are refused
-unfoldable pub refusals : ℕ → Record → List NamedCall → ℕ
-refusals bench r [] = 0
-refusals bench r (c ∷ calls) = cond (eqb c.bench bench && is_refused (answer_to r c)) 1 0 + refusals bench (record_after r c) calls
+unfoldable pub refused_among : ℕ → Record → List NamedCall → ℕ
+refused_among bench r [] = 0
+refused_among bench r (c ∷ calls) = cond (eqb c.bench bench && is_refused (answer_to r c)) 1 0 + refused_among bench (record_after r c) calls
 
 -- 'the record has a refused-call count for each, every one stopping at the old ceiling. A refused call raises its own bench's count and no other.'
 abbrev pub Counts : Type 0
 Counts = (calls : List NamedCall) (bench : ℕ) → is_bench bench ≡ true →
-    refused_by (after calls) bench ≡ min (refusals bench fresh calls) refused_limit
+    refused_by (after calls) bench ≡ min (refused_among bench fresh calls) refused_limit
 
 abbrev pub renamed : (ℕ → ℕ) → NamedCall → NamedCall
 renamed other c = by (other c.bench) c.call

@@ -9,7 +9,7 @@ use Rattle.std.proofs.Math.Decide.{dec_lt}
 use native.Mathlib.Omega.{arith}
 use Rattle.std.proofs.Math.ListN.{length, get_or-append}
 use Rattle.std.proofs.Math.Seq.{get_or-append_seam}
-use Rattle.season_report.specs.Figures.{by_number, figures_of, first_job, job_numbered, largest_error, lowest_axis, named}
+use Rattle.season_report.specs.Figures.{by_number, figures_of, first_job, job_numbered, largest_error, lowest_axis, largest_if_any}
 use Rattle.season_report.specs.Job.{JobEnd, ended_as, errors_of, is_refused_under, is_settled, is_spent, is_still, refused_under, job_turns}
 use Rattle.season_report.specs.Lists.{largest_of}
 use Rattle.season_report.specs.Season.{added, larger, overtakes}
@@ -30,7 +30,7 @@ abbrev axis_of : List JobEnd → ℕ
 axis_of jobs = lowest_axis (largest_error jobs) (errors_of (job_numbered jobs (first_job jobs)))
 
 abbrev largest : List JobEnd → Option LargestError
-largest jobs = named (largest_error jobs) (first_job jobs) (axis_of jobs)
+largest jobs = largest_if_any (largest_error jobs) (first_job jobs) (axis_of jobs)
 
 module _ (jobs : List JobEnd) (job : JobEnd) where
   -- the job of a number that is not above the number of jobs
@@ -100,7 +100,7 @@ module _ (jobs : List JobEnd) (job : JobEnd) where
       (let error = largest_of (errors_of job) in
       largest (jobs ++ job ∷ []) ≡
       cond t (Some (record { error = error; job = length jobs + 1; axis = lowest_axis error (errors_of job) })) (largest jobs))
-  unfolding named
+  unfolding largest_if_any
   named-by true p =
       let some : eqb (length jobs + 1) 0 ≡ false = ne_eqb (length jobs + 1) 0 (λ (e : length jobs + 1 ≡ 0). omega arith) in
       rw (axis-by true p, p.number, p.error, some)

@@ -9,7 +9,7 @@ use native.Mathlib.Omega.{arith}
 use borrow.Author.Tests.{eq-eqb, eqb-true, ne_eqb}
 use Rattle.std.proofs.Math.Dec.{eqb}
 use Rattle.std.proofs.Math.ListN.{take}
-use Rattle.season_report.specs.Figures.{figures_of, first_job, job_numbered, largest_error, lowest_axis, named}
+use Rattle.season_report.specs.Figures.{figures_of, first_job, job_numbered, largest_error, lowest_axis, largest_if_any}
 use Rattle.integer.specs.laws.Tabulate.{get_d_tabulate, length-tabulate}
 use Rattle.job.proofs.Accepted.{accepted-proper}
 use Rattle.job.specs.Job.{Job, accepted, job_of, refused}
@@ -132,7 +132,7 @@ module _ (jobs : List JobEnd) where
     -- so there is a largest
     is-named : (figures_of jobs).largest ≡
         Some (record { error = largest_error jobs; job = first_job jobs; axis = lowest_axis (largest_error jobs) (errors_at (first_job jobs)) })
-    unfolding figures_of named
+    unfolding figures_of largest_if_any
     is-named = rw (ne_eqb (first_job jobs) 0 (λ (e : first_job jobs ≡ 0). omega (arith, first-there)))
 
     named-says : MatchOption (figures_of jobs).largest ⊥ (λ largest. LargestFirst jobs largest.error largest.job largest.axis)
@@ -157,7 +157,7 @@ module _ (jobs : List JobEnd) where
     no-job (no h) = omega arith
 
     no-error : (figures_of jobs).largest ≡ None
-    unfolding figures_of named
+    unfolding figures_of largest_if_any
     no-error = rw (eq-eqb (first_job jobs) 0 (no-job (dec_lt 0 (first_job jobs))))
 
 pub largest-named : The-largest

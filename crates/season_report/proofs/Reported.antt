@@ -13,7 +13,7 @@ use Rattle.std.proofs.Math.Seq.{append_snoc}
 use Rattle.job.specs.Job.{job_of}
 use Rattle.season_report.specs.Figures.{figures_of, text_figures}
 use Rattle.season_report.specs.Job.{JobEnd, end_of}
-use Rattle.season_report.specs.Season.{The-season, added, answer_of, empty_season, season_after_under, season_from_under, taken_as_under, too_many}
+use Rattle.season_report.specs.Season.{The-season, added, text_answer, empty_season, season_after_under, season_from_under, taken_as_under, too_many}
 use Rattle.season_report.specs.declared.Season.{Season}
 use Rattle.season_report.proofs.Figures.{figures-more}
 use Rattle.season_report.specs.laws.Together.{together}
@@ -80,5 +80,5 @@ season-reported limit texts =
       together = rw (reported limit texts) (together (take limit texts));
       answered =
           λ text.
-          rw (counted limit texts) (ap (λ t. cond t (answer_of (job_of text)) too_many) (shorter limit texts));
+          rw (counted limit texts) (ap (λ t. cond t (text_answer (job_of text)) too_many) (shorter limit texts));
     }

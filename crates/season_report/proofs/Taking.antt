@@ -12,7 +12,7 @@ use Rattle.refusal.specs.laws.Numbers.{numbered-number_of}
 use Rattle.report.specs.Report.{run_for}
 use Rattle.season_report.specs.Done.{Takes}
 use Rattle.season_report.specs.Job.{JobEnd, end_by, end_of, ran, refused_under}
-use Rattle.season_report.specs.Season.{added, answer_of, season_after_under, taken_as_under, too_many}
+use Rattle.season_report.specs.Season.{added, text_answer, season_after_under, taken_as_under, too_many}
 use Rattle.season_report.specs.declared.Season.{Season}
 use Rattle.season_report.specs.declared.Taken.{Taken}
 
@@ -21,7 +21,7 @@ module _ (s : Season) (text : List ℕ) where
   unfolding taken_as_under season_after_under
   taken-full h = record { answer = rw (le-ltb s.jobs most_jobs h); next = rw (le-ltb s.jobs most_jobs h) }
 
-  pub taken-job : (z : Taken) (e : JobEnd) → s.jobs < most_jobs → z.answer ≡ answer_of (job_of text) → end_of text ≡ e →
+  pub taken-job : (z : Taken) (e : JobEnd) → s.jobs < most_jobs → z.answer ≡ text_answer (job_of text) → end_of text ≡ e →
       z.next ≡ added s e → Takes s text z
   unfolding taken_as_under season_after_under
   taken-job z e h a q n =
@@ -31,8 +31,8 @@ module _ (s : Season) (text : List ℕ) where
 module _ (text : List ℕ) where
   -- a text that is refused when it is read: the answer is that refusal, and the job ends by it
   module _ (r : RefusedLine) (e : reading_of (job_of text) ≡ Err r) where
-    pub refused-answer : Err r ≡ answer_of (job_of text)
-    unfolding answer_of
+    pub refused-answer : Err r ≡ text_answer (job_of text)
+    unfolding text_answer
     refused-answer = rw (refused-read text r e, numbered-number_of)
 
     pub refused-end : end_of text ≡ refused_under (number_of r.refusal)
@@ -41,8 +41,8 @@ module _ (text : List ℕ) where
 
   -- a text that is accepted: its run is that of the job that was read
   module _ (j : Job) (e : reading_of (job_of text) ≡ Ok j) where
-    pub accepted-answer : Ok (record {}) ≡ answer_of (job_of text)
-    unfolding answer_of
+    pub accepted-answer : Ok (record {}) ≡ text_answer (job_of text)
+    unfolding text_answer
     accepted-answer = rw (accepted-read text j e)
 
     pub ran-end : (z : Run) → z ≡ run_for j → end_of text ≡ ran z

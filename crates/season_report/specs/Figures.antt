@@ -26,8 +26,8 @@ unfoldable pub lowest_axis : ℕ → List ℕ → ℕ
 lowest_axis error errors = first_from 1 (λ x. eqb x error) errors
 
 -- the largest error with its job and its axis: none where no job has one, and its job is 0
-unfoldable pub named : ℕ → ℕ → ℕ → Option LargestError
-named error job axis = cond (eqb job 0) None (Some (record { error = error; job = job; axis = axis }))
+unfoldable pub largest_if_any : ℕ → ℕ → ℕ → Option LargestError
+largest_if_any error job axis = cond (eqb job 0) None (Some (record { error = error; job = job; axis = axis }))
 
 -- a figure for each of the numbers 1 to 4
 abbrev pub by_number : (ℕ → ℕ) → List ℕ
@@ -43,7 +43,7 @@ figures_of jobs =
       refused = by_number (λ number. how_many (is_refused_under number) jobs);
       turns = total_of job_turns jobs;
       largest =
-          named (largest_error jobs) (first_job jobs)
+          largest_if_any (largest_error jobs) (first_job jobs)
           (lowest_axis (largest_error jobs) (errors_of (job_numbered jobs (first_job jobs))));
     }
 

@@ -44,9 +44,9 @@ added s job =
     }
 
 -- what a text is answered that is read: accepted, or its refusal and the line
-unfoldable pub answer_of : JobAnswer → Result (Unit {0}) RefusedLine
-answer_of (refused number line) = Err (record { refusal = numbered number; line = line })
-answer_of (accepted j) = Ok (record {})
+unfoldable pub text_answer : JobAnswer → Result (Unit {0}) RefusedLine
+text_answer (refused number line) = Err (record { refusal = numbered number; line = line })
+text_answer (accepted j) = Ok (record {})
 
 -- 'The 10,001st job gives 16, unread': it is of no line, and has 0
 abbrev pub too_many : Result (Unit {0}) RefusedLine
@@ -57,7 +57,7 @@ unfoldable pub season_after_under : ℕ → Season → List ℕ → Season
 season_after_under limit s text = cond (ltb s.jobs limit) (added s (end_of text)) s
 
 unfoldable pub taken_as_under : ℕ → Season → List ℕ → Result (Unit {0}) RefusedLine
-taken_as_under limit s text = cond (ltb s.jobs limit) (answer_of (job_of text)) too_many
+taken_as_under limit s text = cond (ltb s.jobs limit) (text_answer (job_of text)) too_many
 
 -- after a list of texts, from any season and from an empty one
 unfoldable pub season_from_under : ℕ → Season → List (List ℕ) → Season
@@ -72,7 +72,7 @@ pub record SeasonReported (limit : ℕ) (texts : List (List ℕ)) : Type 0 where
   pub together : (let s = season_from_under limit empty_season texts in
       s.settled + s.still + s.spent + sum s.refused ≡ s.jobs)
   pub answered : (text : List ℕ) → taken_as_under limit (season_from_under limit empty_season texts) text ≡
-      cond (ltb (length texts) limit) (answer_of (job_of text)) too_many
+      cond (ltb (length texts) limit) (text_answer (job_of text)) too_many
 
 unfoldable pub The-season : Type 0
 The-season = (limit : ℕ) (texts : List (List ℕ)) → SeasonReported limit texts

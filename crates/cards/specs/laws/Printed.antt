@@ -3,11 +3,11 @@ use Rattle.std.specs.Prelude.{◌≡◌, refl, false, [], ◌∷◌, pos}
 use Rattle.std.proofs.Common.{ap, ◌∙◌}
 use Rattle.integer.specs.Matrix.{matrix_of, row_major}
 use Rattle.integer.specs.Tabulate.{tabulate}
-use Rattle.job.specs.Job.{Job, accepted, with_sample, next_line, nothing, ended, judged, job_after, begun, job_of_lines, job_of}
+use Rattle.job.specs.Job.{Job, accepted, with_sample, next_line, nothing, ended, judged_line, job_after, begun, job_of_lines, job_of}
 use Rattle.readings.specs.Ranges.{parameters_in_range}
 use Rattle.job.specs.Range.{sample_in_range}
 use Rattle.job.specs.Reply.{printed_by, printed_of}
-use Rattle.job.specs.Text.{number_of, numbers_of, is_tag, record_of, line_of}
+use Rattle.job.specs.Text.{number_in, numbers_of, is_tag, record_of, line_of}
 use Rattle.ledger.specs.Bench.{is_bench}
 use Rattle.ledger.specs.Call.{load}
 use Rattle.ledger.specs.Refusal.{equal, entries_within, refusal_under, symmetric}
@@ -36,8 +36,8 @@ abbrev job : Job
 job = record { n = 2; limit = 1; tolerance = 0; dilutions = 1 ∷ 5 ∷ 1 ∷ []; counts = 0 ∷ 0 ∷ 1 ∷ 0 ∷ 5 ∷ 5 ∷ [] }
 
 read : job_of job_text ≡ accepted job
-unfolding ascii job_of split onto all_within leading_zero value_from number_of before numbers_of is_tag record_of line_of within parameters_in_range
-    sample_in_range with_sample next_line nothing ended judged job_after begun job_of_lines
+unfolding ascii job_of split onto all_within leading_zero value_from number_in before numbers_of is_tag record_of line_of within parameters_in_range
+    sample_in_range with_sample next_line nothing ended judged_line job_after begun job_of_lines
 read = refl
 
 -- the samples' table, e = 0, is what is loaded

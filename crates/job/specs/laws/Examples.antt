@@ -5,8 +5,8 @@ use Rattle.text.specs.Parts.{onto, split, before}
 use Rattle.integer.specs.Within.{within, all_within}
 use Rattle.readings.specs.Ranges.{parameters_in_range}
 use Rattle.job.specs.Range.{sample_in_range}
-use Rattle.job.specs.Text.{number_of, numbers_of, is_tag, record_of, line_of}
-use Rattle.job.specs.Job.{refused, accepted, with_sample, next_line, nothing, ended, judged, job_after, begun, job_of_lines, job_of}
+use Rattle.job.specs.Text.{number_in, numbers_of, is_tag, record_of, line_of}
+use Rattle.job.specs.Job.{refused, accepted, with_sample, next_line, nothing, ended, judged_line, job_after, begun, job_of_lines, job_of}
 
 -- `P 2 1 0`, with tabs for blanks here and below
 abbrev p-line : List ℕ
@@ -59,6 +59,6 @@ examples :
     -- 4: `E 2` after three samples; a byte after the line of `E 3`
     × (job_of (p-line ++ sample_lines ++ e-line 50) ≡ refused 4 5)
     × (job_of (p-line ++ sample_lines ++ e-line 51 ++ 10 ∷ []) ≡ refused 4 5)
-unfolding times job_of split onto all_within leading_zero value_from number_of before numbers_of is_tag record_of line_of within parameters_in_range
-    sample_in_range with_sample next_line nothing ended judged job_after begun job_of_lines
+unfolding times job_of split onto all_within leading_zero value_from number_in before numbers_of is_tag record_of line_of within parameters_in_range
+    sample_in_range with_sample next_line nothing ended judged_line job_after begun job_of_lines
 examples = (refl, refl, refl, refl, refl, refl, refl, refl, refl, refl, refl, refl, refl, refl, refl, refl, refl, refl)

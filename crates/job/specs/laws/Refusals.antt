@@ -8,7 +8,7 @@ use Rattle.refusal.specs.Refusal.{number_of, numbered}
 use Rattle.readings.specs.Ranges.{parameters_in_range}
 use Rattle.job.specs.Range.{sample_in_range}
 use Rattle.job.specs.Text.{line_of}
-use Rattle.job.specs.Job.{Job, Answer, refused, accepted, with_sample, next_line, nothing, ended, judged, job_after, begun, job_of_lines, job_of}
+use Rattle.job.specs.Job.{Job, Answer, refused, accepted, with_sample, next_line, nothing, ended, judged_line, job_after, begun, job_of_lines, job_of}
 
 pub record KnownNumber (number : ℕ) : Type 0 where
   pub is : number_of (numbered number) ≡ number
@@ -36,8 +36,8 @@ either true x y p q = p
 either false x y p q = q
 
 judged-known : (j : Job) (o oE : Option (List ℕ)) (rest : List (List ℕ)) (go : List ℕ → Answer) → ((xs : List ℕ) → Known (go xs)) →
-    Known (judged j o oE rest go)
-unfolding judged ended
+    Known (judged_line j o oE rest go)
+unfolding judged_line ended
 judged-known j (some xs) oE rest go h =
     either (sample_in_range xs) _ (refused 2 (next_line j)) (either (ltb (length j.dilutions) 256) (go xs) (refused 3 (next_line j)) (h xs) known-3)
     known-2

@@ -1,7 +1,7 @@
 -- `season_report::Season::new` meets its contract.
 use Rattle.std.proofs.Common.{ℕ, zero, suc, ◌≤◌, [], ◌∷◌, get_or, refl, arith}
 use mathlib.Core.List.{flat_map}
-use Rattle.season_report.specs.Figures.{figures_of, first_job, job_numbered, largest_error, lowest_axis, named}
+use Rattle.season_report.specs.Figures.{figures_of, first_job, job_numbered, largest_error, lowest_axis, largest_if_any}
 use Rattle.season_report.specs.Job.{errors_of}
 use Rattle.season_report.specs.Lists.{first_from, largest_of, total_of}
 use Rattle.season_report.specs.Season.{empty_season}
@@ -26,5 +26,5 @@ invariant_of-result c = record {
 }
 
 pub returns : goal.returns
-unfolding empty_season figures_of total_of largest_error first_job lowest_axis job_numbered first_from errors_of flat_map largest_of named
+unfolding empty_season figures_of total_of largest_error first_job lowest_axis job_numbered first_from errors_of flat_map largest_of largest_if_any
 returns c = refl
