@@ -21,8 +21,8 @@ kept-within k n h g =
     omega (arith, mul-le-mul_right n h')
 
 -- r is the reading, which has come to the place `at` with the samples of j; l is the line there.
-module _ (r : Result Inside RefusedLine) (text : List ℕ) (at : ℕ) (j : Inside) (q : r ≡ samples_at (257 - j.k) text at j) (w : j.k ≤ 256) (l : Option Line)
-    (p : l ≡ line_at text at 83 j.n) where
+module _ (r : Result Inside RefusedLine) (text : List ℕ) (at : ℕ) (j : Inside) (q : r ≡ samples_at (257 - j.k) text at j) (w : j.k ≤ 256)
+    (l : Option Line) (p : l ≡ line_at text at 83 j.n) where
   come : r ≡ sample_of text at j l (λ line. samples_at (257 - (j.k + 1)) text line.next (kept j line.numbers))
   unfolding samples_at
   come =

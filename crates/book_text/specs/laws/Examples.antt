@@ -26,8 +26,8 @@ pub examples :
     (summary_text false (ascii "K\t1\nZ\n") ≡ ascii "X\t2\nX\t2\n")
     × (summary_text true (ascii "N\t2\n") ≡ ascii "N\n?\t2\n")
     × (summary_text false (ascii "N\t2\nA\t2\t3\t4\nZ\nK\t1\nB\n") ≡ ascii "N\nA\t1\nZ\t1\t6\t8\t36\t48\t64\nK\t0\nZ\t0\t0\t0\t0\t0\t0\n")
-unfolding judged ascii summary_text text_played played_from line_then book_plays book_answers no_receiver unknown_line split onto book_call_of of_fields with_numbers book_call_by one_number_of
-    no_number_of sample_by
+unfolding judged ascii summary_text text_played played_from line_then book_plays book_answers no_receiver unknown_line split onto
+    book_call_of of_fields with_numbers book_call_by one_number_of no_number_of sample_by
     number_limit argument reading each_number before signed_of with_minus without_minus unsigned_of stands_for numeral leading_zero value_from
     all_within within
     call_text answer_text sums_line cross_row cross_rows book_answer book_after book_refusal answer_then channels_after samples_then summary_then
