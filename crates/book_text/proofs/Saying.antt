@@ -1,7 +1,7 @@
 -- What a call on a book says, by whether it is refused.
-use Rattle.std.proofs.Common.{ℕ, ◌≡◌, refl, sym, ap, ◌∙◌, Bool, true, false, cond, List, [], ◌∷◌, Some, Ok, Err, arith, eqb}
+use Rattle.std.proofs.Common.{ℕ, ◌≡◌, refl, sym, ap, ◌∙◌, Bool, true, false, cond, List, [], ◌∷◌, Some, Ok, Err, eqb}
 use Rattle.std.proofs.Common.{length}
-use borrow.Author.Tests.{eq-eqb, eqb-true}
+use borrow.Author.Tests.{eq-eqb}
 use Rattle.refusal.specs.Refusal.{judged, number_of, numbered}
 use Rattle.refusal.specs.declared.Refusal.{Refusal}
 use Rattle.refusal.specs.laws.Judged.{judged-alike, judged-ok}

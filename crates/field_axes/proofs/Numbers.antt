@@ -1,5 +1,5 @@
 -- Every refusal has a number from 1 to 16, by which it is answered.
-use Rattle.std.proofs.Common.{ℕ, ◌≤◌, ◌≡◌, sym, ap, ◌∙◌, Bool, true, false, cond, List, ℤ, arith}
+use Rattle.std.proofs.Common.{ℕ, ◌≤◌, Bool, true, false, cond, List, ℤ}
 use borrow.Author.Rules.{rules}
 use Rattle.job.specs.Job.{Job}
 use Rattle.job_pool.specs.Refusal.{pool_refusal}

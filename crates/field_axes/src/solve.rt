@@ -37,7 +37,7 @@ fn check_solve(
     Ok(())
 }
 
-// no plainer: a match, since the definition gives the number of each outcome, whatever their order is.
+// No plainer: a match, since the definition gives the number of each outcome, whatever their order is.
 #[tactic(auto, unfolding(crate::specs::Solution::outcome_number))]
 fn outcome_number(outcome: Outcome) -> i64
     ensures { result ≡ pos (outcome_number outcome) }
