@@ -12,7 +12,7 @@ use Rattle.std.specs.Prelude.{Option, None, Some, Result, Ok, Err}
 use Rattle.refusal.specs.declared.Refusal.{Refusal}
 use Rattle.refusal.specs.declared.Refusal.TheVariants.{OutOfRange, SampleCount}
 use Rattle.job.specs.inner.Scan.{refused_at, finished_at, finished_by, kept, sample_of, samples_at}
-use Rattle.job.specs.declared.Job.TheInside.{Inside}
+use Rattle.job.specs.JobArrays.{JobArrays}
 use Rattle.job.specs.declared.RefusedLine.{RefusedLine}
 
 pub kept-within : (k n : ℕ) → k < 256 → n ≤ 8 → k * n + n ≤ 2048
@@ -21,7 +21,7 @@ kept-within k n h g =
     omega (arith, mul-le-mul_right n h')
 
 -- r is the reading, which has come to the place `at` with the samples of j; l is the line there.
-module _ (r : Result Inside RefusedLine) (text : List ℕ) (at : ℕ) (j : Inside) (q : r ≡ samples_at (257 - j.k) text at j) (w : j.k ≤ 256)
+module _ (r : Result JobArrays RefusedLine) (text : List ℕ) (at : ℕ) (j : JobArrays) (q : r ≡ samples_at (257 - j.k) text at j) (w : j.k ≤ 256)
     (l : Option Line) (p : l ≡ line_at text at 83 j.n) where
   come : r ≡ sample_of text at j l (λ line. samples_at (257 - (j.k + 1)) text line.next (kept j line.numbers))
   unfolding samples_at

@@ -1,4 +1,4 @@
--- The reading from place to place of `Scan` is the job of `Job`, in arrays: `reading_at` is `arrays_of` of `job_of`.
+-- The reading from place to place of `Scan` is the job of `Job`, in arrays: `reading_at` is `reading_of` of `job_of`.
 use Prim.Native.Nat.{ℕ, zero, suc, ◌+◌, ◌-◌, ◌*◌, ◌<◌, ◌≤◌}
 use mathlib.Core.Path.{◌≡◌, refl, sym, ap, ◌∙◌}
 use mathlib.Core.Bool.{Bool, true, false, cond, ◌&&◌}
@@ -22,20 +22,21 @@ use Rattle.std.specs.Prelude.{Option as Found, None, Some, Result, Ok, Err}
 use Rattle.refusal.specs.declared.Refusal.TheVariants.{OutOfRange, SampleCount, WrongEnd}
 use Rattle.refusal.specs.Refusal.{numbered}
 use Rattle.job.specs.declared.first.Parameters.{Parameters}
-use Rattle.job.specs.declared.Job.TheInside.{Inside}
+use Rattle.job.specs.JobArrays.{JobArrays}
 use Rattle.job.proofs.Records.{line_in, Reads, bad, good, Cons, split-cons, line_read}
 use Rattle.job.specs.Job.{Job, Answer, refused, accepted, with_sample, next_line, nothing, ended, judged_line, job_after, begun, job_of_lines, job_of}
 use Rattle.integer.specs.Padded.{padded}
 use Rattle.integer.specs.laws.Padded.{padded-more}
 use Rattle.job.specs.Held.{in_arrays}
-use Rattle.job.specs.inner.Scan.{arrays_of, new_job, refused_at, finished_by, finished_at, kept, sample_of, samples_at}
+use Rattle.job.specs.Reading.{reading_of}
+use Rattle.job.specs.inner.Scan.{new_job, refused_at, finished_by, finished_at, kept, sample_of, samples_at}
 use Rattle.job.specs.laws.Scan.{reading_by, reading_at}
 use Rattle.job.specs.declared.RefusedLine.{RefusedLine}
 use Rattle.job.proofs.Keeping.{kept-within}
 use Rattle.limits.specs.Limits.{least_channels, most_channels, least_sweeps, most_sweeps}
 
-refused-same : (number line : ℕ) → refused_at (numbered number) line ≡ arrays_of (refused number line)
-unfolding arrays_of
+refused-same : (number line : ℕ) → refused_at (numbered number) line ≡ reading_of (refused number line)
+unfolding reading_of
 refused-same number line = refl
 
 -- ---- the row of a line's numbers
@@ -111,17 +112,17 @@ module _ (j : Job) (fair : Fair j) (xs : List ℕ) (e : length xs ≡ suc j.n) (
 -- ---- the lines after the first
 
 module _ (text : List ℕ) (at : ℕ) (j : Job) (go : List ℕ → Answer) where
-  ended_same : (a b : Bool) → finished_by (in_arrays j) (cond a (Err SampleCount) (cond b (Ok (record {})) (Err WrongEnd))) ≡ arrays_of
+  ended_same : (a b : Bool) → finished_by (in_arrays j) (cond a (Err SampleCount) (cond b (Ok (record {})) (Err WrongEnd))) ≡ reading_of
       (cond a (refused 3 (next_line j)) (cond b (accepted j) (refused 4 (next_line j))))
-  unfolding finished_by arrays_of next_line in_arrays
+  unfolding finished_by reading_of next_line in_arrays
   ended_same true b = refl
   ended_same false true = refl
   ended_same false false = refl
 
   finished-same : (rest : List (List ℕ)) {L : Found Line} {o : Option (List ℕ)} → Reads text (replicate 9 0) 0 1 rest L o →
-      finished_by (in_arrays j) (ending_of text (length j.dilutions) L) ≡ arrays_of (judged_line j none o rest go)
+      finished_by (in_arrays j) (ending_of text (length j.dilutions) L) ≡ reading_of (judged_line j none o rest go)
   unfolding ending_of judged_line ended
-  finished-same rest bad = unfold finished_by arrays_of next_line in_arrays in refl
+  finished-same rest bad = unfold finished_by reading_of next_line in_arrays in refl
   finished-same rest (good xs next e q) =
       rw (row_at xs 0 (omega arith) (omega arith), nothing-after text next rest q)
       (ended_same (ltb (length j.dilutions) 2) (eqb (get_or xs 0 0) (length j.dilutions) && nothing rest))
@@ -135,8 +136,8 @@ after_is j (l ∷ []) = refl
 after_is j (l ∷ part ∷ parts) = refl
 
 -- A reading and an answer by whether a sample is in range, and whether there is room for it.
-sample-same : (j : Job) (a b : Bool) (x : Result Inside RefusedLine) (y : Answer) → (b ≡ true → x ≡ arrays_of y) →
-    cond a (cond b x (refused_at SampleCount (length j.dilutions + 2))) (refused_at OutOfRange (length j.dilutions + 2)) ≡ arrays_of
+sample-same : (j : Job) (a b : Bool) (x : Result JobArrays RefusedLine) (y : Answer) → (b ≡ true → x ≡ reading_of y) →
+    cond a (cond b x (refused_at SampleCount (length j.dilutions + 2))) (refused_at OutOfRange (length j.dilutions + 2)) ≡ reading_of
     (cond a (cond b y (refused 3 (next_line j))) (refused 2 (next_line j)))
 unfolding next_line
 sample-same j true true x y f = f refl
@@ -145,12 +146,12 @@ sample-same j false b x y f = refused-same 2 (length j.dilutions + 2)
 
 -- The reading of a line after the first, by what was read as an `S` line and as an `E` line.
 judged-same : (text : List ℕ) (at : ℕ) (j : Job) → Fair j →
-    (rest : List (List ℕ)) (go : List ℕ → Answer) (continue : Line → Result Inside RefusedLine) {L : Found Line} {o oE : Option (List ℕ)} →
+    (rest : List (List ℕ)) (go : List ℕ → Answer) (continue : Line → Result JobArrays RefusedLine) {L : Found Line} {o oE : Option (List ℕ)} →
     Reads text (replicate 9 0) 0 (suc j.n) rest L o →
     Reads text (replicate 9 0) 0 1 rest (line_at text at 69 0) oE →
     ((xs : List ℕ) (next : ℕ) → length xs ≡ suc j.n → split 10 (drop next text) ≡ rest → length j.dilutions < 256 →
-    continue (record { numbers = sets (replicate 9 0) 0 xs; next = next }) ≡ arrays_of (go xs)) →
-    sample_of text at (in_arrays j) L continue ≡ arrays_of (judged_line j o oE rest go)
+    continue (record { numbers = sets (replicate 9 0) 0 xs; next = next }) ≡ reading_of (go xs)) →
+    sample_of text at (in_arrays j) L continue ≡ reading_of (judged_line j o oE rest go)
 unfolding sample_of finished_at ending_at in_arrays judged_line
 judged-same text at j fair rest go continue bad E step = finished-same text at j go rest E
 judged-same text at j fair rest go continue (good xs next e q) E step =
@@ -161,7 +162,7 @@ judged-same text at j fair rest go continue (good xs next e q) E step =
 
 -- The lines from a place on are read alike, with m lines at most left for samples.
 abbrev Alike : ℕ → List ℕ → ℕ → Job → Type 0
-Alike m text at j = Fair j → m + length j.dilutions ≡ 257 → samples_at m text at (in_arrays j) ≡ arrays_of (job_after j (split 10 (drop at text)))
+Alike m text at j = Fair j → m + length j.dilutions ≡ 257 → samples_at m text at (in_arrays j) ≡ reading_of (job_after j (split 10 (drop at text)))
 
 length_more : (m : ℕ) (j : Job) (xs : List ℕ) → suc m + length j.dilutions ≡ 257 → m + length (with_sample j xs).dilutions ≡ 257
 unfolding with_sample
@@ -178,8 +179,8 @@ alike-suc m text ih at j fair h =
     (λ xs next e q k.
     ap (samples_at m text next) (kept_same j fair xs e k)
     ∙ ih next (with_sample j xs) (fair-more j fair xs e k) (length_more m j xs h)
-    ∙ ap (λ (l : List (List ℕ)). arrays_of (job_after (with_sample j xs) l)) q)
-    ∙ sym (ap arrays_of (after_is j ls))
+    ∙ ap (λ (l : List (List ℕ)). reading_of (job_after (with_sample j xs) l)) q)
+    ∙ sym (ap reading_of (after_is j ls))
 
 alike : (m : ℕ) (text : List ℕ) (at : ℕ) (j : Job) → Alike m text at j
 alike zero text at j fair h = absurd (omega (arith, fair.samples))
@@ -216,25 +217,25 @@ parameters-few text p = go (line_at text 0 80 2)
 
 module _ (text : List ℕ) where
   none_yet : (next n limit tolerance : ℕ) (rest : List (List ℕ)) → split 10 (drop next text) ≡ rest → n ≤ 8 →
-      samples_at 257 text next (new_job n limit tolerance) ≡ arrays_of
+      samples_at 257 text next (new_job n limit tolerance) ≡ reading_of
       (job_after (record { n = n; limit = limit; tolerance = tolerance; dilutions = []; counts = [] }) rest)
   unfolding new_job in_arrays padded
   none_yet next n limit tolerance rest q h =
       let j : Job = record { n = n; limit = limit; tolerance = tolerance; dilutions = []; counts = [] } in
       alike 257 text next j (record { samples = lit≤ tt; channels = h; counted = sym (zero-mul n) }) refl
-      ∙ ap (λ (l : List (List ℕ)). arrays_of (job_after j l)) q
+      ∙ ap (λ (l : List (List ℕ)). reading_of (job_after j l)) q
 
   -- By whether the parameters are in range: t.
   begun-same : (t : Bool) (n limit tolerance next : ℕ) (y : Answer) →
-      (t ≡ true → samples_at 257 text next (new_job n limit tolerance) ≡ arrays_of y) →
-      reading_by text (cond t (Ok (record { n = n; limit = limit; tolerance = tolerance; next = next })) (Err OutOfRange)) ≡ arrays_of
+      (t ≡ true → samples_at 257 text next (new_job n limit tolerance) ≡ reading_of y) →
+      reading_by text (cond t (Ok (record { n = n; limit = limit; tolerance = tolerance; next = next })) (Err OutOfRange)) ≡ reading_of
       (cond t y (refused 2 1))
   unfolding reading_by
   begun-same true n limit tolerance next y f = f refl
   begun-same false n limit tolerance next y f = refused-same 2 1
 
   first-same : (rest : List (List ℕ)) {L : Found Line} {o : Option (List ℕ)} → Reads text (replicate 9 0) 0 3 rest L o →
-      reading_by text (parameters_of L) ≡ arrays_of (begun o rest)
+      reading_by text (parameters_of L) ≡ reading_of (begun o rest)
   unfolding parameters_of begun parameters_in_range
   first-same rest bad = unfold reading_by in refused-same 1 1
   first-same rest (good xs next e q) =
@@ -242,6 +243,6 @@ module _ (text : List ℕ) where
       (begun-same (parameters_in_range (get_or xs 0 0) (get_or xs 1 0) (get_or xs 2 0)) (get_or xs 0 0) (get_or xs 1 0) (get_or xs 2 0) next _
       (λ t. none_yet next (get_or xs 0 0) (get_or xs 1 0) (get_or xs 2 0) rest q (few (get_or xs 0 0) (get_or xs 1 0) (get_or xs 2 0) t)))
 
-pub read_same : (text : List ℕ) → reading_at text ≡ arrays_of (job_of text)
+pub read_same : (text : List ℕ) → reading_at text ≡ reading_of (job_of text)
 unfolding reading_at parameters_at job_of
-read_same text = first-same text (tail (split 10 text)) (line_read text 80 refl refl 2 0) ∙ sym (ap arrays_of (lines_are (split 10 text)))
+read_same text = first-same text (tail (split 10 text)) (line_read text 80 refl refl 2 0) ∙ sym (ap reading_of (lines_are (split 10 text)))

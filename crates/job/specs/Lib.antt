@@ -1,6 +1,8 @@
 pub mod Job
 pub mod Values
+pub mod JobArrays
 pub mod Held
+pub mod Fields
 pub mod Reading
 pub mod Reply
 pub mod Range

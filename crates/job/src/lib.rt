@@ -10,6 +10,7 @@ pub mod sample;
 mod samples;
 
 ghost use Rattle.std.specs.Prelude.{◌≡◌};
+ghost use Rattle.job.specs.Held.{job_in};
 ghost use Rattle.job.specs.Job.{job_of};
 ghost use Rattle.job.specs.Reading.{reading_of};
 ghost use Rattle.job.specs.Values.{Proper};
@@ -22,7 +23,7 @@ use std::marker::Model;
 
 // A job, every value in its range: the first k dilutions and the first k × n counts, n to a sample, are those of its samples.
 // Rule of the project: no heap, so the arrays have the length of the longest job's.
-#[derive(Drop)]
+#[derive(Clone, Copy)]
 pub struct Job {
     pub n: usize,
     pub limit: u64,
@@ -33,22 +34,25 @@ pub struct Job {
 }
 
 impl Model for Job {
-    ghost use Rattle.job.specs.Job.{Job};
+    ghost use Rattle.job.specs.JobArrays.{JobArrays};
 
-    ghost Value = { Job };
+    ghost Value = { JobArrays };
 
-    ghost use Rattle.job.specs.Held.{Held, job_in};
+    ghost use Rattle.job.specs.Fields.{arrays_in, fields_of};
+    ghost use Rattle.job.specs.Held.{Held};
 
-    ghost view = { job_in };
+    ghost view = { arrays_in };
 
-    ghost invariant = { Held };
+    ghost invariant = { λ a. Held (arrays_in a) };
+
+    ghost inverse = { fields_of };
 }
 
 impl Job {
     // The arrays are lent, since a copy of them costs more than a small table.
     pub fn samples(&self) -> Samples<'_>
-        ensures proper { Proper self.now }
-        ensures lends { (result.n ≡ self.now.n) × (result.dilutions.now ≡ self.now.dilutions) × (result.counts.now ≡ self.now.counts) }
+        ensures proper { Proper (job_in self.now) }
+        ensures lends { let j = job_in self.now in (result.n ≡ j.n) × (result.dilutions.now ≡ j.dilutions) × (result.counts.now ≡ j.counts) }
     {
         Samples {
             n: self.n,

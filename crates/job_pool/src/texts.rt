@@ -1,4 +1,5 @@
 // Two job texts in, the report of both jobs pooled or the refusal out.
+ghost use Rattle.job.specs.Held.{job_in};
 ghost use Rattle.text.specs.Put.{Put};
 ghost use Rattle.job_pool.specs.Printed.{pool_printed};
 ghost use Rattle.job_pool.specs.Writer.{WritesPooled};
@@ -9,7 +10,7 @@ use job::Job;
 use refusal::Refusal;
 
 fn pool_jobs(first: &Job, second: &Job, buf: &mut [u8]) -> Result<usize, Refusal>
-    ensures { WritesPooled first.now second.now buf.old buf.new result }
+    ensures { WritesPooled (job_in first.now) (job_in second.now) buf.old buf.new result }
 {
     write_pooled(
         &first.samples(),

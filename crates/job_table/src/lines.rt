@@ -1,5 +1,6 @@
 // The text of a job's table: job text in, the lines of its exact sums or the refusal out.
 ghost use Rattle.std.specs.Prelude.{◌≡◌, ◌∷◌, [], ◌≤◌, length, pos};
+ghost use Rattle.job.specs.Held.{job_in};
 ghost use Rattle.job.specs.Job.{accepted};
 ghost use Rattle.job.specs.Reply.{Answers, Replies, printed_of};
 ghost use Rattle.text.specs.Put.{Put, Sized};
@@ -55,7 +56,7 @@ impl Lines {
 
 // The length is known before the first byte is written, so a buffer that is too short stays as it is.
 fn table_job(job: &Job, buf: &mut [u8]) -> Result<usize, RefusedLine>
-    ensures { Answers table_text (accepted job.now) buf.old buf.new result }
+    ensures { Answers table_text (accepted (job_in job.now)) buf.old buf.new result }
 {
     let table = crate::table_of(job);
     let lines = Lines::of(job.n, job.k, table);

@@ -5,6 +5,7 @@ pub mod axes;
 mod lines;
 mod order;
 
+ghost use Rattle.job.specs.Held.{job_in};
 ghost use Rattle.job.specs.Job.{accepted};
 ghost use Rattle.job.specs.Reply.{Answers, Replies, printed_of};
 ghost use Rattle.text.specs.Put.{Put};
@@ -71,14 +72,14 @@ pub fn report_table(
 
 // The run of a job, on its table.
 pub fn run_of_job(job: &Job) -> Run
-    ensures { Ran (run_for job.now) result }
+    ensures { Ran (run_for (job_in job.now)) result }
 {
     let table = job_table::table_of(job);
     run_of_table(job.n, job.limit, job.tolerance, table)
 }
 
 fn report_job(job: &Job, buf: &mut [u8]) -> Result<usize, RefusedLine>
-    ensures { Answers report_of (accepted job.now) buf.old buf.new result }
+    ensures { Answers report_of (accepted (job_in job.now)) buf.old buf.new result }
 {
     let table = job_table::table_of(job);
     let length = report_table(job.n, job.k, job.limit, job.tolerance, table, buf)?;

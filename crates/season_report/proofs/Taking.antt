@@ -1,10 +1,13 @@
 -- A text that is taken: beyond the limit, refused, or accepted.
 use Rattle.std.proofs.Common.{◌≡◌, ℕ, ◌<◌, ◌≤◌, List, Ok, Err}
 use borrow.Author.Tests.{le-ltb, lt-ltb}
-use Rattle.job.specs.Job.{Job, job_of}
+use Rattle.job.proofs.Told.{accepted-read}
+use Rattle.job.specs.Held.{job_in}
+use Rattle.job.specs.Job.{job_of}
+use Rattle.job.specs.JobArrays.{JobArrays}
 use Rattle.job.specs.Reading.{reading_of}
 use Rattle.job.specs.declared.RefusedLine.{RefusedLine}
-use Rattle.job.specs.laws.Reading.{accepted-read, refused-read}
+use Rattle.job.specs.laws.Reading.{refused-read}
 use Rattle.limits.specs.Limits.{most_jobs}
 use Rattle.record.specs.Run.{Run}
 use Rattle.refusal.specs.Refusal.{number_of}
@@ -40,11 +43,11 @@ module _ (text : List ℕ) where
     refused-end = rw (refused-read text r e)
 
   -- a text that is accepted: its run is that of the job that was read
-  module _ (j : Job) (e : reading_of (job_of text) ≡ Ok j) where
+  module _ (a : JobArrays) (e : reading_of (job_of text) ≡ Ok a) where
     pub accepted-answer : Ok (record {}) ≡ text_answer (job_of text)
     unfolding text_answer
-    accepted-answer = rw (accepted-read text j e)
+    accepted-answer = rw (accepted-read text a e).is
 
-    pub ran-end : (z : Run) → z ≡ run_for j → end_of text ≡ ran z
+    pub ran-end : (z : Run) → z ≡ run_for (job_in a) → end_of text ≡ ran z
     unfolding end_of end_by
-    ran-end z is = rw (accepted-read text j e, is)
+    ran-end z is = rw ((accepted-read text a e).is, is)

@@ -4,6 +4,7 @@ use Rattle.std.specs.Prelude.{ℕ, ◌+◌, ◌-◌, ◌≡◌, Bool, true, cond
 use Rattle.job.specs.Job.{Answer as JobAnswer, accepted, job_of, refused}
 use Rattle.job.specs.declared.RefusedLine.{RefusedLine}
 use Rattle.refusal.specs.Refusal.{numbered}
+use Rattle.refusal.specs.declared.Refusal.TheVariants.{TooManyJobs}
 use Rattle.season_report.specs.Figures.{by_number, figures_of, lowest_axis, text_figures}
 use Rattle.season_report.specs.Job.{JobEnd, end_of, ended_as, errors_of, is_refused_under, is_settled, is_spent, is_still, job_turns}
 use Rattle.season_report.specs.Lists.{largest_of}
@@ -50,7 +51,7 @@ text_answer (accepted j) = Ok (record {})
 
 -- 'The 10,001st job gives 16, unread': it is of no line, and has 0
 abbrev pub too_many : Result (Unit {0}) RefusedLine
-too_many = Err (record { refusal = numbered 16; line = 0 })
+too_many = Err (record { refusal = TooManyJobs; line = 0 })
 
 -- the season after one text, and what is answered
 unfoldable pub season_after_under : ℕ → Season → List ℕ → Season

@@ -5,7 +5,7 @@ use Rattle.integer.specs.laws.Padded.{padded-size, padded-take}
 use Rattle.job.specs.Held.{Held, in_arrays, job_in}
 use Rattle.job.specs.Job.{Job}
 use Rattle.job.specs.Values.{Proper}
-use Rattle.job.specs.declared.Job.TheInside.{Inside}
+use Rattle.job.specs.JobArrays.{JobArrays}
 use Rattle.job.specs.laws.Proper.{channels, number}
 use Rattle.limits.specs.Limits.{most_samples}
 
@@ -23,7 +23,7 @@ module _ (j : Job) (p : Proper j) where
         counts = rw (← p.counted) (padded-size 2048 0 j.counts);
       }
 
-module _ (a : Inside) (h : Held a) where
+module _ (a : JobArrays) (h : Held a) where
   -- As many samples as the arrays say
   pub samples-held : length (job_in a).dilutions ≡ a.k
   unfolding job_in

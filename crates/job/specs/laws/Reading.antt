@@ -1,20 +1,12 @@
--- A text's job or refusal, by what the reader gives.
-use Rattle.std.proofs.Common.{◌≡◌, ℕ, List, Ok, Err, ap, arith}
-use Rattle.job.specs.Job.{Answer, Job, accepted, job_of, refused}
+-- A text's refusal, by what the reader gives.
+use Rattle.std.proofs.Common.{◌≡◌, ℕ, List, Ok, Err, arith}
+use Rattle.job.specs.Job.{Answer, accepted, job_of, refused}
 use Rattle.job.specs.Reading.{reading_of}
 use Rattle.job.specs.declared.RefusedLine.{RefusedLine}
 use Rattle.job.specs.laws.Refusals.{Known, known}
 use Rattle.refusal.specs.Refusal.{number_of, numbered}
 
 module _ (text : List ℕ) where
-  pub accepted-read : (j : Job) → reading_of (job_of text) ≡ Ok j → job_of text ≡ accepted j
-  unfolding reading_of
-  accepted-read j = by (job_of text)
-    where
-      by : (answer : Answer) → reading_of answer ≡ Ok j → answer ≡ accepted j
-      by (refused number line) e = let z : ◌≡◌ {A = ℕ} 0 1 = cc in absurd (omega arith)
-      by (accepted i) e = let same : i ≡ j = cc in ap accepted same
-
   pub refused-read : (r : RefusedLine) → reading_of (job_of text) ≡ Err r → job_of text ≡ refused (number_of r.refusal) r.line
   unfolding reading_of
   refused-read r = by (job_of text) (known text)

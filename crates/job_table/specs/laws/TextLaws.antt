@@ -5,7 +5,7 @@ use Rattle.integer.specs.Matrix.{matrix_of}
 use Rattle.integer.specs.laws.Padded.{padded-at}
 use Rattle.integer.specs.laws.Tabulate.{tabulate-ext}
 use Rattle.job.specs.Job.{Job}
-use Rattle.job.specs.declared.Job.TheInside.{Inside}
+use Rattle.job.specs.JobArrays.{JobArrays}
 use Rattle.job.specs.Held.{Held, job_in}
 use Rattle.job.specs.laws.Held.{channels-held, samples-held}
 use Rattle.job_table.specs.JobTable.{samples_of, table_for}
@@ -35,11 +35,11 @@ text-of-table j h =
     (λ q b. padded-at 64 (pos 0) (scatter j.n (samples_of j)) (i * j.n + q) ∙ scatter-at j.n (samples_of j) i q a b))))
 
 -- The same with the numbers of a job in arrays
-pub text-of-arrays : (a : Inside) → Held a → (j : Job) → job_in a ≡ j → (t : Table) → t ≡ table_for j
-    → text_of_rows (pos a.n ∷ pos a.k ∷ pos t.e ∷ []) a.n (table_rows a.n t.scatter) ≡ table_text j
+pub text-of-arrays : (a : JobArrays) → Held a → (t : Table) → t ≡ table_for (job_in a)
+    → text_of_rows (pos a.n ∷ pos a.k ∷ pos t.e ∷ []) a.n (table_rows a.n t.scatter) ≡ table_text (job_in a)
 unfolding table_head job_in
-text-of-arrays a h j is t e =
-    rw (e, ← is)
+text-of-arrays a h t e =
+    rw e
     (ap (λ k. text_of_rows (pos a.n ∷ pos k ∷ pos (table_for (job_in a)).e ∷ []) a.n (table_rows a.n (table_for (job_in a)).scatter))
     (sym (samples-held a h))
     ∙ text-of-table (job_in a) (channels-held a h))

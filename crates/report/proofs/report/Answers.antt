@@ -1,7 +1,7 @@
 -- `report::report` meets its contract: the job's refusal is the answer, or the report of the job that was read.
 use Rattle.std.proofs.Common.{◌∙◌, sym}
 use Rattle.std.proofs.lemmas.Result.{err_from_is_err_and}
-use Rattle.job.specs.laws.Reading.{accepted-read}
+use Rattle.job.proofs.Told.{accepted-read}
 use Rattle.job.specs.laws.Replying.{replies-answered, replies-refused}
 use Rattle.report.proofs.report.Goals as goal
 
@@ -11,4 +11,4 @@ returns-in_err-job c =
     rw (p.1, p.2) (replies-refused _ c.args.text.now c.args.buf.now _ (sym c.read.ensures ∙ c.in_err-job.was))
 
 pub returns : goal.returns
-returns c = replies-answered _ _ _ _ _ _ (accepted-read _ _ (sym c.read.ensures ∙ c.in_ok-job.was)) c.report_job.ensures
+returns c = replies-answered _ _ _ _ _ _ ((accepted-read _ _ (sym c.read.ensures ∙ c.in_ok-job.was)).is) c.report_job.ensures

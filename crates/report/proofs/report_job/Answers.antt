@@ -8,7 +8,7 @@ use Rattle.job.specs.Job.{accepted}
 use Rattle.job.specs.Reply.{Answers}
 use Rattle.job.specs.laws.Replying.{as_reply, written-answers}
 use Rattle.job.specs.Held.{Held, job_in}
-use Rattle.job.specs.declared.Job.TheInside.{Inside}
+use Rattle.job.specs.JobArrays.{JobArrays}
 use Rattle.job.specs.laws.Held.{samples-held}
 use Rattle.job_table.specs.JobTable.{table_for}
 use Rattle.refusal.specs.declared.Refusal.{Refusal}
@@ -19,7 +19,7 @@ use Rattle.report.proofs.Bounds.{table-reportable, table-reports}
 use Rattle.report.proofs.report_job.Goals as goal
 
 -- arrays that hold a job, and the job's table
-module _ (a : Inside) (h : Held a) (t : Table) (e : t ≡ table_for (job_in a)) where
+module _ (a : JobArrays) (h : Held a) (t : Table) (e : t ≡ table_for (job_in a)) where
   reportable : TableReportable a.n a.k a.limit a.tolerance t
   unfolding job_in
   reportable = table-reportable (job_in a) h.proper t e a.k (samples-held a h)

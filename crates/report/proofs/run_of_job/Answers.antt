@@ -1,7 +1,7 @@
 -- `report::run_of_job` meets its contract: the run of the job's table is the job's.
 use mathlib.Core.Path.{◌≡◌, ap, ◌∙◌}
 use Rattle.job.specs.Held.{Held, job_in}
-use Rattle.job.specs.declared.Job.TheInside.{Inside}
+use Rattle.job.specs.JobArrays.{JobArrays}
 use Rattle.job_table.specs.JobTable.{table_for}
 use Rattle.scatter.specs.declared.table.Table.{Table}
 use Rattle.report.specs.Done.{TableRunnable, run_of_table}
@@ -10,7 +10,7 @@ use Rattle.report.proofs.Bounds.{table-is-run, table-runnable}
 use Rattle.report.proofs.run_of_job.Goals as goal
 
 -- arrays that hold a job, and the job's table
-module _ (a : Inside) (h : Held a) (t : Table) (e : t ≡ table_for (job_in a)) where
+module _ (a : JobArrays) (h : Held a) (t : Table) (e : t ≡ table_for (job_in a)) where
   runnable : TableRunnable a.n a.limit a.tolerance t
   unfolding job_in
   runnable = table-runnable (job_in a) h.proper t e
@@ -20,13 +20,13 @@ module _ (a : Inside) (h : Held a) (t : Table) (e : t ≡ table_for (job_in a)) 
   run_is = ap (run_of_table a.n a.limit a.tolerance) e ∙ table-is-run (job_in a) h.proper
 
 pub run_of_table-requires : goal.run_of_table-requires
-run_of_table-requires c = runnable _ c.job.invariant _ (rw (← c.job.view_is) at c.table_of-table.ensures)
+run_of_table-requires c = runnable _ c.job.invariant _ (rw c.job.view_is c.table_of-table.ensures)
 
 pub returns : goal.returns
 returns c =
     let ran = c.run_of_table.ensures in
     record {
-      is = ran.is ∙ run_is _ c.job.invariant _ (rw (← c.job.view_is) at c.table_of-table.ensures) ∙ ap run_for c.job.view_is;
+      is = ran.is ∙ run_is _ c.job.invariant _ (rw c.job.view_is c.table_of-table.ensures) ∙ ap (λ a. run_for (job_in a)) c.job.view_is;
       keeps = ran.keeps;
       sweeps = ran.sweeps;
     }

@@ -2,7 +2,7 @@
 use Rattle.std.proofs.Common.{◌∙◌, sym, refl, arith, rules}
 use Rattle.job.proofs.Keeping.{kept-within, samples-beyond, samples-ended, samples-full, samples-more, samples-refused}
 use Rattle.job.proofs.Same.{parameters-few}
-use Rattle.job.proofs.Told.{begun, tells-job, tells-refusal}
+use Rattle.job.proofs.Told.{accepted-read, begun}
 use Rattle.job.specs.inner.Scan.{kept, new_job}
 use Rattle.job.proofs.samples.samples.Goals as goal
 
@@ -18,13 +18,13 @@ loop-line-init c = record {
 pub returns-then-not-sample_within : goal.returns-then-not-sample_within
 returns-then-not-sample_within c =
     let v = c.loop-line.invariant in
-    tells-refusal _ _
+    sym
     (samples-beyond _ _ _ _ v.reads v.few _ c.sample_line.ensures _ c.in-Some.is (sym c.sample_within.ensures ∙ c.if-not-sample_within.true))
 
 pub returns-then-k-ge-MOST_SAMPLES : goal.returns-then-k-ge-MOST_SAMPLES
 returns-then-k-ge-MOST_SAMPLES c =
     let v = c.loop-line.invariant in
-    tells-refusal _ _
+    sym
     (samples-full _ _ _ _ v.reads v.few _ c.sample_line.ensures _ c.in-Some.is (sym c.sample_within.ensures ∙ c.if-not-sample_within.false)
     c.if-k-ge-MOST_SAMPLES.true)
 
@@ -51,14 +51,14 @@ loop-line-preserved c =
 pub invariant_of-result : goal.invariant_of-result
 invariant_of-result c =
     let v = c.loop-line.invariant in
-    (tells-job _ _ (samples-ended _ _ _ _ v.reads v.few _ c.sample_line.ensures c.in_default.is _ c.last_line.ensures _ c.in-Ok.is)).0
+    (accepted-read _ _ (samples-ended _ _ _ _ v.reads v.few _ c.sample_line.ensures c.in_default.is _ c.last_line.ensures _ c.in-Ok.is)).held
 
 pub returns-in-Ok : goal.returns-in-Ok
 returns-in-Ok c =
     let v = c.loop-line.invariant in
-    (tells-job _ _ (samples-ended _ _ _ _ v.reads v.few _ c.sample_line.ensures c.in_default.is _ c.last_line.ensures _ c.in-Ok.is)).1
+    sym (samples-ended _ _ _ _ v.reads v.few _ c.sample_line.ensures c.in_default.is _ c.last_line.ensures _ c.in-Ok.is)
 
 pub returns-in-Err : goal.returns-in-Err
 returns-in-Err c =
     let v = c.loop-line.invariant in
-    tells-refusal _ _ (samples-refused _ _ _ _ v.reads v.few _ c.sample_line.ensures c.in_default.is _ c.last_line.ensures _ c.in-Err.is)
+    sym (samples-refused _ _ _ _ v.reads v.few _ c.sample_line.ensures c.in_default.is _ c.last_line.ensures _ c.in-Err.is)
