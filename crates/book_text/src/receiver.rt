@@ -30,6 +30,10 @@ impl Receiver<2048> for BookReceiver {
 
     ghost plays = { book_plays };
 
+    ghost stands = { λ _ _ _. Unit };
+
+    ghost goes = { λ text left here s n z next h t on more. tt };
+
     ghost room = { Prim.search rules };
 
     ghost small = { Prim.search rules };

@@ -13,7 +13,7 @@ use std::io;
 use std::io::Read;
 
 // Plays what is read of the input on one record, which is lent to each call: the answer is the last step.
-#[tactic(auto, using(record::specs::laws::Named::fresh_kept))]
+#[tactic(auto, using(record::specs::laws::Named::fresh_kept, play::specs::laws::Steps::record_begins))]
 fn play_calls<R: Read>(
     rt: &impl Print,
     input: &mut R,

@@ -10,6 +10,10 @@ use Rattle.play.specs.declared.step.Stepped.{Stepped}
 unfoldable pub start_cursor : Cursor
 start_cursor = record { at = 0; line = 1 }
 
+-- a place of the text, and the number of the line that starts there
+unfoldable pub cursor_at : ℕ → ℕ → Cursor
+cursor_at at line = record { at = at; line = line }
+
 -- after a line of so many bytes and its line feed
 unfoldable pub past_line : Cursor → ℕ → Cursor
 past_line here size = record { at = here.at + size + 1; line = here.line + 1 }
@@ -62,6 +66,15 @@ pub record Steps {S : Type 0} (plays : S → List ℕ → Option (List ℕ × S)
   pub is : z ≡ stepped n plays left s here (lines_from text here)
   pub leaves : next ≡ after_line plays s (lines_from text here)
   pub moves : (on : Cursor) → z.next ≡ Some on → (here.at < on.at) × Within text on
+
+-- The line at a cursor may be played on a receiver, `stands`: at the start of every text ..
+abbrev pub Begins : {S : Type 0} → (List ℕ → S → Cursor → Type 0) → S → Type 0
+Begins stands s = (text : List ℕ) → stands text s start_cursor
+
+-- .. and at what a step leaves
+abbrev pub GoesOn : {S : Type 0} → (S → List ℕ → Option (List ℕ × S)) → (List ℕ → S → Cursor → Type 0) → Type 0
+GoesOn {S} plays stands = (text : List ℕ) (left : Bool) (here : Cursor) (s : S) (n : ℕ) (z : Stepped n) (next : S) → stands text s here →
+    Steps plays text left here s z next → (on : Cursor) → z.next ≡ Some on → stands text next on
 
 -- A text's last step: that of a receiver and a cursor that are reached, which says that there is no more. What it prints depends on whether input is
 -- left. What the lines before it print, and then what it prints, is what the text prints.

@@ -17,4 +17,17 @@ impl Cursor {
     {
         Cursor { at: 0, line: 1 }
     }
+
+    // The place of the text at which the line starts.
+    pub fn place(self) -> usize
+        ensures { result ≡ self.at }
+    {
+        self.at
+    }
+
+    pub fn number(self) -> u64
+        ensures { result ≡ self.line }
+    {
+        self.line
+    }
 }

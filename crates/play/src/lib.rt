@@ -12,6 +12,7 @@ pub mod step;
 ghost use Rattle.std.specs.Prelude.{false};
 ghost use Rattle.text.specs.Written.{Writes};
 ghost use Rattle.play.specs.Buffer.{PlaysAll};
+ghost use Rattle.play.specs.Steps.{Begins};
 ghost use Rattle.play.specs.Text.{text_played};
 
 use passes::{fits, put_played};
@@ -29,7 +30,7 @@ pub fn play_on<const N: usize, R: Receiver<N> + Copy>(
     text: &[u8],
     buf: &mut [u8],
 ) -> Result<usize, Refusal>
-    requires { R.valid r }
+    requires { R.valid r × Begins R.stands r }
     ensures { Writes 0 (text_played R.plays false r text.now) buf.old buf.new result }
 {
     if !fits(r, text, buf.len()) {

@@ -3,6 +3,8 @@ ghost use Rattle.std.specs.Prelude.{◌≡◌, ◌≤◌};
 ghost use Rattle.call_text.specs.Answers.{shown};
 ghost use Rattle.std.proofs.Common.{rules};
 ghost use Rattle.record.specs.Kept.{Kept};
+ghost use Rattle.play.specs.ReachedRecord.{ReachedRecord};
+ghost use Rattle.play.specs.laws.Steps.{record_goes};
 ghost use Rattle.play.specs.Text.{record_plays};
 ghost use Rattle.play.specs.inner.Lines.{told_with};
 
@@ -33,6 +35,10 @@ impl Receiver<256> for Record {
     ghost valid = { Kept };
 
     ghost plays = { record_plays };
+
+    ghost stands = { ReachedRecord };
+
+    ghost goes = { record_goes };
 
     ghost room = { Prim.search rules };
 

@@ -1,6 +1,8 @@
 // What calls are made on: it reads a line as a call, makes the call, and answers what the call prints.
 ghost use Rattle.std.specs.Prelude.{◌+◌, ◌*◌, ◌^◌, ◌<◌, ◌≤◌, ℕ, List, Option};
 ghost use Rattle.play.specs.Receiver.{PlaysLine};
+ghost use Rattle.play.specs.Steps.{GoesOn};
+ghost use Rattle.play.specs.declared.cursor.Cursor.{Cursor};
 
 use text::page::Page;
 
@@ -10,6 +12,11 @@ pub trait Receiver<const N: usize> {
 
     // what the call of a line prints, and the receiver after it; none where the line is no call
     ghost plays: { Self → List ℕ → Option (List ℕ × Self) };
+
+    // where the line at a cursor may be played on it: at the start of a text, and at what a step leaves
+    ghost stands: { List ℕ → Self → Cursor → Type 0 };
+
+    ghost goes: { GoesOn plays stands };
 
     fn play_line(&mut self, line: &[u8]) -> Option<Page<N>>
         requires { valid self.old }

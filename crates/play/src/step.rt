@@ -1,6 +1,6 @@
 // A line of a text of calls, played on what receives them.
 ghost use Rattle.std.specs.Prelude.{◌≡◌, ◌+◌, ◌*◌, ◌≤◌, cond, []};
-ghost use Rattle.play.specs.Steps.{Steps, Within, stopped_at};
+ghost use Rattle.play.specs.Steps.{Steps, Within, cursor_at, stopped_at};
 ghost use Rattle.play.specs.Text.{unknown_line};
 
 use crate::cursor::Cursor;
@@ -51,7 +51,7 @@ pub fn step<const N: usize, R: Receiver<N>>(
     left: bool,
     here: Cursor,
 ) -> Stepped<N>
-    requires { R.valid r.old × Within text.now here }
+    requires { R.valid r.old × Within text.now here × R.stands text.now r.old here }
     ensures steps { Steps R.plays text.now left here r.old result r.new }
     ensures keeps { R.valid r.new }
 {
@@ -74,4 +74,20 @@ pub fn step<const N: usize, R: Receiver<N>>(
         }),
         page,
     }
+}
+
+// The same at a place of the text where a line of this number starts.
+#[tactic(auto, unfolding(crate::specs::Steps::cursor_at))]
+pub fn step_at<const N: usize, R: Receiver<N>>(
+    r: &mut R,
+    text: &[u8],
+    left: bool,
+    at: usize,
+    line: u64,
+) -> Stepped<N>
+    requires { R.valid r.old × Within text.now (cursor_at at line) × R.stands text.now r.old (cursor_at at line) }
+    ensures steps { Steps R.plays text.now left (cursor_at at line) r.old result r.new }
+    ensures keeps { R.valid r.new }
+{
+    step(r, text, left, Cursor { at, line })
 }

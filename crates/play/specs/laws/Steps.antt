@@ -15,7 +15,8 @@ use Rattle.record.specs.laws.Named.{fresh_kept, named-kept}
 use Rattle.call_text.specs.Calls.{call_of}
 use Rattle.call_text.specs.inner.Parts.{front}
 use Rattle.call_text.proofs.Splitting.{parts_after, parts-end, parts_more, split-front}
-use Rattle.play.specs.Steps.{Ends, Reached, Steps, Within, after_line, begun, gone, left_by}
+use Rattle.play.specs.ReachedRecord.{ReachedRecord}
+use Rattle.play.specs.Steps.{Begins, Ends, GoesOn, Reached, Steps, Within, after_line, begun, gone, left_by}
 use Rattle.play.specs.Steps.{lines_from, past_line, start_cursor, stepped, stepped_by, stopped_at}
 use Rattle.play.specs.Text.{line_then, played_from, record_answers, record_plays, text_played, unknown_line}
 use Rattle.play.specs.declared.cursor.Cursor.{Cursor}
@@ -190,3 +191,10 @@ reached-kept text (gone {s = r} line part parts done h e c) = by (call_of line) 
     by (Some call) q k =
         let l : done.1 ≡ record_after r call = cc in
         rw l (named-kept r call k)
+
+-- A fresh record and a text's start are reached, and so is what a step leaves where they were.
+pub record_begins : (r : Record) → r ≡ fresh → Begins ReachedRecord r
+record_begins r e text = rw e (record { before = []; reached = begun })
+
+pub record_goes : GoesOn record_plays ReachedRecord
+record_goes text left here s n z next h t on more = record { before = h.before ++ z.page; reached = reaches t h.reached on more }
