@@ -5,6 +5,7 @@ mod call;
 mod naturals;
 pub mod page;
 pub mod receiver;
+pub mod step;
 
 ghost use Rattle.std.specs.Prelude.{false};
 ghost use Rattle.text.specs.Written.{Writes};
