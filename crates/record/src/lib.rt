@@ -250,6 +250,8 @@ impl Record {
         )
     }
 
+    // Inlined, since who asks only for the answer would else pay for a copy of the record on the way in and on the way out.
+    #[inline]
     pub fn axis(self, bench: usize, i: usize) -> AxisStep
         requires { Kept self }
         ensures { AxisDone self bench i result.answer result.next }
