@@ -2,6 +2,7 @@
 use Prim.Native.Nat.{ℕ, ◌+◌, ◌<◌, ◌≤◌}
 use mathlib.Core.Path.{◌≡◌, sym}
 use lib.ListN.{length}
+use native.Mathlib.Omega.{arith}
 use Rattle.std.specs.Prelude.{Ok, Err, Result}
 use Rattle.std.proofs.lemmas.Result.{err_from_is_err_and}
 use Rattle.job.specs.Job.{Job}
@@ -55,9 +56,9 @@ returns-in_err-check_job-2 c =
 pub returns-then-first-second-gt-MOST_SAMPLES : goal.returns-then-first-second-gt-MOST_SAMPLES
 returns-then-first-second-gt-MOST_SAMPLES c =
     many _ _ c.if-first-second.false (not-judged _ _ _ (sym c.in_ok-check_job.ensures)) (not-judged _ _ _ (sym c.in_ok-check_job-2.ensures))
-    c.if-first-second-gt-MOST_SAMPLES.true
+    (omega (arith, c.if-first-second-gt-MOST_SAMPLES.true))
 
 pub returns : goal.returns
 returns c =
     taken _ _ c.if-first-second.false (not-judged _ _ _ (sym c.in_ok-check_job.ensures)) (not-judged _ _ _ (sym c.in_ok-check_job-2.ensures))
-    c.if-first-second-gt-MOST_SAMPLES.false
+    (omega (arith, c.if-first-second-gt-MOST_SAMPLES.false))
