@@ -1,6 +1,6 @@
 -- `job_pool::check::check_pool` meets its contract: each test is one of the definition's, in its order.
 use Prim.Native.Nat.{ℕ, ◌+◌, ◌<◌, ◌≤◌}
-use mathlib.Core.Path.{◌≡◌, sym}
+use mathlib.Core.Path.{◌≡◌, refl, sym}
 use lib.ListN.{length}
 use native.Mathlib.Omega.{arith}
 use Rattle.std.specs.Prelude.{Ok, Err, Result}
@@ -40,25 +40,25 @@ module _ (a b : Job) where
         taken h = rw (poolable-taken a b (record { channels = same; first = first; second = second; together = h }))
 
 pub returns-then-first-second : goal.returns-then-first-second
-returns-then-first-second c = unequal _ _ c.if-first-second.true
+returns-then-first-second c = unequal _ _ (λ e. c.if-first-second.true (rw e refl))
 
 pub returns-in_err-check_job : goal.returns-in_err-check_job
 returns-in_err-check_job c =
     let p = err_from_is_err_and c.from_residual.result c.from_residual.ensures.1 in
-    rw (p.1, p.2) (first-out _ _ c.if-first-second.false _ c.in_err-check_job.ensures)
+    rw (p.1, p.2) (first-out _ _ (omega (arith, c.if-first-second.false)) _ c.in_err-check_job.ensures)
 
 pub returns-in_err-check_job-2 : goal.returns-in_err-check_job-2
 returns-in_err-check_job-2 c =
     let p = err_from_is_err_and c.from_residual-in_err-check_job-2.result c.from_residual-in_err-check_job-2.ensures.1 in
     rw (p.1, p.2)
-    (second-out _ _ c.if-first-second.false (not-judged _ _ _ (sym c.in_ok-check_job.ensures)) _ c.in_err-check_job-2.ensures)
+    (second-out _ _ (omega (arith, c.if-first-second.false)) (not-judged _ _ _ (sym c.in_ok-check_job.ensures)) _ c.in_err-check_job-2.ensures)
 
 pub returns-then-first-second-gt-MOST_SAMPLES : goal.returns-then-first-second-gt-MOST_SAMPLES
 returns-then-first-second-gt-MOST_SAMPLES c =
-    many _ _ c.if-first-second.false (not-judged _ _ _ (sym c.in_ok-check_job.ensures)) (not-judged _ _ _ (sym c.in_ok-check_job-2.ensures))
+    many _ _ (omega (arith, c.if-first-second.false)) (not-judged _ _ _ (sym c.in_ok-check_job.ensures)) (not-judged _ _ _ (sym c.in_ok-check_job-2.ensures))
     (omega (arith, c.if-first-second-gt-MOST_SAMPLES.true))
 
 pub returns : goal.returns
 returns c =
-    taken _ _ c.if-first-second.false (not-judged _ _ _ (sym c.in_ok-check_job.ensures)) (not-judged _ _ _ (sym c.in_ok-check_job-2.ensures))
+    taken _ _ (omega (arith, c.if-first-second.false)) (not-judged _ _ _ (sym c.in_ok-check_job.ensures)) (not-judged _ _ _ (sym c.in_ok-check_job-2.ensures))
     (omega (arith, c.if-first-second-gt-MOST_SAMPLES.false))
