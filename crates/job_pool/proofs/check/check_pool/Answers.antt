@@ -55,10 +55,12 @@ returns-in_err-check_job-2 c =
 
 pub returns-then-first-second-gt-MOST_SAMPLES : goal.returns-then-first-second-gt-MOST_SAMPLES
 returns-then-first-second-gt-MOST_SAMPLES c =
-    many _ _ (omega (arith, c.if-first-second.false)) (not-judged _ _ _ (sym c.in_ok-check_job.ensures)) (not-judged _ _ _ (sym c.in_ok-check_job-2.ensures))
+    many _ _ (omega (arith, c.if-first-second.false)) (not-judged _ _ _ (sym c.in_ok-check_job.ensures))
+    (not-judged _ _ _ (sym c.in_ok-check_job-2.ensures))
     (omega (arith, c.if-first-second-gt-MOST_SAMPLES.true))
 
 pub returns : goal.returns
 returns c =
-    taken _ _ (omega (arith, c.if-first-second.false)) (not-judged _ _ _ (sym c.in_ok-check_job.ensures)) (not-judged _ _ _ (sym c.in_ok-check_job-2.ensures))
+    taken _ _ (omega (arith, c.if-first-second.false)) (not-judged _ _ _ (sym c.in_ok-check_job.ensures))
+    (not-judged _ _ _ (sym c.in_ok-check_job-2.ensures))
     (omega (arith, c.if-first-second-gt-MOST_SAMPLES.false))
