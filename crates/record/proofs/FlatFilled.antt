@@ -1,22 +1,21 @@
 -- A flat matrix that is filled row by row.
 use mathlib.Core.Path.{◌≡◌, refl, sym, ◌∙◌}
 use mathlib.Core.List.{List}
-use Prim.Native.Nat.{ℕ, ◌+◌, ◌-◌, ◌*◌, ◌/◌, ◌%◌, ◌<◌}
-use Rattle.std.proofs.Common.{get_or-drop, get_or-take, length-drop, length-take}
+use Prim.Native.Nat.{ℕ, ◌+◌, ◌*◌, ◌/◌, ◌%◌, ◌<◌}
 use native.Mathlib.Decide.{ℕ_discrete}
 use native.Mathlib.Omega.{arith}
 use lib.IntN.{ℤ, pos}
-use lib.ListN.{drop, get_or, length, length-set, replicate, set, take}
+use lib.ListN.{get_or, length-set, replicate, set}
 use lib.Seq.{ext_get_or, get_or-set_other, get_or-set_same}
 use Rattle.integer.specs.Matrix.{Matrix}
 use Rattle.integer.specs.Tabulate.{tabulate}
 use Rattle.integer.specs.laws.Tabulate.{get_d_tabulate, length-tabulate}
-use Rattle.turn.specs.laws.Eight.{at-eight, eight-cong, eight-of}
+use Rattle.turn.specs.laws.Eight.{at-eight}
 use Rattle.turn.specs.laws.Stored.{stored, stored-column, stored_here, stored_row}
 use Rattle.turn.specs.InUse.{in_use}
 use Rattle.turn.specs.Turn.{at, square}
 use Rattle.record.proofs.Filled.{all, filled_to, one, row}
-use Rattle.record.specs.Flat.{entries_of, flat_of, kept_entry}
+use Rattle.record.specs.Flat.{flat_of}
 
 pub flat-cong : (f g : Matrix) → ((i j : ℕ) → i < 8 → j < 8 → f i j ≡ g i j) → flat_of f ≡ flat_of g
 unfolding flat_of
@@ -71,12 +70,3 @@ module _ (n : ℕ) (f : Matrix) where
 
   pub flat-all : flat_of (filled_to n f n 0) ≡ flat_of (in_use n f)
   flat-all = flat-cong _ _ (λ x y _ _. all n f x y)
-
--- the eight entries from 8 × i on are row i
-pub row-part : (a : List ℤ) (i : ℕ) → length a ≡ 64 → i < 8 → take (8 * i + 8 - 8 * i) (drop (8 * i) a) ≡ entries_of a i
-unfolding entries_of kept_entry
-row-part a i l h =
-    let few : 8 * i + 8 - 8 * i ≡ 8 = omega arith in
-    rw few
-    (eight-of (take 8 (drop (8 * i) a)) (pos 0) (simp (length-take, length-drop) (omega arith))
-    ∙ eight-cong (λ j k. rw (get_or-take, get_or-drop)))

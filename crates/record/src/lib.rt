@@ -288,8 +288,9 @@ impl Record {
     }
 
     // What a call of a bench answers and leaves, by what it does to the state. Document 02, W8: 'A bench outside 1 to 4 gives 15, tried before
-    // everything else, and raises no count.' An axis call's answer has a row,
-    // and so is no Answer.
+    // everything else, and raises no count.' An axis call's answer has a row, and so is no Answer.
+    // Always inlined, and so first of all: inlined later, a call copied the record once more.
+    #[inline(always)]
     fn named<F: FnOnce(Solver) -> Step<Answer, Solver>>(self, bench: usize, call: F) -> Step
         requires { F.pre call self.solver }
         ensures outside { is_bench bench ≡ false → (result.answer ≡ Refused (numbered 15)) × (result.next ≡ self) }

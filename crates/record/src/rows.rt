@@ -3,13 +3,16 @@ ghost use Rattle.std.specs.Prelude.{◌≡◌, ◌<◌};
 ghost use Rattle.record.specs.Flat.{flat_of, rows_of, entries_of};
 ghost use Rattle.turn.specs.Turn.{at};
 
+// Not by `copy_from_slice`: it tests whether the two parts overlap, and with it `unpacked` was too long to be inlined and copied each row twice.
 pub fn row(a: &[i64; 64], i: usize) -> [i64; 8]
     requires { i < 8 }
     ensures { result ≡ entries_of a.now i }
 {
     let start = 8 * i;
     let mut row = [0i64; 8];
-    row.copy_from_slice(&a[start..start + 8]);
+    for j in 0..8 {
+        row[j] = a[start + j];
+    }
     row
 }
 
