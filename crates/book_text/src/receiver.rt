@@ -6,7 +6,7 @@ ghost use Rattle.book_text.specs.Text.{book_plays, no_receiver};
 
 use crate::call::play_line;
 use book::Book;
-use play::receiver::Receiver;
+use play::receiver::{InOrder, Receiver};
 use text::page::Page;
 
 // No plainer without it: Rust has another crate's trait for a type of one's own only.
@@ -30,10 +30,6 @@ impl Receiver<2048> for BookReceiver {
 
     ghost plays = { book_plays };
 
-    ghost stands = { λ _ _ _. Unit };
-
-    ghost goes = { λ text left here s n z next h t on more. tt };
-
     ghost room = { Prim.search rules };
 
     ghost small = { Prim.search rules };
@@ -43,4 +39,11 @@ impl Receiver<2048> for BookReceiver {
         self.book = done.book;
         Some(done.page)
     }
+}
+
+// A line may be played on a book at any place.
+impl InOrder<2048> for BookReceiver {
+    ghost stands = { λ _ _ _. Unit };
+
+    ghost goes = { λ text left here s n z next h t on more. tt };
 }

@@ -6,7 +6,7 @@ ghost use Rattle.record.specs.Record.{fresh};
 ghost use Rattle.play.specs.Steps.{EndsInput};
 ghost use Rattle.play.specs.Text.{record_plays};
 
-use play::program::play_input;
+use play::in_order::play_input;
 use play::step::Stepped;
 use record::Record;
 use std::io;

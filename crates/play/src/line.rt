@@ -9,7 +9,7 @@ ghost use Rattle.play.specs.Text.{record_plays};
 ghost use Rattle.play.specs.inner.Lines.{told_with};
 
 use crate::call::call;
-use crate::receiver::Receiver;
+use crate::receiver::{InOrder, Receiver};
 use call_text::answer::{Told, answer_line};
 use call_text::reading::put_readings;
 use call_text::request::{NUMBERS, Request, read_line};
@@ -36,10 +36,6 @@ impl Receiver<256> for Record {
 
     ghost plays = { record_plays };
 
-    ghost stands = { ReachedRecord };
-
-    ghost goes = { record_goes };
-
     ghost room = { Prim.search rules };
 
     ghost small = { Prim.search rules };
@@ -55,4 +51,10 @@ impl Receiver<256> for Record {
         let answer = call(self, request, &numbers, &readings);
         Some(answered_line(answer, *self))
     }
+}
+
+impl InOrder<256> for Record {
+    ghost stands = { ReachedRecord };
+
+    ghost goes = { record_goes };
 }

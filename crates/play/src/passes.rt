@@ -1,6 +1,5 @@
 // The two passes over a text of calls: whether what it prints has at most so many bytes, and the writing of it.
 ghost use Rattle.std.specs.Prelude.{false, ◌≡◌, ◌≤◌, leb, length};
-ghost use Rattle.play.specs.Steps.{Begins};
 ghost use Rattle.play.specs.Text.{text_played};
 ghost use Rattle.text.specs.Put.{Put};
 
@@ -11,7 +10,7 @@ use text::put_bytes;
 
 // It stops at the line that is too long, so that no sum is above `most`.
 pub(crate) fn fits<const N: usize, R: Receiver<N> + Copy>(r: R, text: &[u8], most: usize) -> bool
-    requires { R.valid r × Begins R.stands r }
+    requires { R.valid r }
     ensures { result ≡ leb (length (text_played R.plays false r text.now)) most }
 {
     let mut r = r;
@@ -39,7 +38,7 @@ pub(crate) fn put_played<const N: usize, R: Receiver<N> + Copy>(
     text: &[u8],
     buf: &mut [u8],
 ) -> usize
-    requires { R.valid r × Begins R.stands r × (length (text_played R.plays false r text.now) ≤ length buf.old) }
+    requires { R.valid r × (length (text_played R.plays false r text.now) ≤ length buf.old) }
     ensures { Put (text_played R.plays false r text.now) 0 buf.old buf.new result }
 {
     let mut r = r;

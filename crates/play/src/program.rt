@@ -1,6 +1,6 @@
 // What a program does that plays an input: it reads a text of calls, plays it line after line, and prints each answer.
 ghost use Rattle.std.specs.Prelude.{◌≡◌, ◌≤◌, IfOk, IfSome, length, take};
-ghost use Rattle.play.specs.Steps.{Begins, Ends, EndsInput};
+ghost use Rattle.play.specs.Steps.{Ends, EndsInput};
 ghost use Rattle.play.specs.Text.{FrontOf};
 
 use crate::INPUT_LIMIT;
@@ -22,7 +22,7 @@ pub fn read_text<R: Read>(input: &mut R, text: &mut [u8; INPUT_LIMIT]) -> io::Re
 }
 
 // Prints what a line printed, unless an earlier one could not be printed, and answers where the next one starts that is to be played.
-fn show<const N: usize>(
+pub(crate) fn show<const N: usize>(
     rt: &impl Print,
     done: &Stepped<N>,
     printed: &mut io::Result<()>,
@@ -43,7 +43,7 @@ pub fn play_all<const N: usize, R: Receiver<N>>(
     left: bool,
     printed: &mut io::Result<()>,
 ) -> Stepped<N>
-    requires { R.valid r.old × Begins R.stands r.old }
+    requires { R.valid r.old }
     ensures { Ends R.plays r.old text.now left result }
 {
     let mut here = Cursor::start();
@@ -63,7 +63,7 @@ pub fn play_input<const N: usize, Rc: Receiver<N>, R: Read>(
     receiver: &mut Rc,
     printed: &mut io::Result<()>,
 ) -> io::Result<Stepped<N>>
-    requires { Rc.valid receiver.old × Begins Rc.stands receiver.old }
+    requires { Rc.valid receiver.old }
     ensures { IfOk result (λ z. IfSome (R.remaining input.old) (λ xs. EndsInput Rc.plays receiver.old xs z)) }
 {
     let mut text = [0u8; INPUT_LIMIT];

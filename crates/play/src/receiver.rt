@@ -13,11 +13,6 @@ pub trait Receiver<const N: usize> {
     // what the call of a line prints, and the receiver after it; none where the line is no call
     ghost plays: { Self → List ℕ → Option (List ℕ × Self) };
 
-    // where the line at a cursor may be played on it: at the start of a text, and at what a step leaves
-    ghost stands: { List ℕ → Self → Cursor → Type 0 };
-
-    ghost goes: { GoesOn plays stands };
-
     fn play_line(&mut self, line: &[u8]) -> Option<Page<N>>
         requires { valid self.old }
         ensures plays_line { PlaysLine (plays self.old line.now) self.old result self.new }
@@ -28,4 +23,12 @@ pub trait Receiver<const N: usize> {
 
     // and is no larger than a value in memory may be
     ghost small: { N < 2 ^ 32 };
+}
+
+// A receiver on which the lines of a text are played in order, each on what those before it left.
+pub trait InOrder<const N: usize>: Receiver<N> {
+    // where the line at a cursor may be played on it: at the start of a text, and at what a step leaves
+    ghost stands: { List ℕ → Self → Cursor → Type 0 };
+
+    ghost goes: { GoesOn Self.plays stands };
 }

@@ -4,7 +4,8 @@ ghost use Rattle.play.specs.Steps.{Steps, Within, cursor_at, stopped_at};
 ghost use Rattle.play.specs.Text.{unknown_line};
 
 use crate::cursor::Cursor;
-use crate::receiver::Receiver;
+use crate::in_order;
+use crate::receiver::{InOrder, Receiver};
 use call_text::answer::numbers_line;
 use call_text::find::find;
 use text::line::LINE_FEED;
@@ -19,7 +20,7 @@ pub struct Stepped<const N: usize> {
 
 // `?` and the line's number: no call, or a line that was not read whole.
 #[tactic(auto, unfolding(crate::specs::Text::unknown_line, crate::specs::Steps::stopped_at))]
-fn unknown<const N: usize>(line: u64) -> Stepped<N>
+pub(crate) fn unknown<const N: usize>(line: u64) -> Stepped<N>
     requires { 2 + 21 * 1 ≤ N }
     ensures { result ≡ stopped_at N (unknown_line line) }
 {
@@ -31,7 +32,7 @@ fn unknown<const N: usize>(line: u64) -> Stepped<N>
 
 // The text's end: a line that was not read whole starts there where input is left.
 #[tactic(auto, unfolding(crate::specs::Steps::stopped_at))]
-fn ended<const N: usize>(left: bool, line: u64) -> Stepped<N>
+pub(crate) fn ended<const N: usize>(left: bool, line: u64) -> Stepped<N>
     requires { 2 + 21 * 1 ≤ N }
     ensures { result ≡ stopped_at N (cond left (unknown_line line) []) }
 {
@@ -44,14 +45,15 @@ fn ended<const N: usize>(left: bool, line: u64) -> Stepped<N>
     }
 }
 
-// Plays the line at a cursor on what the lines before it left; `left` says that input is left after the text, so that a line at its end is not whole.
+// Plays the line at a cursor on a receiver, whatever was played before; `left` says that input is left after the text, so that a line at its end is
+// not whole.
 pub fn step<const N: usize, R: Receiver<N>>(
     r: &mut R,
     text: &[u8],
     left: bool,
     here: Cursor,
 ) -> Stepped<N>
-    requires { R.valid r.old × Within text.now here × R.stands text.now r.old here }
+    requires { R.valid r.old × Within text.now here }
     ensures steps { Steps R.plays text.now left here r.old result r.new }
     ensures keeps { R.valid r.new }
 {
@@ -76,9 +78,9 @@ pub fn step<const N: usize, R: Receiver<N>>(
     }
 }
 
-// The same at a place of the text where a line of this number starts.
+// The same in order, at a place of the text where a line of this number starts.
 #[tactic(auto, unfolding(crate::specs::Steps::cursor_at))]
-pub fn step_at<const N: usize, R: Receiver<N>>(
+pub fn step_at<const N: usize, R: InOrder<N>>(
     r: &mut R,
     text: &[u8],
     left: bool,
@@ -89,5 +91,5 @@ pub fn step_at<const N: usize, R: Receiver<N>>(
     ensures steps { Steps R.plays text.now left (cursor_at at line) r.old result r.new }
     ensures keeps { R.valid r.new }
 {
-    step(r, text, left, Cursor { at, line })
+    in_order::step(r, text, left, Cursor { at, line })
 }

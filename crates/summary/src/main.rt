@@ -6,7 +6,7 @@ ghost use Rattle.play.specs.Steps.{EndsInput};
 ghost use Rattle.book_text.specs.Text.{book_plays, no_receiver};
 
 use book_text::receiver::BookReceiver;
-use play::program::play_input;
+use play::in_order::play_input;
 use play::step::Stepped;
 use std::io;
 use std::io::Read;

@@ -1,12 +1,11 @@
 -- `play` meets its contract: a fresh record is kept.
 use Rattle.record.specs.laws.Named.{fresh_kept}
 use Rattle.play.specs.Text.{played}
-use Rattle.play.specs.laws.Steps.{record_begins}
 use Rattle.play.proofs.Passing.{plays_all}
 use Rattle.play.proofs.play.Goals as goal
 
 pub play_on-requires : goal.play_on-requires
-play_on-requires c = (rw c.new.ensures.is fresh_kept, record_begins _ c.new.ensures.is)
+play_on-requires c = rw c.new.ensures.is fresh_kept
 
 pub returns : goal.returns
 unfolding played

@@ -8,7 +8,7 @@ pub returns-then-not-fits : goal.returns-then-not-fits
 returns-then-not-fits g c = short _ _ _ refl (leb-false _ _ (sym c.fits.ensures ∙ c.if-not-fits.true))
 
 pub put_played-requires : goal.put_played-requires
-put_played-requires g c = (c.requires.0, c.requires.1, leb-true _ _ (sym c.fits.ensures ∙ c.if-not-fits.false))
+put_played-requires g c = (c.requires, leb-true _ _ (sym c.fits.ensures ∙ c.if-not-fits.false))
 
 pub returns : goal.returns
 returns g c = written _ _ _ refl c.put_played.ensures

@@ -8,7 +8,7 @@ use Rattle.play.proofs.passes.fits.Given as goal
 abbrev pub invariant-loop-left : goal.invariant-loop-left
 invariant-loop-left g l =
     let plays = g.R.Receiver.plays in
-    g.R.Receiver.valid l.r × Within l.text l.here × g.R.Receiver.stands l.text l.r l.here ×
+    g.R.Receiver.valid l.r × Within l.text l.here ×
     (leb (length (text_played plays false l.fn.r l.text)) l.most ≡ leb (length (rest plays l.text false l.r l.here)) l.left)
 
 abbrev pub decreases-loop-left : goal.decreases-loop-left

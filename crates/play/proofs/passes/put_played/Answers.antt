@@ -8,22 +8,21 @@ pub loop-next-init : goal.loop-next-init
 loop-next-init g c = (
   c.requires.0,
   rw c.start-here.ensures (start-within _),
-  rw c.start-here.ensures (c.requires.1 _),
   wrote_nothing g.R.Receiver.plays _ _ _ c.start-here.ensures,
 )
 
 pub step-own-requires : goal.step-own-requires
-step-own-requires g c = (omega (arith, g.met.R.Receiver.small), (c.loop-next.invariant.0, c.loop-next.invariant.1, c.loop-next.invariant.2))
+step-own-requires g c = (omega (arith, g.met.R.Receiver.small), (c.loop-next.invariant.0, c.loop-next.invariant.1))
 
 pub text-requires : goal.text-requires
 text-requires g c = omega (arith, g.met.R.Receiver.small)
 
 pub put_bytes-end-requires : goal.put_bytes-end-requires
-put_bytes-end-requires g c = rw c.text.ensures.is (room c.step-own.ensures.steps c.loop-next.invariant.3 c.requires.2)
+put_bytes-end-requires g c = rw c.text.ensures.is (room c.step-own.ensures.steps c.loop-next.invariant.2 c.requires.1)
 
 pub returns-in_default : goal.returns-in_default
 returns-in_default g c =
-    written_last c.step-own.ensures.steps c.loop-next.invariant.3 (rw c.text.ensures.is at c.put_bytes-end.ensures) c.in_default.is
+    written_last c.step-own.ensures.steps c.loop-next.invariant.2 (rw c.text.ensures.is at c.put_bytes-end.ensures) c.in_default.is
 
 pub loop-next-smaller : goal.loop-next-smaller
 loop-next-smaller g c =
@@ -34,6 +33,5 @@ pub loop-next-preserved : goal.loop-next-preserved
 loop-next-preserved g c = (
   c.step-own.ensures.keeps,
   (c.step-own.ensures.steps.moves _ c.in-Some.is).1,
-  g.R.Receiver.goes _ _ _ _ _ _ _ c.loop-next.invariant.2 c.step-own.ensures.steps _ c.in-Some.is,
-  written-more c.step-own.ensures.steps c.loop-next.invariant.3 (rw c.text.ensures.is at c.put_bytes-end.ensures) _ c.in-Some.is,
+  written-more c.step-own.ensures.steps c.loop-next.invariant.2 (rw c.text.ensures.is at c.put_bytes-end.ensures) _ c.in-Some.is,
 )

@@ -5,18 +5,13 @@ use Rattle.play.specs.laws.Steps.{ends, reaches, start-within}
 use Rattle.play.proofs.program.play_all.Goals as goal
 
 pub loop-next-init : goal.loop-next-init
-loop-next-init g c = (
-  c.requires.0,
-  rw c.start-here.ensures (start-within _),
-  rw c.start-here.ensures (c.requires.1 _),
-  ([], rw c.start-here.ensures begun),
-)
+loop-next-init g c = (c.requires, rw c.start-here.ensures (start-within _), ([], rw c.start-here.ensures begun))
 
 pub step-done-requires : goal.step-done-requires
-step-done-requires g c = (omega (arith, g.met.R.Receiver.small), (c.loop-next.invariant.0, c.loop-next.invariant.1, c.loop-next.invariant.2))
+step-done-requires g c = (omega (arith, g.met.R.Receiver.small), (c.loop-next.invariant.0, c.loop-next.invariant.1))
 
 pub returns-in_default : goal.returns-in_default
-returns-in_default g c = ends c.step-done.ensures.steps c.loop-next.invariant.3.1 (sym c.show.ensures ∙ c.in_default.is)
+returns-in_default g c = ends c.step-done.ensures.steps c.loop-next.invariant.2.1 (sym c.show.ensures ∙ c.in_default.is)
 
 pub loop-next-smaller : goal.loop-next-smaller
 loop-next-smaller g c =
@@ -28,6 +23,5 @@ loop-next-preserved g c =
     let more = sym c.show.ensures ∙ c.in-Some.is in (
       c.step-done.ensures.keeps,
       (c.step-done.ensures.steps.moves _ more).1,
-      g.R.Receiver.goes _ _ _ _ _ _ _ c.loop-next.invariant.2 c.step-done.ensures.steps _ more,
-      (_, reaches c.step-done.ensures.steps c.loop-next.invariant.3.1 _ more),
+      (_, reaches c.step-done.ensures.steps c.loop-next.invariant.2.1 _ more),
     )

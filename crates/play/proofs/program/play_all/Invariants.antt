@@ -5,8 +5,7 @@ use Rattle.play.proofs.program.play_all.Given as goal
 
 abbrev pub invariant-loop-next : goal.invariant-loop-next
 invariant-loop-next g l =
-    g.R.Receiver.valid l.r × Within l.text l.here × g.R.Receiver.stands l.text l.r l.here ×
-    ((before : List ℕ) × Reached g.R.Receiver.plays l.initial.r l.text l.r l.here before)
+    g.R.Receiver.valid l.r × Within l.text l.here × ((before : List ℕ) × Reached g.R.Receiver.plays l.initial.r l.text l.r l.here before)
 
 abbrev pub decreases-loop-next : goal.decreases-loop-next
 decreases-loop-next g l = length l.text - l.here.at
