@@ -54,7 +54,8 @@ mod tests {
     use crate::step::step;
     use std::io;
 
-    // The record is not fresh, since a matrix was loaded on it; and a text's second line is played on it, where the first was played on another.
+    // The record is not fresh, since a matrix was loaded on it: a fresh one would refuse the query and the turn. And a text's second line is played on
+    // it, where the first was played on another.
     #[test]
     fn plays_on_a_record_that_is_not_fresh(rt: HostRuntime) -> io::Result<()> {
         let mut r = Record::new();
@@ -63,11 +64,21 @@ mod tests {
         assert_eq!(rt; play_on(r, b"Q\t2\t0\n", &mut buf), Ok(6));
         assert_eq!(rt; buf, *b"Q\t1\t2\n..");
         let mut printed = Ok(());
-        let last = play_all(&rt, &mut { r }, b"Q\t2\t0\nQ\t2\t0", false, &mut printed);
+        let mut turned = r;
+        let last = play_all(
+            &rt,
+            &mut turned,
+            b"T\t2\t1\t2\nT\t2\t1\t2",
+            false,
+            &mut printed,
+        );
         assert_eq!(rt; last.page.text(), b"?\t2\n".as_slice());
-        let mut input: &[u8] = b"Q\t2\t0\n";
-        let last = play_input(&rt, &mut input, &mut { r }, &mut printed)?;
+        assert_eq!(rt; turned.turns(), 1);
+        let mut turned = r;
+        let mut input: &[u8] = b"T\t2\t1\t2\n";
+        let last = play_input(&rt, &mut input, &mut turned, &mut printed)?;
         assert!(rt; last.page.text().is_empty());
+        assert_eq!(rt; turned.turns(), 1);
         let text = b"Q\t2\t0\nQ\t2\t0\n";
         let first = step(&mut Record::new(), text, false, Cursor::start());
         assert_eq!(rt; first.page.text(), b"X\t10\t0\t1\t0\t0\n".as_slice());

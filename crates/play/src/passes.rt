@@ -30,9 +30,9 @@ pub(crate) fn fits<const N: usize, R: Receiver<N> + Copy>(r: R, text: &[u8], mos
     }
 }
 
-// No plainer: a driver of this loop, of `fits` and of `play_all` (program) would hand each page to a closure, of whose effect the caller knew only by
-// a fold over the lines, and this one may write only where the buffer has room. An iterator over the pages would be a struct with laws of its own,
-// and the last step, which `play_all` answers, is no more at hand when it ends.
+// No plainer: a driver of this loop, of `fits` and of `play_all` (program, in_order) would hand each page to a closure, of whose effect the caller knew
+// only by a fold over the lines, and this one may write only where the buffer has room. An iterator over the pages would be a struct with laws of its
+// own, and the last step, which `play_all` answers, is no more at hand when it ends.
 pub(crate) fn put_played<const N: usize, R: Receiver<N> + Copy>(
     r: R,
     text: &[u8],
